@@ -39,8 +39,10 @@ one-longer : (sends : List Message) (m : Message) → length (sends ++ m ∷ [])
 one-longer sends m = length-append sends (m ∷ [])
 
 -- a message whose sequence, if it has one, is below this number
-module _ (base : ℕ) (sends : List Message) (x : ℕ) (request : Request) (low : (q : ℕ) → sequence_of request ≡ Some q → q < base + length sends + 1) (old : (xid : ℕ) (r : Request) (q : ℕ) → In sends (call xid r) → sequence_of r ≡ Some q → q < base + length sends) where
-  sent-more : (xid : ℕ) (r : Request) (q : ℕ) → In (sends ++ call x request ∷ []) (call xid r) → sequence_of r ≡ Some q → q < base + length (sends ++ call x request ∷ [])
+module _ (base : ℕ) (sends : List Message) (x : ℕ) (request : Request) (low : (q : ℕ) → sequence_of request ≡ Some q → q < base + length sends + 1)
+    (old : (xid : ℕ) (r : Request) (q : ℕ) → In sends (call xid r) → sequence_of r ≡ Some q → q < base + length sends) where
+  sent-more : (xid : ℕ) (r : Request) (q : ℕ) → In (sends ++ call x request ∷ []) (call xid r) → sequence_of r ≡ Some q
+      → q < base + length (sends ++ call x request ∷ [])
   sent-more xid r q i sq = by (in-last sends (call x request) (call xid r) i)
     where
       by : In sends (call xid r) ⊎ (call x request ≡ call xid r) → q < base + length (sends ++ call x request ∷ [])
@@ -59,7 +61,9 @@ first-more sends x request low old xid r q i sq = by (in-last sends (call x requ
     by (inr new) = low q (ap sequence_of (call-same x xid request r new).1 ∙ sq)
 
 -- one more message of the incarnation
-own-more : (who : Who) (sends : List Message) (x : ℕ) (request : Request) → asker request ≡ Some who → ((xid : ℕ) (r : Request) → In sends (call xid r) → asker r ≡ Some who) → (xid : ℕ) (r : Request) → In (sends ++ call x request ∷ []) (call xid r) → asker r ≡ Some who
+own-more : (who : Who) (sends : List Message) (x : ℕ) (request : Request) → asker request ≡ Some who
+    → ((xid : ℕ) (r : Request) → In sends (call xid r) → asker r ≡ Some who) → (xid : ℕ) (r : Request) → In (sends ++ call x request ∷ []) (call xid r)
+    → asker r ≡ Some who
 own-more who sends x request asks old xid r i = by (in-last sends (call x request) (call xid r) i)
   where
     by : In sends (call xid r) ⊎ (call x request ≡ call xid r) → asker r ≡ Some who
@@ -68,8 +72,30 @@ own-more who sends x request asks old xid r i = by (in-last sends (call x reques
 
 draws-closed : (base : ℕ) (who : Who) (Heard : ℕ → Tag → Type 0) (Given : ℕ → Grant → ℕ → Type 0) → Closed Heard Given (Draws base who)
 draws-closed base who Heard Given = record {
-  uses = λ k file d. record { same = d.same; seq = d.seq; ticket = d.ticket; sent = d.sent; asks = d.asks; own = d.own; first = d.first; ticket_first = d.ticket_first; sent_first = d.sent_first };
-  drops = λ k file d. record { same = d.same; seq = d.seq; ticket = d.ticket; sent = d.sent; asks = d.asks; own = d.own; first = d.first; ticket_first = d.ticket_first; sent_first = d.sent_first };
+  uses =
+      λ k file d. record {
+        same = d.same;
+        seq = d.seq;
+        ticket = d.ticket;
+        sent = d.sent;
+        asks = d.asks;
+        own = d.own;
+        first = d.first;
+        ticket_first = d.ticket_first;
+        sent_first = d.sent_first;
+      };
+  drops =
+      λ k file d. record {
+        same = d.same;
+        seq = d.seq;
+        ticket = d.ticket;
+        sent = d.sent;
+        asks = d.asks;
+        own = d.own;
+        first = d.first;
+        ticket_first = d.ticket_first;
+        sent_first = d.sent_first;
+      };
   vacates = λ k file tag can d.
       let longer = one-longer k.sends (call k.xid (Request.Vacated k.who file tag)) in
       record {
@@ -101,7 +127,9 @@ draws-closed base who Heard Given = record {
       record {
         same = d.same;
         seq = let s = d.seq in omega arith;
-        ticket = λ t q e sq. let own : k.seq ≡ q = some-same k.seq q (sym seq ∙ ap (λ u. sequence_of u.request) (some-same _ t e) ∙ sq) in let s = d.seq in omega arith;
+        ticket =
+            λ t q e sq. let own : k.seq ≡ q = some-same k.seq q (sym seq ∙ ap (λ u. sequence_of u.request) (some-same _ t e) ∙ sq) in let s = d.seq in
+            omega arith;
         sent = sent-more base k.sends k.xid request (λ q e. let own : k.seq ≡ q = some-same k.seq q (sym seq ∙ e) in let s = d.seq in omega arith) d.sent;
         asks = λ t e. ap (λ u. asker u.request) (sym (some-same _ t e)) ∙ can.asks ∙ ap Some d.same;
         own = own-more who k.sends k.xid request (can.asks ∙ ap Some d.same) d.own;
@@ -126,9 +154,43 @@ draws-closed base who Heard Given = record {
         ticket_first = λ u q e sq. d.ticket_first t q is (ap (λ v. sequence_of v.request) (some-same _ u e) ∙ sq);
         sent_first = first-more k.sends t.xid t.request (λ q e. d.ticket_first t q is e) d.sent_first;
       };
-  holds = λ k file g sent given free unnoticed d. record { same = d.same; seq = d.seq; ticket = d.ticket; sent = d.sent; asks = d.asks; own = d.own; first = d.first; ticket_first = d.ticket_first; sent_first = d.sent_first };
-  cancels = λ k file d. record { same = d.same; seq = d.seq; ticket = λ t q e sq. d.ticket t q (keeps-or-cancels file k.ticket t e).0 sq; sent = d.sent; asks = λ t e. d.asks t (keeps-or-cancels file k.ticket t e).0; own = d.own; first = d.first; ticket_first = λ t q e sq. d.ticket_first t q (keeps-or-cancels file k.ticket t e).0 sq; sent_first = d.sent_first };
-  notes = λ k file tag heard d. record { same = d.same; seq = d.seq; ticket = d.ticket; sent = d.sent; asks = d.asks; own = d.own; first = d.first; ticket_first = d.ticket_first; sent_first = d.sent_first };
+  holds =
+      λ k file g sent given free unnoticed d. record {
+        same = d.same;
+        seq = d.seq;
+        ticket = d.ticket;
+        sent = d.sent;
+        asks = d.asks;
+        own = d.own;
+        first = d.first;
+        ticket_first = d.ticket_first;
+        sent_first = d.sent_first;
+      };
+  cancels =
+      λ k file d. record {
+        same = d.same;
+        seq = d.seq;
+        ticket = λ t q e sq. d.ticket t q (keeps-or-cancels file k.ticket t e).0 sq;
+        sent = d.sent;
+        asks = λ t e. d.asks t (keeps-or-cancels file k.ticket t e).0;
+        own = d.own;
+        first = d.first;
+        ticket_first = λ t q e sq.
+            d.ticket_first t q (keeps-or-cancels file k.ticket t e).0 sq;
+        sent_first = d.sent_first;
+      };
+  notes =
+      λ k file tag heard d. record {
+        same = d.same;
+        seq = d.seq;
+        ticket = d.ticket;
+        sent = d.sent;
+        asks = d.asks;
+        own = d.own;
+        first = d.first;
+        ticket_first = d.ticket_first;
+        sent_first = d.sent_first;
+      };
 }
 
 -- ---- steps of a client, before which this many packets were sent
@@ -194,7 +256,9 @@ call-draws packets host c ps op a few =
 pub tick-draws :
     (packets host : ℕ) (c : Client) (ps : List Packet) → IsAt host c ps → HasDrawn packets c → DrewUpTo packets c.who.inc (client_tick c (c.now + 1))
 tick-draws packets host c ps a few =
-    drew packets c.who (client_tick c (c.now + 1)) (tick-keeps (draws-closed (packets + 1) c.who NoneHeard NoneGiven) c (c.now + 1) (omega arith) a.alone (timed-draws packets host c ps (c.now + 1) a few))
+    drew packets c.who (client_tick c (c.now + 1))
+    (tick-keeps (draws-closed (packets + 1) c.who NoneHeard NoneGiven) c (c.now + 1) (omega arith) a.alone
+    (timed-draws packets host c ps (c.now + 1) a few))
 
 -- the next incarnation has drawn none
 pub restart-draws : (packets : ℕ) (c : Client) → DrewUpTo packets (c.who.inc + 1) (restart c)
@@ -211,11 +275,13 @@ restart-draws packets c = record {
   none xid r q (inl e) sq = none-some q (ap sequence_of (call-same 1 xid _ r e).1 ∙ sq)
   none xid r q (inr bad) sq = absurd bad
 
-  next : (xid : ℕ) (r : Request) (w : Who) → (call 1 (Request.Attach (record c.who { inc = c.who.inc + 1 })) ≡ call xid r) ⊎ ⊥ → asker r ≡ Some w → w.inc ≤ c.who.inc + 1
+  next : (xid : ℕ) (r : Request) (w : Who) → (call 1 (Request.Attach (record c.who { inc = c.who.inc + 1 })) ≡ call xid r) ⊎ ⊥ → asker r ≡ Some w
+      → w.inc ≤ c.who.inc + 1
   next xid r w (inl e) by = let same : c.who.inc + 1 ≡ w.inc = ap (λ v. v.inc) (some-same _ w (ap asker (call-same 1 xid _ r e).1 ∙ by)) in omega arith
   next xid r w (inr bad) by = absurd bad
 
-  only : (xid : ℕ) (r : Request) (q : ℕ) → (call 1 (Request.Attach (record c.who { inc = c.who.inc + 1 })) ≡ call xid r) ⊎ ⊥ → sequence_of r ≡ Some q → q ≤ packets + 1
+  only : (xid : ℕ) (r : Request) (q : ℕ) → (call 1 (Request.Attach (record c.who { inc = c.who.inc + 1 })) ≡ call xid r) ⊎ ⊥ → sequence_of r ≡ Some q
+      → q ≤ packets + 1
   only xid r q (inl e) sq = none-some q (ap sequence_of (call-same 1 xid _ r e).1 ∙ sq)
   only xid r q (inr bad) sq = absurd bad
 
@@ -231,7 +297,9 @@ reply-draws :
 reply-draws packets host c ps number xid r None is sent a few = tt
 reply-draws packets host c ps number xid r (Some t) is sent a few =
     choice (DrewIf packets c.who.inc) (is_reply_to c xid r t) (Some (goes_on (replied (begun c) number t r))) None
-    (λ e. let k = and_parts _ _ e in let l = and_parts _ _ k.0 in drew packets c.who (goes_on (replied (begun c) number t r)) (reply-keeps (draws-closed (packets + 1) c.who NoneHeard (given-by t)) c number t r (replying k.1 (same-number _ _ l.0) (same-number _ _ l.1))))
+    (λ e. let k = and_parts _ _ e in let l = and_parts _ _ k.0 in
+    drew packets c.who (goes_on (replied (begun c) number t r))
+    (reply-keeps (draws-closed (packets + 1) c.who NoneHeard (given-by t)) c number t r (replying k.1 (same-number _ _ l.0) (same-number _ _ l.1))))
     (λ e. tt)
   where
     before : Draws (packets + 1) c.who (core_of (begun c))
@@ -242,9 +310,36 @@ reply-draws packets host c ps number xid r (Some t) is sent a few =
       asked = is;
       counts = counts;
       alone = a.alone;
-      spent = λ other. record { same = refl; seq = before.seq; ticket = λ u q e sq. none-some u e; sent = before.sent; asks = λ u e. none-some u e; own = before.own; first = before.first; ticket_first = λ u q e sq. none-some u e; sent_first = before.sent_first };
-      attached = λ job. record { same = refl; seq = before.seq; ticket = λ u q e sq. none-some u e; sent = before.sent; asks = λ u e. none-some u e; own = before.own; first = before.first; ticket_first = λ u q e sq. none-some u e; sent_first = before.sent_first };
-      brings = λ file on g grants. (on, (a.mail.replied xid r (subst (λ n. Told ps n (reply xid r)) (sym a.here) sent) inc).wants t is (sym same) g grants file on);
+      spent =
+          λ other. record {
+            same = refl;
+            seq = before.seq;
+            ticket = λ u q e sq. none-some u e;
+            sent = before.sent;
+            asks = λ u e. none-some u e;
+            own = before.own;
+            first = before.first;
+            ticket_first = λ u q e sq. none-some u e;
+            sent_first = before.sent_first;
+          };
+      attached =
+          λ job. record {
+            same = refl;
+            seq = before.seq;
+            ticket = λ u q e sq. none-some u e;
+            sent = before.sent;
+            asks = λ u e. none-some u e;
+            own = before.own;
+            first = before.first;
+            ticket_first = λ u q e sq. none-some u e;
+            sent_first = before.sent_first;
+          };
+      brings =
+          λ file on g grants. (
+            on,
+            (a.mail.replied xid r (subst (λ n. Told ps n (reply xid r)) (sym a.here) sent) inc).wants t is (sym same) g grants
+                file on,
+          );
       only = λ file g at given. given;
     }
 
@@ -252,8 +347,11 @@ notice-draws :
     (packets host : ℕ) (c : Client) (ps : List Packet) (who : Who) (file : ℕ) (tag : Tag) → IsAt host c ps → HasDrawn packets c
     → DrewIf packets c.who.inc (hear_notice c who file tag)
 notice-draws packets host c ps who file tag a few =
-    choice (DrewIf packets c.who.inc) (same_who who c.who && not (holds_later tag (lease_on file c.leases))) (Some (goes_on (evicted (cancels (begun c) file) file tag))) None
-    (λ e. drew packets c.who (goes_on (evicted (cancels (begun c) file) file tag)) (notice-keeps (draws-closed (packets + 1) c.who (λ f v. Unit {0}) NoneGiven) c file tag tt (λ g sent bad. bad) a.alone (begun-draws packets host c ps a few)))
+    choice (DrewIf packets c.who.inc) (same_who who c.who && not (holds_later tag (lease_on file c.leases)))
+    (Some (goes_on (evicted (cancels (begun c) file) file tag))) None
+    (λ e. drew packets c.who (goes_on (evicted (cancels (begun c) file) file tag))
+    (notice-keeps (draws-closed (packets + 1) c.who (λ f v. Unit {0}) NoneGiven) c file tag tt (λ g sent bad. bad) a.alone
+    (begun-draws packets host c ps a few)))
     (λ e. tt)
 
 called-draws : (packets host : ℕ) (c : Client) (ps : List Packet) (r : Request) → IsAt host c ps → HasDrawn packets c → DrewIf packets c.who.inc (hear_call c r)

@@ -49,7 +49,8 @@ new-within id next f from_one below own = record {
 
 -- ---- the files from the start
 
-first-each : (next id : ℕ) (files : List (List ℕ × ℕ)) → 1 ≤ id → id + length files ≤ next → AllByRecursion IsFirstFile files → All (IsFileWithin next) (first_files id files)
+first-each : (next id : ℕ) (files : List (List ℕ × ℕ)) → 1 ≤ id → id + length files ≤ next → AllByRecursion IsFirstFile files
+    → All (IsFileWithin next) (first_files id files)
 first-each next id [] from_one few each = All-nil (IsFileWithin next)
 first-each next id (f ∷ files) from_one few each =
     All-cons (IsFileWithin next) (new_file id f.0 f.1) (first_files (id + 1) files)

@@ -35,7 +35,8 @@ replaced-up-to n x (g ∷ files) own each =
     (replaced-up-to n x files own (All-tail (λ f. f.rev ≤ n) g files each))
 
 -- a kept file gets the next revision
-pub grew-changed : (n : ℕ) (kept : Kept) (f x : File) → find_file f.id kept.files ≡ Some f → x.rev ≡ f.rev + 1 → GrewTo n kept → GrewTo (n + 1) (with_files kept (replace_file x kept.files))
+pub grew-changed : (n : ℕ) (kept : Kept) (f x : File) → find_file f.id kept.files ≡ Some f → x.rev ≡ f.rev + 1 → GrewTo n kept
+    → GrewTo (n + 1) (with_files kept (replace_file x kept.files))
 grew-changed n kept f x found next g =
     let own : f.rev ≤ n = found-has (λ file. file.rev ≤ n) f.id kept.files f g.revisions found in
     let later : GrewTo (n + 1) kept = grew-on n kept g in
@@ -64,7 +65,8 @@ unfolding with_new_file new_file
 grew-created n kept name blocks g =
     let later : GrewTo (n + 1) kept = grew-on n kept g in
     record {
-      revisions = All-append (λ f. f.rev ≤ n + 1) kept.files _ later.revisions (All-cons (λ f. f.rev ≤ n + 1) _ [] (omega arith) (All-nil (λ f. f.rev ≤ n + 1)));
+      revisions =
+          All-append (λ f. f.rev ≤ n + 1) kept.files _ later.revisions (All-cons (λ f. f.rev ≤ n + 1) _ [] (omega arith) (All-nil (λ f. f.rev ≤ n + 1)));
       boots = later.boots;
       ids = let i = g.ids in omega arith;
     }

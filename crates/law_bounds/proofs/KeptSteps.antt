@@ -1,6 +1,5 @@
 -- What each step of the server does to the numbers that it keeps.
-use Rattle.std.proofs.Common.{◌≤◌, ◌<◌, ℕ, ◌+◌, Some, refl, subst, arith}
-use Rattle.nq_model.specs.Change.{IsWithinBounds}
+use Rattle.std.proofs.Common.{◌≤◌, ◌<◌, ℕ, ◌+◌, refl, arith}
 use Rattle.nq_model.specs.ChangesOnce.{IsServerWithin, HasItsText}
 use Rattle.nq_model.specs.Decide.{decides, creates, writes_through, stores, wrote, stores_recovering, resizes, removes, puts_off, commits}
 use Rattle.nq_model.specs.Kept.{find_file}
@@ -30,7 +29,8 @@ module _ (n : ℕ) (s : Server) (sender next : ℕ) (d : Datagram) (g : GrewTo n
   later = grew-on n s.kept g
 
   receive-grows : Grows (receive s sender next d)
-  unfolding quiet drops says attaches vacates tells_later serves leases decides creates writes_through stores wrote stores_recovering resizes removes puts_off commits keeping keeping_with with_table after_notices
+  unfolding quiet drops says attaches vacates tells_later serves leases decides creates writes_through stores wrote stores_recovering resizes
+      removes puts_off commits keeping keeping_with with_table after_notices
   receive-grows = server-hears s sender next d Grows (record {
     stays = later;
     dropping = λ reason. later;
@@ -50,9 +50,15 @@ module _ (n : ℕ) (s : Server) (sender next : ℕ) (d : Datagram) (g : GrewTo n
     declining = λ xid who seq r verdict e by sq fresh declined. grew-row (n + 1) s.kept who.host _ later;
     putting_off_change = λ xid who seq r f clash e by sq file base changing c. grew-row (n + 1) s.kept who.host _ later;
     creating = λ xid who seq blocks name e fresh serves can. grew-row (n + 1) _ who.host _ (grew-created n s.kept name blocks g);
-    writing_through = λ xid who seq block first last body f e changing below c. grew-row (n + 1) _ who.host _ (grew-changed n s.kept f _ changing.found (written-next f block body) g);
-    storing = λ xid who seq block first last base body f row e changing below can. grew-row (n + 1) _ who.host _ (grew-changed n s.kept f _ changing.found (written-next f block body) g);
-    storing_recovering = λ xid who seq block first final base body f until heard last e fresh recovers found below boot rev. grew-row (n + 1) _ who.host _ (grew-changed n s.kept f _ found (written-next f block body) g);
+    writing_through =
+        λ xid who seq block first last body f e changing below c. grew-row (n + 1) _ who.host _
+        (grew-changed n s.kept f _ changing.found (written-next f block body) g);
+    storing =
+        λ xid who seq block first last base body f row e changing below can. grew-row (n + 1) _ who.host _
+        (grew-changed n s.kept f _ changing.found (written-next f block body) g);
+    storing_recovering =
+        λ xid who seq block first final base body f until heard last e fresh recovers found below boot rev. grew-row (n + 1) _ who.host _
+        (grew-changed n s.kept f _ found (written-next f block body) g);
     resizing = λ xid who seq q blocks f e changing can c. grew-row (n + 1) _ who.host _ (grew-changed n s.kept f _ changing.found (resized-next f blocks) g);
     removing = λ xid who seq q f e changing c. grew-row (n + 1) _ who.host _ (grew-dropped (n + 1) s.kept f.id later);
   })
@@ -92,7 +98,8 @@ crash-grows : (n : ℕ) (s : Server) (longest : ℕ) → GrewTo n s.kept → Gre
 unfolding crash boot
 crash-grows n s longest g = grew-booted n s.kept longest g
 
-pub crash-after : (n : ℕ) (s : Server) (longest : ℕ) → n < most_events → shortest_term ≤ longest → longest ≤ longest_term → IsServerAfter n s → IsServerAfter (n + 1) (crash s longest).server
+pub crash-after : (n : ℕ) (s : Server) (longest : ℕ) → n < most_events → shortest_term ≤ longest → longest ≤ longest_term → IsServerAfter n s
+    → IsServerAfter (n + 1) (crash s longest).server
 crash-after n s longest few long short a =
     after-so-many (n + 1) (crash s longest).server
     (bounds-are-kept.crashes s longest (within-now n s a) (let b = a.grew.boots in omega arith) long short)

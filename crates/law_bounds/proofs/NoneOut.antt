@@ -1,11 +1,9 @@
 -- In a run of few events no request goes out of bounds.
-use Rattle.std.proofs.Common.{◌≡◌, ◌≤◌, ◌<◌, ℕ, ◌+◌, ◌==◌, Bool, true, false, not, ◌&&◌, List, Option, Some, None, if◌then◌else◌, length, refl, sym, subst, ap, ◌∙◌, arith}
-use Rattle.std.specs.Prelude.{nat_lt, nat_le, slice_get}
+use Rattle.std.proofs.Common.{◌≡◌, ◌≤◌, ◌<◌, ℕ, ◌+◌, ◌==◌, Bool, true, false, not, ◌&&◌, List, Option, Some, None, if◌then◌else◌, length, refl, arith}
+use Rattle.std.specs.Prelude.{nat_lt}
 use Rattle.std.proofs.lemmas.Bool.Decides.{nat_tests}
 use Rattle.nq_base.specs.declared.Asked.{Asked}
-use Rattle.nq_base.specs.declared.Event.{Event}
 use Rattle.nq_base.specs.declared.HostRow.{HostRow}
-use Rattle.nq_base.specs.declared.Party.{Party}
 use Rattle.nq_base.specs.declared.PushBase.{PushBase}
 use Rattle.nq_base.specs.declared.Request.{Request}
 use Rattle.nq_base.specs.declared.Row.{Row}
@@ -14,13 +12,13 @@ use Rattle.nq_base.specs.declared.Who.{Who}
 use Rattle.nq_model.specs.Ask.{ask}
 use Rattle.nq_model.specs.Decide.{Decision, decides, creates, writes_through, stores, stores_recovering, resizes, removes, puts_off, to_change, unless_told, unless_conflict, decide_create, decide_push, decide_write_in, decide_write, decide_push_recovering, decide_write_recovering, decide_resize, decide_remove, decide_in, decide, row_after}
 use Rattle.nq_model.specs.Kept.{File, find_file, can_be_kept, host_row}
-use Rattle.nq_model.specs.Message.{Packet, request, datagram_of, asker, sequence_of}
+use Rattle.nq_model.specs.Message.{sequence_of}
 use Rattle.nq_model.specs.Profile.{inc_end, seq_end, rev_end}
 use Rattle.nq_model.specs.Server.{Phase, serving, recovering, Server}
 use Rattle.nq_model.specs.ServerStep.{row_of_attach}
 use Rattle.nq_model.specs.Stepped.{most_events, most_sent}
 use Rattle.nq_model.specs.Table.{Table, find_row}
-use Rattle.nq_model.specs.World.{Head, World, sending_host, run}
+use Rattle.nq_model.specs.World.{World, sending_host, run}
 use Rattle.nq_model.proofs.FreshFits.{found-has}
 use Rattle.nq_promises.specs.RepliesAreOwed.{goes_out, is_out_of_bounds}
 use Rattle.walk_run.proofs.Packets.{in-get}

@@ -32,14 +32,16 @@ one-own host m = All-cons (λ p. p.sender ≡ Party.Server) (to_host host m) [] 
 notices-own : (xid : ℕ) (rows : List Row) → AreOwn (notices xid rows)
 notices-own xid [] = none-own
 notices-own xid (row ∷ rows) =
-    All-cons (λ p. p.sender ≡ Party.Server) (to_host row.who.host (call xid (Request.Evicted row.who row.file row.tag))) (notices ((xid + 1) % xid_end) rows) refl
+    All-cons (λ p. p.sender ≡ Party.Server) (to_host row.who.host (call xid (Request.Evicted row.who row.file row.tag)))
+    (notices ((xid + 1) % xid_end) rows) refl
     (notices-own ((xid + 1) % xid_end) rows)
 
 noticed-own : (xid : ℕ) (rows : List Row) (host : ℕ) (m : Message) → AreOwn (notices xid rows ++ to_host host m ∷ [])
 noticed-own xid rows host m =
     All-append (λ p. p.sender ≡ Party.Server) (notices xid rows) (to_host host m ∷ []) (notices-own xid rows) (one-own host m)
 
-read-plain : (s : Server) (who : Who) (file : ℕ) (grant : Option Grant) (entry : Entry) → plain entry ≡ entry → map plain (entry ∷ grants s who file grant) ≡ entry ∷ grants s who file grant
+read-plain : (s : Server) (who : Who) (file : ℕ) (grant : Option Grant) (entry : Entry) → plain entry ≡ entry
+    → map plain (entry ∷ grants s who file grant) ≡ entry ∷ grants s who file grant
 read-plain s who file None entry same = cc
 read-plain s who file (Some g) entry same = cc
 
@@ -56,7 +58,9 @@ module _ (s : Server) where
     vacating = λ xid who file tag e current. record { own = none-own; plain = refl };
     putting_off = λ xid who r f clash e by file asking c. record { own = noticed-own s.notice _ who.host _; plain = refl };
     putting_off_waiting = λ xid who r f clash want e by file wants asking c own room. record { own = noticed-own s.notice _ who.host _; plain = refl };
-    putting_off_by_own = λ xid who r f want own e by file wants asking c o evicting. record { own = noticed-own s.notice (own ∷ []) who.host (reply xid (Answer.Refused who.inc Refusal.TryLater)); plain = refl };
+    putting_off_by_own =
+        λ xid who r f want own e by file wants asking c o evicting. record
+        { own = noticed-own s.notice (own ∷ []) who.host (reply xid (Answer.Refused who.inc Refusal.TryLater)); plain = refl };
     reading = λ xid who q block f body e asking there c. record { own = one-own who.host _; plain = read-plain s who f.id None _ refl };
     reading_full = λ xid who q block want f body e asking there c own room. record { own = one-own who.host _; plain = read-plain s who f.id None _ refl };
     reading_granted = λ xid who q block want f body row term e asking there c g. record { own = one-own who.host _; plain = refl };
@@ -67,7 +71,9 @@ module _ (s : Server) where
     creating = λ xid who seq blocks name e fresh serves can. record { own = one-own who.host _; plain = refl };
     writing_through = λ xid who seq block first last body f e changing below c. record { own = one-own who.host _; plain = refl };
     storing = λ xid who seq block first last base body f row e changing below can. record { own = one-own who.host _; plain = refl };
-    storing_recovering = λ xid who seq block first final base body f until heard last e fresh recovers found below boot rev. record { own = one-own who.host _; plain = refl };
+    storing_recovering =
+        λ xid who seq block first final base body f until heard last e fresh recovers found below boot rev. record
+        { own = one-own who.host _; plain = refl };
     resizing = λ xid who seq q blocks f e changing can c. record { own = one-own who.host _; plain = refl };
     removing = λ xid who seq q f e changing c. record { own = one-own who.host _; plain = refl };
   })

@@ -7,18 +7,11 @@ use Rattle.nq_base.specs.Name.{IsName, IsNameByte}
 use Rattle.nq_base.specs.declared.Call.{Call}
 use Rattle.nq_base.specs.declared.Event.{Event}
 use Rattle.nq_base.specs.declared.Request.{Request}
-use Rattle.nq_model.specs.ClientStep.{begins_call, is_called, fresh_client, attached_client}
-use Rattle.nq_model.specs.Decide.{decides, creates, commits}
-use Rattle.nq_model.specs.Kept.{new_file, with_row, with_new_file}
 use Rattle.nq_model.specs.Message.{Packet, call}
-use Rattle.nq_model.specs.Send.{sends_request, after_seq, after_number}
-use Rattle.nq_model.specs.Server.{quiet, says, keeping, keeping_with}
-use Rattle.nq_model.specs.ServerStep.{boot}
-use Rattle.nq_model.specs.Settle.{answers}
-use Rattle.nq_model.specs.Table.{empty_table}
-use Rattle.nq_model.specs.World.{Head, from_host, after_server, after_client, start, run}
+use Rattle.nq_model.specs.World.{Head, from_host, start, run}
 use Rattle.walk_client.proofs.ClientMoves.{some-same}
 use Rattle.law_bounds.specs.Within.{CarriesText, NumbersAreMet}
+use Rattle.walk_run.proofs.GivenRuns.{given-run}
 
 -- one host, and no file
 abbrev one-host : Head
@@ -35,11 +28,11 @@ named : IsName (98 ∷ [])
 named = (omega arith, omega arith, All-cons IsNameByte 98 [] (omega arith, omega arith, λ e. absurd (omega arith)) (All-nil IsNameByte))
 
 sent : slice_get (run one-host asks-once).packets 0 ≡ Some packet
-unfolding filled zeros begins_call is_called fresh_client attached_client new_file sends_request after_seq after_number boot answers empty_table after_server after_client start
+unfolding filled zeros given-run
 sent = refl
 
 one-packet : length (run one-host asks-once).packets ≡ 1
-unfolding filled zeros begins_call is_called fresh_client attached_client new_file sends_request after_seq after_number boot answers empty_table after_server after_client start
+unfolding filled zeros given-run
 one-packet = refl
 
 no-packet : length (run one-host []).packets ≡ 0
@@ -47,7 +40,7 @@ unfolding start
 no-packet = refl
 
 made : (run one-host (Event.Deliver 0 ∷ asks-once)).server.kept.next ≡ (run one-host []).server.kept.next + 1
-unfolding filled zeros decides creates commits begins_call is_called fresh_client attached_client new_file with_row with_new_file sends_request after_seq after_number quiet says keeping keeping_with boot answers empty_table after_server after_client start
+unfolding filled zeros given-run
 made = refl
 
 given-text : (p : Packet) → slice_get (run one-host asks-once).packets 0 ≡ Some p → CarriesText p.message

@@ -13,7 +13,7 @@ use Rattle.law_calls.specs.Met.{AreMet, went_through, is_resize, is_cached, is_c
 use Rattle.nq_model.proofs.SkewTest.{skew-test-is-sound}
 use Rattle.nq_model.specs.JournalTest.{exists}
 use Rattle.nq_model.specs.FateTest.{is_delayed}
-use Rattle.walk_entries.proofs.GivenRuns.{given-run}
+use Rattle.walk_run.proofs.GivenRuns.{given-run}
 
 -- one host, one file of one block
 abbrev one-host : Head

@@ -21,7 +21,7 @@ use Rattle.nq_model.specs.ServerStep.{boot}
 use Rattle.nq_model.specs.Skew.{is_within_skew}
 use Rattle.nq_model.specs.World.{Head, run}
 use Rattle.walk_server.proofs.Tests.{some-is}
-use Rattle.walk_entries.proofs.GivenRuns.{given-run}
+use Rattle.walk_run.proofs.GivenRuns.{given-run}
 
 -- one host, one file of one block
 abbrev one-host : Head

@@ -8,7 +8,7 @@ use Rattle.nq_base.specs.declared.Call.{Call}
 use Rattle.nq_base.specs.declared.Event.{Event}
 use Rattle.law_deeds.specs.Met.{has_each, DeedsAreMet}
 use Rattle.nq_model.proofs.SkewTest.{skew-test-is-sound}
-use Rattle.walk_entries.proofs.GivenRuns.{given-run}
+use Rattle.walk_run.proofs.GivenRuns.{given-run}
 
 -- one host, one file of one block
 abbrev one-host : Head

@@ -14,7 +14,7 @@ use Rattle.nq_model.specs.Skew.{is_within_skew}
 use Rattle.nq_model.specs.World.{Head, run}
 use Rattle.nq_model.specs.ClientStep.{attached_client}
 use Rattle.walk_server.proofs.Tests.{some-is}
-use Rattle.walk_entries.proofs.GivenRuns.{given-run}
+use Rattle.walk_run.proofs.GivenRuns.{given-run}
 
 -- one host that wants terms of five ticks, and one file of one block
 abbrev pub one-host : Head

@@ -22,7 +22,7 @@ use Rattle.nq_model.proofs.JournalTests.{tells_exists, tells_covers, tells_store
 use Rattle.nq_model.proofs.Telling.{not_told}
 use Rattle.nq_model.specs.ServerStep.{boot, at_time as at_server_time}
 use Rattle.nq_model.specs.World.{Head, run}
-use Rattle.walk_entries.proofs.GivenRuns.{given-run}
+use Rattle.walk_run.proofs.GivenRuns.{given-run}
 
 -- one host, one file of one block, and short terms
 abbrev one-host : Head

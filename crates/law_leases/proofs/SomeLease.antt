@@ -10,7 +10,7 @@ use Rattle.std.specs.Prelude.{slice_get, All}
 use Rattle.nq_model.proofs.SkewTest.{skew-test-is-sound}
 use Rattle.nq_model.specs.Hear.{holds}
 use Rattle.nq_model.specs.World.{Head, run}
-use Rattle.walk_entries.proofs.GivenRuns.{given-run}
+use Rattle.walk_run.proofs.GivenRuns.{given-run}
 
 -- two hosts, one file of one block
 abbrev pub two-hosts : Head

@@ -116,7 +116,8 @@ refused-one t file =
 taken-one : (t : ClientStep) (file : ℕ) (g : Grant) (sent : ℕ) → Adds 1 t (takes_grant t file g sent)
 unfolding holds
 taken-one t file g sent =
-    let broken : Adds 1 t (if_broken t file g) = choice (Adds 1 t) (breaks g (lease_on file t.client.leases) && not (is_clean t.client file)) (breaks_chain t file) t (λ e. broken-one t file) (λ e. same-adds 1 t t refl) in
+    let broken : Adds 1 t (if_broken t file g) = choice (Adds 1 t) (breaks g (lease_on file t.client.leases) && not (is_clean t.client file))
+    (breaks_chain t file) t (λ e. broken-one t file) (λ e. same-adds 1 t t refl) in
     then-same 1 t (if_broken t file g) _ broken refl
 
 optional-one : (t : ClientStep) (file : ℕ) (o : Option Grant) (sent : ℕ) → Adds 1 t (takes_optional t file o sent)
@@ -139,14 +140,18 @@ read-one t file block body g sent number =
 lease-one : (t : ClientStep) (file : ℕ) (g : Option Grant) (sent : ℕ) → Adds 1 t (lease_done t file g sent)
 unfolding marks_through
 lease-one t file g sent =
-    choice (Adds 1 t) (grant_caches g) (takes_optional t file g sent) (marks_through true (takes_optional t file g sent)) (λ e. optional-one t file g sent) (λ e. then-same 1 t (takes_optional t file g sent) (marks_through true (takes_optional t file g sent)) (optional-one t file g sent) refl)
+    choice (Adds 1 t) (grant_caches g) (takes_optional t file g sent) (marks_through true (takes_optional t file g sent))
+    (λ e. optional-one t file g sent)
+    (λ e. then-same 1 t (takes_optional t file g sent) (marks_through true (takes_optional t file g sent)) (optional-one t file g sent) refl)
 
 write-one : (t : ClientStep) (file block : ℕ) (body : List ℕ) (rev : ℕ) → Adds 1 t (write_done t file block body rev)
 unfolding caches_block purges knows_revision
 write-one t file block body rev =
     let u = caches_write t file block body rev in
     let v = knows_revision u file rev in
-    let kept : u.sends ≡ t.sends = choice (λ (x : ClientStep). x.sends ≡ t.sends) (holds_caching (lease_on file t.client.leases) && is_revision_before rev (revision_of file t.client.revisions)) (caches_block t file block body) (purges t file) (λ e. refl) (λ e. refl) in
+    let kept : u.sends ≡ t.sends = choice (λ (x : ClientStep). x.sends ≡ t.sends)
+    (holds_caching (lease_on file t.client.leases) && is_revision_before rev (revision_of file t.client.revisions)) (caches_block t file block body)
+    (purges t file) (λ e. refl) (λ e. refl) in
     same-adds 1 t _ (answered v _ _ v.client.call ∙ kept)
 
 pushed-one : (t : ClientStep) (file block : ℕ) (body : List ℕ) (rev : ℕ) → Adds 1 t (push_done t file block body rev)
@@ -154,9 +159,11 @@ unfolding caches_block knows_revision ends_push
 pushed-one t file block body rev =
     let u = caches_push (knows_revision (ends_push t) file rev) file block body in
     let known = knows_revision (ends_push t) file rev in
-    let kept : u.sends ≡ t.sends = choice (λ (x : ClientStep). x.sends ≡ t.sends) (is_some (dirty_at file block t.client.dirty)) known (caches_block known file block body) (λ e. refl) (λ e. refl) in
+    let kept : u.sends ≡ t.sends = choice (λ (x : ClientStep). x.sends ≡ t.sends) (is_some (dirty_at file block t.client.dirty)) known
+    (caches_block known file block body) (λ e. refl) (λ e. refl) in
     let gone = vacates_noticed u file (notice_on file u.client.notices) in
-    from-same 1 t u (vacates_if_clean u file) kept (choice (Adds 1 u) (is_clean u.client file) gone u (λ e. noticed-one u file (notice_on file u.client.notices)) (λ e. same-adds 1 u u refl))
+    from-same 1 t u (vacates_if_clean u file) kept
+    (choice (Adds 1 u) (is_clean u.client file) gone u (λ e. noticed-one u file (notice_on file u.client.notices)) (λ e. same-adds 1 u u refl))
 
 call-one : (t : ClientStep) (number sent : ℕ) (request : Request) (r : Reply) → Adds 1 t (done_for_call t number sent request r)
 unfolding knows_revision
@@ -194,7 +201,8 @@ refusal-one : (t : ClientStep) (status : Refusal) (ticket : Ticket) (job : Job) 
 unfolding pauses marks_through
 refusal-one t status ticket attaching = same-adds 1 t t refl
 refusal-one t status ticket for_call =
-    choice (Adds 1 t) (is_put_off status) (pauses t) (answers_call t (answer_of status) None) (λ e. same-adds 1 t (pauses t) refl) (λ e. same-adds 1 t (answers_call t (answer_of status) None) (answered t (answer_of status) None t.client.call))
+    choice (Adds 1 t) (is_put_off status) (pauses t) (answers_call t (answer_of status) None) (λ e. same-adds 1 t (pauses t) refl)
+    (λ e. same-adds 1 t (answers_call t (answer_of status) None) (answered t (answer_of status) None t.client.call))
 refusal-one t status ticket renewing = choice (Adds 1 t) (is_put_off status) (pauses t) t (λ e. same-adds 1 t (pauses t) refl) (λ e. same-adds 1 t t refl)
 refusal-one t status ticket pushing = refused-push-one t ticket.request
 
@@ -205,7 +213,8 @@ replied-one t number ticket other = from-same 1 t (spends t) _ refl (done-one (s
 
 evicted-one : (t : ClientStep) (file : ℕ) (tag : Tag) → Adds 1 t (evicted t file tag)
 unfolding notes_notice
-evicted-one t file tag = evicted-cases t file tag (Adds 1 t) (record { clean = λ e. vacates-one t file tag; waiting = λ e. same-adds 1 t (notes_notice t file tag) refl })
+evicted-one t file tag =
+    evicted-cases t file tag (Adds 1 t) (record { clean = λ e. vacates-one t file tag; waiting = λ e. same-adds 1 t (notes_notice t file tag) refl })
 
 goes-on : (t u : ClientStep) → Adds 1 t u → Adds 2 t (goes_on u)
 unfolding Adds
@@ -224,7 +233,8 @@ call-sends c op = call-cases c op (λ t. length t.sends ≤ 2) (record {
   going = λ none on unlost.
       let u = is_called (begins_call c op) op in
       let same : length (settle u).sends ≡ length u.sends = ap length (settles u) in
-      unless-cached-cases (settle u) (λ t. length t.sends ≤ 2) (λ cached. omega arith) (λ e. let one : length (send_next false (settle u)).sends ≤ length (settle u).sends + 1 = sends-one false (settle u) in omega arith);
+      unless-cached-cases (settle u) (λ t. length t.sends ≤ 2) (λ cached. omega arith)
+      (λ e. let one : length (send_next false (settle u)).sends ≤ length (settle u).sends + 1 = sends-one false (settle u) in omega arith);
 })
 
 pub tick-sends : (c : Client) (now : ℕ) → length (client_tick c now).sends ≤ 2
@@ -243,7 +253,8 @@ pub hears-sends : (c : Client) (k : ℕ) (m : Message) (t : ClientStep) → hear
 unfolding Adds cancels
 hears-sends c k m t hears = heard-cases c k m t (λ t. length t.sends ≤ 2) hears (record {
   answered = λ xid r ticket is asks own inc counts. goes-on (begun c) (replied (begun c) k ticket r) (replied-one (begun c) k ticket r);
-  noticed = λ xid file tag is older. goes-on (cancels (begun c) file) (evicted (cancels (begun c) file) file tag) (evicted-one (cancels (begun c) file) file tag);
+  noticed =
+      λ xid file tag is older. goes-on (cancels (begun c) file) (evicted (cancels (begun c) file) file tag) (evicted-one (cancels (begun c) file) file tag);
 })
 
 pub restart-sends : (c : Client) → length (restart c).sends ≤ 2

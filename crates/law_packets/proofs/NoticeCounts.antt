@@ -23,7 +23,9 @@ one b = if b then 1 else 0
 
 count-cons : (p : Row → Bool) (r : Row) (rows : List Row) → count p (r ∷ rows) ≡ one (p r) + count p rows
 unfolding count one
-count-cons p r rows = choice (λ (xs : List Row). (b : Bool) → b ≡ p r → length xs ≡ (if b then 1 else 0) + length (filter p rows)) (p r) (r ∷ filter p rows) (filter p rows) yes no (p r) refl
+count-cons p r rows =
+    choice (λ (xs : List Row). (b : Bool) → b ≡ p r → length xs ≡ (if b then 1 else 0) + length (filter p rows)) (p r) (r ∷ filter p rows)
+    (filter p rows) yes no (p r) refl
   where
     yes : p r ≡ true → (b : Bool) → b ≡ p r → length (r ∷ filter p rows) ≡ (if b then 1 else 0) + length (filter p rows)
     yes e true is = omega arith
@@ -103,7 +105,8 @@ module _ (file host : ℕ) (access : Access) (rows : List Row) (each : (other : 
 
   none-below : (r : Row) → below_in file host access 0 r ≡ true → false ≡ true
   unfolding below_in
-  none-below r h = let under : r.who.host < 0 = ltb-true r.who.host 0 (and_parts (conflicts file host access r) (nat_lt r.who.host 0) h).1 in absurd (omega arith)
+  none-below r h =
+      let under : r.who.host < 0 = ltb-true r.who.host 0 (and_parts (conflicts file host access r) (nat_lt r.who.host 0) h).1 in absurd (omega arith)
 
   none-pass : (xs : List Row) → count (λ r. false) xs ≡ 0
   unfolding count
@@ -124,7 +127,8 @@ module _ (file host : ℕ) (access : Access) (rows : List Row) (each : (other : 
       elim (cases_eq host n) [
         | inl same ↦
             let rest = before-own host in
-            let less : below (suc host) ≤ below host = unfold below in more-of (below_in file host access (suc host)) (below_in file host access host) own-host rows in
+            let less : below (suc host) ≤ below host = unfold below in
+            more-of (below_in file host access (suc host)) (below_in file host access host) own-host rows in
             let at : below (suc n) ≡ below (suc host) = ap (λ k. below (suc k)) (sym same) in
             omega arith
         | inr other ↦ let rest = past-own n (omega arith) in let more = next-below n in omega arith
@@ -134,7 +138,8 @@ module _ (file host : ℕ) (access : Access) (rows : List Row) (each : (other : 
 unfoldable pub HostedBelow : ℕ → List Row → Type 0
 HostedBelow n rows = (file host : ℕ) → n ≤ host → find_row file host rows ≡ None
 
-find-parts : (p : Row → Bool) (r : Row) (rows : List Row) (b : Bool) → p r ≡ b → (if b then Some r else find p rows) ≡ None → (p r ≡ false) × (find p rows ≡ None)
+find-parts : (p : Row → Bool) (r : Row) (rows : List Row) (b : Bool) → p r ≡ b → (if b then Some r else find p rows) ≡ None
+    → (p r ≡ false) × (find p rows ≡ None)
 find-parts p r rows true e h = absurd (cc)
 find-parts p r rows false e h = (e, h)
 
@@ -153,7 +158,8 @@ pub hosted-tail : (n : ℕ) (r : Row) (rows : List Row) → HostedBelow n (r ∷
 unfolding HostedBelow
 hosted-tail n r rows h file host far = (find-parts (is_row_of file host) r rows (is_row_of file host r) refl (h file host far)).1
 
-all-below : (file host : ℕ) (access : Access) (n : ℕ) (rows : List Row) → HostedBelow n rows → count (conflicts file host access) rows ≤ count (below_in file host access n) rows
+all-below : (file host : ℕ) (access : Access) (n : ℕ) (rows : List Row) → HostedBelow n rows
+    → count (conflicts file host access) rows ≤ count (below_in file host access n) rows
 unfolding count one below_in
 all-below file host access n [] h = omega arith
 all-below file host access n (r ∷ rows) h =
@@ -170,7 +176,8 @@ all-below file host access n (r ∷ rows) h =
     at false b e = refl
 
 -- rows of a file that stand in the way of one of so many hosts are fewer than the hosts, where each host has one at most
-pub fewer-than-hosts : (file host : ℕ) (access : Access) (n : ℕ) (rows : List Row) → ((other : ℕ) → length (filter (is_row_of file other) rows) ≤ 1) → HostedBelow n rows → host < n → length (filter (conflicts file host access) rows) + 1 ≤ n
+pub fewer-than-hosts : (file host : ℕ) (access : Access) (n : ℕ) (rows : List Row) → ((other : ℕ) → length (filter (is_row_of file other) rows) ≤ 1)
+    → HostedBelow n rows → host < n → length (filter (conflicts file host access) rows) + 1 ≤ n
 unfolding count below
 fewer-than-hosts file host access n rows each hosted within =
     let all : count (conflicts file host access) rows ≤ count (below_in file host access n) rows = all-below file host access n rows hosted in

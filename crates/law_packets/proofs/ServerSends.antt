@@ -51,7 +51,8 @@ hosted-vacated who file tag rows None h = h
 hosted-vacated who file tag rows (Some row) h =
     choice Hosted (row.who.inc == who.inc && same_tag row.tag tag) (drop_row file who.host rows) rows (λ e. hosted-filter _ rows h) (λ e. h)
 
-granted-host : (table : Table) (q : Question) (want : Want) (row : Row) (term : ℕ) → IsGranted table q want row term → q.who.host < most_hosts → row.who.host < most_hosts
+granted-host : (table : Table) (q : Question) (want : Want) (row : Row) (term : ℕ) → IsGranted table q want row term → q.who.host < most_hosts
+    → row.who.host < most_hosts
 unfolding sharing_row caching_row shared_again renewed_row
 granted-host table q want row term (shares_again own has quiet alone is t) within =
     let same : row.who.host ≡ own.who.host = ap (λ (r : Row). r.who.host) is in
@@ -74,8 +75,12 @@ hosted-receive s sender next d h = server-moves s sender next d (λ kept phase t
   attaching = λ who later. hosted-filter _ s.table.rows h;
   vacating = λ who file tag current. hosted-vacated who file tag s.table.rows (find_row file who.host s.table.rows) h;
   marking = λ file host access serves. hosted-marked file host access s.table.rows h;
-  marking_waiting = λ xid r who f want e wants asking none room. hosted-put _ (marked f.id who.host (access_of (Some want)) s.table.rows) asking.current.from.possible (hosted-marked f.id who.host (access_of (Some want)) s.table.rows h);
-  granting = λ xid r who f want row term e wants asking none granted. hosted-put row s.table.rows (granted-host s.table (to_read s who f (Some want)) want row term granted asking.current.from.possible) h;
+  marking_waiting =
+      λ xid r who f want e wants asking none room. hosted-put _ (marked f.id who.host (access_of (Some want)) s.table.rows) asking.current.from.possible
+      (hosted-marked f.id who.host (access_of (Some want)) s.table.rows h);
+  granting =
+      λ xid r who f want row term e wants asking none granted. hosted-put row s.table.rows
+      (granted-host s.table (to_read s who f (Some want)) want row term granted asking.current.from.possible) h;
   creating = λ name blocks serves can. h;
   changing = λ who f file serves current found same none. h;
   storing = λ who f file base row serves current found same can.
@@ -129,7 +134,8 @@ notices-and-one xid rows p few =
     let all = length-notices xid rows in
     omega arith
 
-later-few : (s : Server) (who : Who) (xid : ℕ) (table : Table) (rows : List Row) → length rows + 1 ≤ most_hosts → length (tells_later s who xid table rows).sends ≤ most_hosts
+later-few : (s : Server) (who : Who) (xid : ℕ) (table : Table) (rows : List Row) → length rows + 1 ≤ most_hosts
+    → length (tells_later s who xid table rows).sends ≤ most_hosts
 unfolding tells_later
 later-few s who xid table rows few = notices-and-one s.notice rows _ few
 
@@ -147,8 +153,11 @@ module _ (s : Server) (each : (file host : ℕ) → length (filter (is_row_of fi
     replying = λ xid who r reply e by from plain. omega arith;
     attaching = λ xid who e from later. omega arith;
     vacating = λ xid who file tag e current. omega arith;
-    putting_off = λ xid who r f clash e by file asking c. later-few s who xid _ _ (few-in-way f.id who.host (access_of (wanted_by r)) asking.current.from.possible);
-    putting_off_waiting = λ xid who r f clash want e by file wants asking c own room. later-few s who xid _ _ (few-in-way f.id who.host (access_of (Some want)) asking.current.from.possible);
+    putting_off =
+        λ xid who r f clash e by file asking c. later-few s who xid _ _ (few-in-way f.id who.host (access_of (wanted_by r)) asking.current.from.possible);
+    putting_off_waiting =
+        λ xid who r f clash want e by file wants asking c own room. later-few s who xid _ _
+        (few-in-way f.id who.host (access_of (Some want)) asking.current.from.possible);
     putting_off_by_own = λ xid who r f want own e by file wants asking c o evicting. later-few s who xid _ (own ∷ []) (omega arith);
     reading = λ xid who q block f body e asking there c. omega arith;
     reading_full = λ xid who q block want f body e asking there c own room. omega arith;
@@ -156,7 +165,9 @@ module _ (s : Server) (each : (file host : ℕ) → length (filter (is_row_of fi
     leasing_full = λ xid who want f e asking c own room. omega arith;
     leasing = λ xid who want f row term e asking c g. omega arith;
     declining = λ xid who seq r verdict e by sq fresh declined. omega arith;
-    putting_off_change = λ xid who seq r f clash e by sq file base changing c. notices-and-one s.notice (in_the_way s f.id who.host Access.Write) _ (few-in-way f.id who.host Access.Write changing.fresh.current.from.possible);
+    putting_off_change =
+        λ xid who seq r f clash e by sq file base changing c. notices-and-one s.notice (in_the_way s f.id who.host Access.Write) _
+        (few-in-way f.id who.host Access.Write changing.fresh.current.from.possible);
     creating = λ xid who seq blocks name e fresh serves can. omega arith;
     writing_through = λ xid who seq block first last body f e changing below c. omega arith;
     storing = λ xid who seq block first last base body f row e changing below can. omega arith;

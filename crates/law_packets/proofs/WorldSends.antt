@@ -74,7 +74,8 @@ alone-next head s t a (inr (c, is)) = record { came = c ∷ a.came; is = is ∙ 
 alone : (head : Head) (events : List Event) → IsAlone head (run head events).server
 unfolding start
 alone head [] = record { came = []; is = refl }
-alone head (event ∷ earlier) = alone-next head (run head earlier).server (run head (event ∷ earlier)).server (alone head earlier) (of-event (run head earlier) event)
+alone head (event ∷ earlier) =
+    alone-next head (run head earlier).server (run head (event ∷ earlier)).server (alone head earlier) (of-event (run head earlier) event)
 
 -- ---- what an event sends
 

@@ -42,7 +42,8 @@ more-packets : (ps qs : List Packet) (host xid : ℕ) (a : Reply) → AnswersOne
 more-packets ps qs host xid a k = record { asks = k.asks; who = k.who; sent = in-left ps qs _ k.sent; by = k.by; inc = k.inc; of = k.of }
 
 -- after packets of the server
-more-told : (ps qs : List Packet) → EachAnswers ps → ((host xid : ℕ) (a : Reply) → In qs (to_host host (reply xid a)) → AnswersOne ps host xid a) → EachAnswers (ps ++ qs)
+more-told : (ps qs : List Packet) → EachAnswers ps → ((host xid : ℕ) (a : Reply) → In qs (to_host host (reply xid a)) → AnswersOne ps host xid a)
+    → EachAnswers (ps ++ qs)
 unfolding EachAnswers
 more-told ps qs each new host xid a i = by (in-append ps qs (to_host host (reply xid a)) i)
   where
@@ -55,7 +56,8 @@ none-new ps qs none host xid a i = let bad : In [] (to_host host (reply xid a)) 
 
 -- ---- events
 
-of-server : (w : World) (t : ServerStep) → EachAnswers w.packets → ((host xid : ℕ) (a : Reply) → In t.sends (to_host host (reply xid a)) → AnswersOne w.packets host xid a) → EachAnswers (after_server w t).packets
+of-server : (w : World) (t : ServerStep) → EachAnswers w.packets
+    → ((host xid : ℕ) (a : Reply) → In t.sends (to_host host (reply xid a)) → AnswersOne w.packets host xid a) → EachAnswers (after_server w t).packets
 unfolding after_server
 of-server w t each new = more-told w.packets t.sends each new
 
@@ -76,7 +78,9 @@ of-delivery : (w : World) (k host : ℕ) (m : Message) (o : Option Client) → E
 of-delivery w k host m None each = each
 of-delivery w k host m (Some c) each = of-hearing w host (hear c k m) each
 
-received : (w : World) (p : Packet) → Holds w → p.to ≡ Party.Server → In w.packets p → (host xid : ℕ) (a : Reply) → In (receive w.server (sending_host p.sender) (length w.packets) (datagram_of p.message)).sends (to_host host (reply xid a)) → AnswersOne w.packets host xid a
+received : (w : World) (p : Packet) → Holds w → p.to ≡ Party.Server → In w.packets p → (host xid : ℕ) (a : Reply)
+    → In (receive w.server (sending_host p.sender) (length w.packets) (datagram_of p.message)).sends (to_host host (reply xid a))
+    → AnswersOne w.packets host xid a
 received w p h to i host xid a told =
     let d = datagram_of p.message in
     let no_null : (x : ℕ) → d ≡ request x Request.Null → ⊥ = λ x e. let some = (to-server w.packets p (h.sent p i) to i x Request.Null e).1 in absurd (cc) in
@@ -90,7 +94,8 @@ received w p h to i host xid a told =
       of = t.of;
     }
 
-of-packet : (w : World) (k : ℕ) (p : Packet) (to : Party) → Holds w → p.to ≡ to → In w.packets p → EachAnswers w.packets → EachAnswers (deliver_to w k p to).packets
+of-packet : (w : World) (k : ℕ) (p : Packet) (to : Party) → Holds w → p.to ≡ to → In w.packets p → EachAnswers w.packets
+    → EachAnswers (deliver_to w k p to).packets
 of-packet w k p Party.Server h to i each = of-server w _ each (received w p h to i)
 of-packet w k p (Party.Client host) h to i each = of-delivery w k host p.message (slice_get w.clients host) each
 
@@ -157,7 +162,8 @@ answers-it job (Reply.Refused inc status) r fits of = refusable job r fits
 answers-it job other r fits of = of
 
 -- a reply to a client's request under way
-ticket-answered : (ps : List Packet) (host xid : ℕ) (a : Reply) (c : Client) (t : Ticket) → IsAt host c ps → AnswersOne ps host xid a → c.ticket ≡ Some t → xid ≡ t.xid → inc_of a ≡ c.who.inc → Answers a (procedure_of t.request)
+ticket-answered : (ps : List Packet) (host xid : ℕ) (a : Reply) (c : Client) (t : Ticket) → IsAt host c ps → AnswersOne ps host xid a
+    → c.ticket ≡ Some t → xid ≡ t.xid → inc_of a ≡ c.who.inc → Answers a (procedure_of t.request)
 ticket-answered ps host xid a c t at k has same inc =
     let asked = at.mail.asked xid k.asks k.who (subst (λ n. Asked ps n xid k.asks) (sym at.here) k.sent) k.by in
     let own : t.request ≡ k.asks = asked.same (sym k.inc ∙ inc) t has (sym same) in

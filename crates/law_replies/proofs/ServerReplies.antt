@@ -90,26 +90,36 @@ module _ (s : Server) (sender next : ℕ) (d : Datagram) (no_null : (xid : ℕ) 
       by (inl note) = absurd (notices-no-reply number rows host xid a note)
       by (inr own) = one-reply h x b t host xid a own
 
-  answers : (xid : ℕ) (who : Who) (r : Request) (a : Reply) → d ≡ request xid r → asker r ≡ Some who → who.host ≡ sender → inc_of a ≡ who.inc → IsReplyOf a r → Tells d sender who.host xid a
+  answers : (xid : ℕ) (who : Who) (r : Request) (a : Reply) → d ≡ request xid r → asker r ≡ Some who → who.host ≡ sender → inc_of a ≡ who.inc
+      → IsReplyOf a r → Tells d sender who.host xid a
   answers xid who r a e by from inc of = record { asks = r; who = who; is = e; by = by; to = from; inc = inc; of = of }
 
-  committed : (xid : ℕ) (who : Who) (seq : ℕ) (r : Request) (v : Verdict) (value : ℕ) → d ≡ request xid r → asker r ≡ Some who → sequence_of r ≡ Some seq → who.host ≡ sender → Tells d sender who.host xid (verdict_reply who.inc v value r)
-  committed xid who seq r v value e by sq from = answers xid who r (verdict_reply who.inc v value r) e by from (verdict-inc who.inc v value r seq sq) (verdict-of who.inc v value r seq sq)
+  committed : (xid : ℕ) (who : Who) (seq : ℕ) (r : Request) (v : Verdict) (value : ℕ) → d ≡ request xid r → asker r ≡ Some who
+      → sequence_of r ≡ Some seq → who.host ≡ sender → Tells d sender who.host xid (verdict_reply who.inc v value r)
+  committed xid who seq r v value e by sq from =
+      answers xid who r (verdict_reply who.inc v value r) e by from (verdict-inc who.inc v value r seq sq) (verdict-of who.inc v value r seq sq)
 
-  commits-one : (xid : ℕ) (who : Who) (seq : ℕ) (r : Request) (c : Decision) → d ≡ request xid r → asker r ≡ Some who → sequence_of r ≡ Some seq → who.host ≡ sender → c.sends ≡ [] → Tell (commits who seq xid r c).sends
+  commits-one : (xid : ℕ) (who : Who) (seq : ℕ) (r : Request) (c : Decision) → d ≡ request xid r → asker r ≡ Some who → sequence_of r ≡ Some seq
+      → who.host ≡ sender → c.sends ≡ [] → Tell (commits who seq xid r c).sends
   unfolding commits
   commits-one xid who seq r c e by sq from none =
       let b = verdict_reply who.inc c.verdict c.value r in
-      subst (λ xs. Tell (xs ++ to_host who.host (reply xid b) ∷ [])) (sym none) (one-reply who.host xid b (committed xid who seq r c.verdict c.value e by sq from))
+      subst (λ xs. Tell (xs ++ to_host who.host (reply xid b) ∷ [])) (sym none)
+      (one-reply who.host xid b (committed xid who seq r c.verdict c.value e by sq from))
 
-  puts-off-one : (xid : ℕ) (who : Who) (seq file : ℕ) (r : Request) (table : Table) → d ≡ request xid r → asker r ≡ Some who → sequence_of r ≡ Some seq → who.host ≡ sender → Tell (commits who seq xid r (puts_off s who file table)).sends
+  puts-off-one : (xid : ℕ) (who : Who) (seq file : ℕ) (r : Request) (table : Table) → d ≡ request xid r → asker r ≡ Some who → sequence_of r ≡ Some seq
+      → who.host ≡ sender → Tell (commits who seq xid r (puts_off s who file table)).sends
   unfolding commits puts_off
   puts-off-one xid who seq file r table e by sq from =
-      after-notices s.notice (in_the_way s file who.host Access.Write) who.host xid (verdict_reply who.inc Verdict.TryLater 0 r) (committed xid who seq r Verdict.TryLater 0 e by sq from)
+      after-notices s.notice (in_the_way s file who.host Access.Write) who.host xid (verdict_reply who.inc Verdict.TryLater 0 r)
+      (committed xid who seq r Verdict.TryLater 0 e by sq from)
 
-  later : (xid : ℕ) (who : Who) (r : Request) (table : Table) (rows : List Row) → d ≡ request xid r → asker r ≡ Some who → who.host ≡ sender → Tell (tells_later s who xid table rows).sends
+  later : (xid : ℕ) (who : Who) (r : Request) (table : Table) (rows : List Row) → d ≡ request xid r → asker r ≡ Some who → who.host ≡ sender
+      → Tell (tells_later s who xid table rows).sends
   unfolding tells_later
-  later xid who r table rows e by from = after-notices s.notice rows who.host xid (Reply.Refused who.inc Refusal.TryLater) (answers xid who r (Reply.Refused who.inc Refusal.TryLater) e by from refl tt)
+  later xid who r table rows e by from =
+      after-notices s.notice rows who.host xid (Reply.Refused who.inc Refusal.TryLater)
+      (answers xid who r (Reply.Refused who.inc Refusal.TryLater) e by from refl tt)
 
   error-tells : (m : Message) → ((x : ℕ) (a : Reply) → m ≡ reply x a → ⊥) → Tell (to_host sender m ∷ [])
   error-tells m none host xid a (inr i) = absurd i
@@ -122,23 +132,43 @@ module _ (s : Server) (sender next : ℕ) (d : Datagram) (no_null : (xid : ℕ) 
     dropping = λ reason. no-packets;
     erring = λ m e. error-tells m (λ x a is. error-no-reply d m x a e is);
     answers_null = λ xid e. absurd (no_null xid e);
-    replying = λ xid who r a e by from plain. one-reply who.host xid a (answers xid who r a e by from.host (plain-inc s who r a plain) (plain-of s who r a plain));
-    attaching = λ xid who e from above. one-reply who.host xid (Reply.Attach who.inc) (answers xid who (Request.Attach who) (Reply.Attach who.inc) e refl from.host refl refl);
+    replying =
+        λ xid who r a e by from plain. one-reply who.host xid a (answers xid who r a e by from.host (plain-inc s who r a plain) (plain-of s who r a plain));
+    attaching =
+        λ xid who e from above. one-reply who.host xid (Reply.Attach who.inc)
+        (answers xid who (Request.Attach who) (Reply.Attach who.inc) e refl from.host refl refl);
     vacating = λ xid who file tag e current. no-packets;
     putting_off = λ xid who r f clash e by file asking c. later xid who r _ _ e by asking.current.from.host;
     putting_off_waiting = λ xid who r f clash want e by file wants asking c own room. later xid who r _ _ e by asking.current.from.host;
     putting_off_by_own = λ xid who r f want own e by file wants asking c o evicting. later xid who r _ _ e by asking.current.from.host;
-    reading = λ xid who q block f body e asking there c. one-reply who.host xid _ (answers xid who _ (Reply.Read who.inc f.rev body None) e refl asking.current.from.host refl refl);
-    reading_full = λ xid who q block want f body e asking there c own room. one-reply who.host xid _ (answers xid who _ (Reply.Read who.inc f.rev body None) e refl asking.current.from.host refl refl);
-    reading_granted = λ xid who q block want f body row term e asking there c g. one-reply who.host xid _ (answers xid who _ (Reply.Read who.inc f.rev body _) e refl asking.current.from.host refl refl);
-    leasing_full = λ xid who want f e asking c own room. one-reply who.host xid _ (answers xid who _ (Reply.GetLease who.inc None) e refl asking.current.from.host refl refl);
-    leasing = λ xid who want f row term e asking c g. one-reply who.host xid _ (answers xid who _ (Reply.GetLease who.inc _) e refl asking.current.from.host refl refl);
+    reading =
+        λ xid who q block f body e asking there c. one-reply who.host xid _
+        (answers xid who _ (Reply.Read who.inc f.rev body None) e refl asking.current.from.host refl refl);
+    reading_full =
+        λ xid who q block want f body e asking there c own room. one-reply who.host xid _
+        (answers xid who _ (Reply.Read who.inc f.rev body None) e refl asking.current.from.host refl refl);
+    reading_granted =
+        λ xid who q block want f body row term e asking there c g. one-reply who.host xid _
+        (answers xid who _ (Reply.Read who.inc f.rev body _) e refl asking.current.from.host refl refl);
+    leasing_full =
+        λ xid who want f e asking c own room. one-reply who.host xid _
+        (answers xid who _ (Reply.GetLease who.inc None) e refl asking.current.from.host refl refl);
+    leasing =
+        λ xid who want f row term e asking c g. one-reply who.host xid _
+        (answers xid who _ (Reply.GetLease who.inc _) e refl asking.current.from.host refl refl);
     declining = λ xid who seq r verdict e by sq fresh declined. commits-one xid who seq r (decides s verdict) e by sq fresh.current.from.host refl;
     putting_off_change = λ xid who seq r f clash e by sq file base changing c. puts-off-one xid who seq f.id r _ e by sq changing.fresh.current.from.host;
     creating = λ xid who seq blocks name e fresh serves can. commits-one xid who seq _ (creates s name blocks) e refl refl fresh.current.from.host refl;
-    writing_through = λ xid who seq block first last body f e changing below c. commits-one xid who seq _ (writes_through s who f block first body) e refl refl changing.fresh.current.from.host refl;
-    storing = λ xid who seq block first last base body f row e changing below can. commits-one xid who seq _ (stores s who f row block first last body) e refl refl changing.fresh.current.from.host refl;
-    storing_recovering = λ xid who seq block first final base body f until heard last e fresh recovers found below boot rev. commits-one xid who seq _ (stores_recovering s until last who f block first final body) e refl refl fresh.current.from.host refl;
-    resizing = λ xid who seq q blocks f e changing can c. commits-one xid who seq _ (resizes s who q f blocks) e refl refl changing.fresh.current.from.host refl;
+    writing_through =
+        λ xid who seq block first last body f e changing below c. commits-one xid who seq _ (writes_through s who f block first body) e refl refl
+        changing.fresh.current.from.host refl;
+    storing =
+        λ xid who seq block first last base body f row e changing below can. commits-one xid who seq _ (stores s who f row block first last body) e refl
+        refl changing.fresh.current.from.host refl;
+    storing_recovering =
+        λ xid who seq block first final base body f until heard last e fresh recovers found below boot rev. commits-one xid who seq _
+        (stores_recovering s until last who f block first final body) e refl refl fresh.current.from.host refl;
+    resizing =
+        λ xid who seq q blocks f e changing can c. commits-one xid who seq _ (resizes s who q f blocks) e refl refl changing.fresh.current.from.host refl;
     removing = λ xid who seq q f e changing c. commits-one xid who seq _ (removes s who q f) e refl refl changing.fresh.current.from.host refl;
   })

@@ -18,7 +18,7 @@ use Rattle.law_reports.proofs.Journals.{Journals, call-begun}
 use Rattle.law_reports.proofs.JournalMoves.{journals-quiet, is_lost, journals-answer, journals-busy, journals-begin, loss_at, waits-speaks, journals-names, journals-tell}
 use Rattle.law_reports.proofs.LossMoves.{journals-lose, journals-same, lost_at, push_at, lost-counts, loss-of-counts, named-lost}
 use Rattle.nq_model.specs.Client.{UnderWay, file_of_loss, other_losses, add_losses, dirty_at, drop_dirty, other_dirty, is_push_of, is_push_at}
-use Rattle.nq_model.specs.ClientStep.{told}
+use Rattle.nq_base.specs.Calls.{told}
 use Rattle.nq_model.specs.Hear.{loss_of, loss_entry, push_of, other_push, waits_for}
 use Rattle.nq_model.specs.Journal.{Exists, call_of}
 use Rattle.nq_model.specs.Reported.{Names}

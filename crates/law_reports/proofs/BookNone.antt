@@ -16,7 +16,8 @@ use Rattle.law_reports.proofs.Books.{Book, unsaved_on, after_loss, after_names, 
 use Rattle.law_reports.proofs.Tallies.{IsOne, one-passed, one-mapped, each-mapped, each-reverse}
 use Rattle.nq_model.proofs.ByFile.{of-added}
 use Rattle.nq_model.specs.Client.{UnderWay, file_of_loss, losses_of, is_push_of, span_list}
-use Rattle.nq_model.specs.ClientStep.{told, changed_file, losses_for}
+use Rattle.nq_model.specs.ClientStep.{changed_file, losses_for}
+use Rattle.nq_base.specs.Calls.{told}
 use Rattle.nq_model.specs.Hear.{loss_of, loss_entry, push_of, waits_for}
 use Rattle.nq_model.specs.Journal.{Each}
 use Rattle.nq_model.specs.Settle.{said}

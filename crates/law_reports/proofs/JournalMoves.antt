@@ -19,7 +19,8 @@ use Rattle.law_reports.proofs.Tallies.{IsOne, one-passed, one-passes, tally, tal
 use Rattle.law_reports.proofs.Told.{IsExcused, IsNamedIn, IsToldAt, IsCalled, Grows, grows, some-names-back}
 use Rattle.law_reports.proofs.Journals.{same-who, IsPast, Journals, journals-add, told-none, call-numbered, call-begun}
 use Rattle.nq_model.specs.Client.{losses_of, other_losses, span_of, span_list}
-use Rattle.nq_model.specs.ClientStep.{told, changed_file, losses_for}
+use Rattle.nq_model.specs.ClientStep.{changed_file, losses_for}
+use Rattle.nq_base.specs.Calls.{told}
 use Rattle.nq_model.specs.Hear.{waits_for}
 use Rattle.nq_model.specs.Journal.{Each, Exists, call_of, told_by, SpeaksOf}
 use Rattle.nq_model.specs.Reported.{IsNameOf, Names, IsReporting, IsUnnamed, IsSameSpan, NameLosses}

@@ -13,7 +13,7 @@ use Rattle.nq_model.specs.Journal.{Exists}
 use Rattle.nq_model.specs.Reported.{Names}
 use Rattle.nq_model.specs.ServerStep.{at_time as at_server_time}
 use Rattle.nq_model.specs.World.{Head, run}
-use Rattle.walk_entries.proofs.GivenRuns.{given-run}
+use Rattle.walk_run.proofs.GivenRuns.{given-run}
 
 -- one host that wants short leases, one file of one block
 abbrev pub one-host : Head

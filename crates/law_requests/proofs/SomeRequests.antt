@@ -15,7 +15,7 @@ use Rattle.nq_model.specs.ClientStep.{fresh_client}
 use Rattle.nq_model.specs.Message.{reply}
 use Rattle.nq_model.specs.Server.{to_host}
 use Rattle.nq_model.specs.World.{Head, run}
-use Rattle.walk_entries.proofs.GivenRuns.{given-run}
+use Rattle.walk_run.proofs.GivenRuns.{given-run}
 
 -- two hosts, one file of one block
 abbrev two-hosts : Head

@@ -63,7 +63,8 @@ some-told None is = absurd (cc)
 some-told (Some kept) is = (kept, refl)
 
 -- a server that made a step is the one after it
-made : {K : Type 0} (content : K → Option Kept) (new : Holding K) (s : Server) → content new.keeper ≡ Some s.kept → new.beside ≡ beside s → Apart s → Served content new
+made : {K : Type 0} (content : K → Option Kept) (new : Holding K) (s : Server) → content new.keeper ≡ Some s.kept → new.beside ≡ beside s → Apart s
+    → Served content new
 made content new s keeps holds a = record {
   kept = s.kept;
   told = inl keeps;
@@ -71,7 +72,8 @@ made content new s keeps holds a = record {
 }
 
 -- one that was refused, and whose keeper tells what it told before or nothing any more, is as before
-refused : {K : Type 0} (content : K → Option Kept) (old new : Holding K) (kept : Kept) → content old.keeper ≡ Some kept → StaysOrEnds (content old.keeper) (content new.keeper) → new.beside ≡ old.beside → Apart (server_of old.beside kept) → Served content new
+refused : {K : Type 0} (content : K → Option Kept) (old new : Holding K) (kept : Kept) → content old.keeper ≡ Some kept
+    → StaysOrEnds (content old.keeper) (content new.keeper) → new.beside ≡ old.beside → Apart (server_of old.beside kept) → Served content new
 refused content old new kept told stays same a = record {
   kept = kept;
   told = by stays;
@@ -83,7 +85,8 @@ refused content old new kept told stays same a = record {
     by (inr e) = inr e
 
 -- a step that was taken in, or refused
-taken-in : {K : Type 0} (content : K → Option Kept) (step : Kept → ServerStep) (answer : Received) (old new : Holding K) (before count : ℕ) (out out' : Datagrams) (log log' : EntryList) (kept : Kept)
+taken-in : {K : Type 0} (content : K → Option Kept) (step : Kept → ServerStep) (answer : Received) (old new : Holding K) (before count : ℕ)
+    (out out' : Datagrams) (log log' : EntryList) (kept : Kept)
     → content old.keeper ≡ Some kept → Apart (server_of old.beside kept) → Apart (step kept).server
     → IsTaken step answer (content old.keeper) (content new.keeper) before count old new out out' log log' → Served content new
 taken-in content step received.Done old new before count out out' log log' kept told a after is =
@@ -98,7 +101,8 @@ taken-in content step received.Spent old new before count out out' log log' kept
     refused content old new kept told (inl is.0) is.2.untouched.beside a
 
 -- a crash
-crashed : {K : Type 0} (content : K → Option Kept) (longest now : ℕ) (answer : Received) (old new : Holding K) (before count : ℕ) (log log' : EntryList) (kept : Kept)
+crashed : {K : Type 0} (content : K → Option Kept) (longest now : ℕ) (answer : Received) (old new : Holding K) (before count : ℕ) (log log' : EntryList)
+    (kept : Kept)
     → content old.keeper ≡ Some kept → Apart (server_of old.beside kept)
     → Reboots longest now answer (content old.keeper) (content new.keeper) before count old new log log' → Served content new
 crashed content longest now received.Done old new before count log log' kept told a is =
@@ -112,7 +116,8 @@ crashed content longest now received.Spent old new before count log log' kept to
     refused content old new kept told (inl is.1) is.3.untouched.beside a
 
 -- whatever came
-does : {K : Type 0} (content : K → Option Kept) (faults : K → ℕ) (came : Coming) (answer : Received) (old new : Holding K) (out out' : Datagrams) (log log' : EntryList) (kept : Kept)
+does : {K : Type 0} (content : K → Option Kept) (faults : K → ℕ) (came : Coming) (answer : Received) (old new : Holding K) (out out' : Datagrams)
+    (log log' : EntryList) (kept : Kept)
     → content old.keeper ≡ Some kept → Apart (server_of old.beside kept)
     → Does content faults came answer out out' log log' old new → Served content new
 does content faults (datagram sender bytes) answer old new out out' log log' kept told a is =
@@ -131,13 +136,15 @@ booted content faults s b =
     let is = (b.boots.0 told.0 told.1).1 in
     made content s (boot told.0 b.longest b.now None) is.keeps is.holds (apart-boot told.0 b.longest b.now)
 
-after : {K : Type 0} (content : K → Option Kept) (faults : K → ℕ) (came : Coming) (old new : Holding K) → Served content old → HasCome content faults came old new → Served content new
+after : {K : Type 0} (content : K → Option Kept) (faults : K → ℕ) (came : Coming) (old new : Holding K) → Served content old
+    → HasCome content faults came old new → Served content new
 after content faults came old new served c =
     let told = some-told (content old.keeper) c.told in
     let a = subst (λ kept. Apart (server_of old.beside kept)) (same-kept (content old.keeper) served.kept told.0 served.told told.1) served.apart in
     does content faults came c.answer old new c.out c.out' c.log c.log' told.0 told.1 a c.does
 
-served-after : {K : Type 0} (content : K → Option Kept) (faults : K → ℕ) (came : List Coming) (s : Holding K) → IsServed content faults came s → Served content s
+served-after : {K : Type 0} (content : K → Option Kept) (faults : K → ℕ) (came : List Coming) (s : Holding K) → IsServed content faults came s
+    → Served content s
 served-after content faults [] s is = booted content faults s is
 served-after content faults (came ∷ earlier) s is = after content faults came is.0 s (served-after content faults earlier is.0 is.1) is.2
 
@@ -150,10 +157,12 @@ none-left p (x ∷ xs) h = by (p x) (none-left p xs) h
     by true rest e = absurd (cc)
     by false rest e = rest e
 
-one-step : (file host : ℕ) (r : Row) (rows : List Row) (b : Bool) → is_row_of file host r ≡ b → find_row r.file r.who.host rows ≡ None → length (filter (is_row_of file host) rows) ≤ 1 → length (if b then r ∷ filter (is_row_of file host) rows else filter (is_row_of file host) rows) ≤ 1
+one-step : (file host : ℕ) (r : Row) (rows : List Row) (b : Bool) → is_row_of file host r ≡ b → find_row r.file r.who.host rows ≡ None
+    → length (filter (is_row_of file host) rows) ≤ 1 → length (if b then r ∷ filter (is_row_of file host) rows else filter (is_row_of file host) rows) ≤ 1
 one-step file host r rows true e none rest =
     let k = of-key file host r e in
-    let empty : filter (is_row_of file host) rows ≡ [] = none-left (is_row_of file host) rows (subst (λ i. find_row i host rows ≡ None) k.0 (subst (λ i. find_row r.file i rows ≡ None) k.1 none)) in
+    let empty : filter (is_row_of file host) rows ≡ [] = none-left (is_row_of file host) rows
+    (subst (λ i. find_row i host rows ≡ None) k.0 (subst (λ i. find_row r.file i rows ≡ None) k.1 none)) in
     subst (λ xs. length (r ∷ xs) ≤ 1) (sym empty) (omega arith)
 one-step file host r rows false e none rest = rest
 

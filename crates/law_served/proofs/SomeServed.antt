@@ -112,7 +112,8 @@ answered-fits = (
 )
 
 all-fit : All (λ p. FitsMessage p.message) step.sends
-all-fit = subst (All (λ (p : Packet). FitsMessage p.message)) (sym says) (All-cons (λ (p : Packet). FitsMessage p.message) answered [] answered-fits (All-nil _))
+all-fit =
+    subst (All (λ (p : Packet). FitsMessage p.message)) (sym says) (All-cons (λ (p : Packet). FitsMessage p.message) answered [] answered-fits (All-nil _))
 
 same : receive first 0 0 (datagram_in (bytes_of asked)) ≡ step
 same = ap (receive first 0 0) (server-reads-messages asked asked-fits)
@@ -156,7 +157,8 @@ has-come = record {
   does = (
     λ other e.
         subst
-        (λ k. TakesIn (receive (server_of booted.beside k) 0 (next_of none-sent) (datagram_in (bytes_of asked))) taken (Some after.keeper) after none-sent sent none-told told)
+        (λ k. TakesIn (receive (server_of booted.beside k) 0 (next_of none-sent) (datagram_in (bytes_of asked))) taken (Some after.keeper) after
+        none-sent sent none-told told)
         (some-is first.kept other e)
         takes,
     refl,

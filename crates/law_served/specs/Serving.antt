@@ -38,11 +38,14 @@ CanCome time (ticks now) = (time ≤ now) × (now < 2 ^ 62)
 CanCome time (crashes longest now) = (shortest_term ≤ longest) × (longest ≤ longest_term) × (time ≤ now) × (now < 2 ^ 62)
 
 -- what a server does when this comes: it makes the step of the protocol, or changes nothing where it is refused
-abbrev pub Does : {K : Type 0} → (content : K → Option Kept) → (faults : K → ℕ) → Coming → Received → (out out' : Datagrams) → (log log' : EntryList) → (old new : Holding K) → Type 0
+abbrev pub Does : {K : Type 0} → (content : K → Option Kept) → (faults : K → ℕ) → Coming → Received → (out out' : Datagrams) → (log log' : EntryList)
+    → (old new : Holding K) → Type 0
 Does content faults (datagram sender bytes) answer out out' log log' old new =
-    IsTaken (λ kept. receive (server_of old.beside kept) sender (next_of out) (datagram_in bytes)) answer (content old.keeper) (content new.keeper) (faults old.keeper) (faults new.keeper) old new out out' log log'
+    IsTaken (λ kept. receive (server_of old.beside kept) sender (next_of out) (datagram_in bytes)) answer (content old.keeper) (content new.keeper)
+    (faults old.keeper) (faults new.keeper) old new out out' log log'
 Does content faults (ticks now) answer out out' log log' old new =
-    IsTaken (λ kept. tick (server_of old.beside kept) now) answer (content old.keeper) (content new.keeper) (faults old.keeper) (faults new.keeper) old new out out' log log'
+    IsTaken (λ kept. tick (server_of old.beside kept) now) answer (content old.keeper) (content new.keeper) (faults old.keeper) (faults new.keeper) old
+    new out out' log log'
 Does content faults (crashes longest now) answer out out' log log' old new =
     Reboots longest now answer (content old.keeper) (content new.keeper) (faults old.keeper) (faults new.keeper) old new log log'
 

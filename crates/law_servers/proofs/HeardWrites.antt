@@ -30,10 +30,12 @@ stored-later heard later (Entry.S who file block first last at ∷ entries) h s 
 stored-later heard later (other ∷ entries) h s = stored-later heard later entries h s
 
 -- what the entries say of each of them
-stored-at : (heard : ℕ) (entries : List Entry) (place : ℕ) (who : Who) (file block first last at : ℕ) → StoredBy heard entries → slice_get entries place ≡ Some (Entry.S who file block first last at) → at ≤ heard
+stored-at : (heard : ℕ) (entries : List Entry) (place : ℕ) (who : Who) (file block first last at : ℕ) → StoredBy heard entries
+    → slice_get entries place ≡ Some (Entry.S who file block first last at) → at ≤ heard
 stored-at heard [] place who file block first last at s e = absurd (cc)
 stored-at heard (Entry.S w f b m n time ∷ entries) zero who file block first last at s e = let same : time ≡ at = cc in omega (arith, s.0)
-stored-at heard (Entry.S w f b m n time ∷ entries) (suc place) who file block first last at s e = stored-at heard entries place who file block first last at s.1 e
+stored-at heard (Entry.S w f b m n time ∷ entries) (suc place) who file block first last at s e =
+    stored-at heard entries place who file block first last at s.1 e
 stored-at heard (other ∷ entries) zero who file block first last at s e = absurd (cc)
 stored-at heard (other ∷ entries) (suc place) who file block first last at s e = stored-at heard entries place who file block first last at s e
 
@@ -50,7 +52,8 @@ module _ (booted : ℕ) (s : Server) (before : List Entry) (h : HeardWrites s.ph
       stored-later heard s.now before waits.heard_by_now (subst (λ p. HeardWrites p before) p h)
 
   writes-cases : (sender next : ℕ) (d : Datagram) → ServerCases s sender next d (λ t. HeardWrites t.server.phase (t.entries ++ before))
-  unfolding quiet drops says attaches vacates tells_later serves leases decides creates writes_through stores wrote stores_recovering resizes removes puts_off commits keeping keeping_with with_table after_notices
+  unfolding quiet drops says attaches vacates tells_later serves leases decides creates writes_through stores wrote stores_recovering resizes
+      removes puts_off commits keeping keeping_with with_table after_notices
   writes-cases sender next d = record {
     stays = h;
     dropping = λ reason. h;
@@ -72,7 +75,9 @@ module _ (booted : ℕ) (s : Server) (before : List Entry) (h : HeardWrites s.ph
     creating = λ xid who seq blocks name e fresh serves can. h;
     writing_through = λ xid who seq block first last body f e changing below c. served-writes s.phase _ changing.serves;
     storing = λ xid who seq block first last base body f row e changing below can. served-writes s.phase _ changing.serves;
-    storing_recovering = λ xid who seq block first final base body f until heard last e fresh recovers found below boot rev. (omega arith, more-writes until heard last recovers);
+    storing_recovering =
+        λ xid who seq block first final base body f until heard last e fresh recovers found below boot rev.
+        (omega arith, more-writes until heard last recovers);
     resizing = λ xid who seq q blocks f e changing can c. served-writes s.phase _ changing.serves;
     removing = λ xid who seq q f e changing c. served-writes s.phase _ changing.serves;
   }

@@ -63,10 +63,12 @@ none-left p (x ∷ xs) h = by (p x) (none-left p xs) h
     by true rest e = absurd (cc)
     by false rest e = rest e
 
-one-step : (file host : ℕ) (r : Row) (rows : List Row) (b : Bool) → is_row_of file host r ≡ b → find_row r.file r.who.host rows ≡ None → length (filter (is_row_of file host) rows) ≤ 1 → length (if b then r ∷ filter (is_row_of file host) rows else filter (is_row_of file host) rows) ≤ 1
+one-step : (file host : ℕ) (r : Row) (rows : List Row) (b : Bool) → is_row_of file host r ≡ b → find_row r.file r.who.host rows ≡ None
+    → length (filter (is_row_of file host) rows) ≤ 1 → length (if b then r ∷ filter (is_row_of file host) rows else filter (is_row_of file host) rows) ≤ 1
 one-step file host r rows true e none rest =
     let k = of-key file host r e in
-    let empty : filter (is_row_of file host) rows ≡ [] = none-left (is_row_of file host) rows (subst (λ i. find_row i host rows ≡ None) k.0 (subst (λ i. find_row r.file i rows ≡ None) k.1 none)) in
+    let empty : filter (is_row_of file host) rows ≡ [] = none-left (is_row_of file host) rows
+    (subst (λ i. find_row i host rows ≡ None) k.0 (subst (λ i. find_row r.file i rows ≡ None) k.1 none)) in
     subst (λ xs. length (r ∷ xs) ≤ 1) (sym empty) (omega arith)
 one-step file host r rows false e none rest = rest
 
@@ -121,13 +123,15 @@ waiting-first kept longest now = record {
   heard = no-writes (first_boot kept longest now).phase;
 }
 
-waiting-datagram : (booted : ℕ) (s : Server) (before : List Entry) (sender next : ℕ) (d : Datagram) → Waiting booted s before → Waiting booted (step_for s (datagram sender next d)).server ((step_for s (datagram sender next d)).entries ++ before)
+waiting-datagram : (booted : ℕ) (s : Server) (before : List Entry) (sender next : ℕ) (d : Datagram) → Waiting booted s before
+    → Waiting booted (step_for s (datagram sender next d)).server ((step_for s (datagram sender next d)).entries ++ before)
 waiting-datagram booted s before sender next d w = record {
   waits = waits-receive booted s sender next d w.waits;
   heard = writes-receive booted s before w.heard w.waits sender next d;
 }
 
-waiting-ticks : (booted : ℕ) (s : Server) (before : List Entry) (passed : ℕ) → Waiting booted s before → Waiting booted (step_for s (ticks passed)).server ((step_for s (ticks passed)).entries ++ before)
+waiting-ticks : (booted : ℕ) (s : Server) (before : List Entry) (passed : ℕ) → Waiting booted s before
+    → Waiting booted (step_for s (ticks passed)).server ((step_for s (ticks passed)).entries ++ before)
 waiting-ticks booted s before passed w = record {
   waits = waits-tick booted s (s.now + passed) (omega arith) w.waits;
   heard = writes-tick booted s before w.heard w.waits (s.now + passed);
@@ -138,11 +142,14 @@ waiting-crash s longest = record { waits = waits-crash s longest; heard = no-wri
 
 waiting : (s : Server) → Waiting s.now s [] → (came : List Coming) → Waiting (booted_last s came) (server_after s came) (entries_since_boot s came)
 waiting s w [] = w
-waiting s w (datagram sender next d ∷ earlier) = waiting-datagram (booted_last s earlier) (server_after s earlier) (entries_since_boot s earlier) sender next d (waiting s w earlier)
-waiting s w (ticks passed ∷ earlier) = waiting-ticks (booted_last s earlier) (server_after s earlier) (entries_since_boot s earlier) passed (waiting s w earlier)
+waiting s w (datagram sender next d ∷ earlier) =
+    waiting-datagram (booted_last s earlier) (server_after s earlier) (entries_since_boot s earlier) sender next d (waiting s w earlier)
+waiting s w (ticks passed ∷ earlier) =
+    waiting-ticks (booted_last s earlier) (server_after s earlier) (entries_since_boot s earlier) passed (waiting s w earlier)
 waiting s w (crashes longest ∷ earlier) = waiting-crash (server_after s earlier) longest
 
-waits-long : (booted : ℕ) (s : Server) (entries : List Entry) (until heard : ℕ) (last : Option Table) → Waiting booted s entries → s.phase ≡ recovering until heard last → WaitsLong booted s.kept.longest until heard entries
+waits-long : (booted : ℕ) (s : Server) (entries : List Entry) (until heard : ℕ) (last : Option Table) → Waiting booted s entries
+    → s.phase ≡ recovering until heard last → WaitsLong booted s.kept.longest until heard entries
 waits-long booted s entries until heard last w p =
     let waits : Waits booted s.now s.kept.longest until heard = subst (PhaseWaits booted s.now s.kept.longest) p w.waits in
     let stored : StoredBy heard entries = subst (λ p. HeardWrites p entries) p w.heard in
@@ -154,4 +161,6 @@ waits-long booted s entries until heard last w p =
 
 pub recovery-waits : RecoveryWaits
 recovery-waits kept longest now came until heard last p =
-    waits-long (booted_last (first_boot kept longest now) came) (server_after (first_boot kept longest now) came) (entries_since_boot (first_boot kept longest now) came) until heard last (waiting (first_boot kept longest now) (waiting-first kept longest now) came) p
+    waits-long (booted_last (first_boot kept longest now) came) (server_after (first_boot kept longest now) came)
+    (entries_since_boot (first_boot kept longest now) came) until heard last
+    (waiting (first_boot kept longest now) (waiting-first kept longest now) came) p

@@ -48,15 +48,24 @@ abbrev served : Table
 served = (server_after first asked).table
 
 to-go : is_writer_to_go (find_row 1 0 served.rows) ≡ true
-unfolding filled zeros grant_of sharing_row caching_row shared_again renewed_row put_off free put_off_by_own granted no_lease decides creates writes_through stores wrote stores_recovering resizes removes puts_off commits new_file written_file resized_file fenced_file with_row with_files with_new_file quiet drops says after_notices keeping keeping_with with_table attaches tells_later serves leases vacates ends_writing opens at_time boot crash empty_table with_rows after_draw
+unfolding filled zeros grant_of sharing_row caching_row shared_again renewed_row put_off free put_off_by_own granted no_lease decides creates
+    writes_through stores wrote stores_recovering resizes removes puts_off commits new_file written_file resized_file fenced_file with_row with_files
+    with_new_file quiet drops says after_notices keeping keeping_with with_table attaches tells_later serves leases vacates ends_writing opens at_time
+    boot crash empty_table with_rows after_draw
 to-go = refl
 
 recovers : (server_after first (pushed ++ asked)).phase ≡ recovering 68 10 (Some served)
-unfolding filled zeros grant_of sharing_row caching_row shared_again renewed_row put_off free put_off_by_own granted no_lease decides creates writes_through stores wrote stores_recovering resizes removes puts_off commits new_file written_file resized_file fenced_file with_row with_files with_new_file quiet drops says after_notices keeping keeping_with with_table attaches tells_later serves leases vacates ends_writing opens at_time boot crash empty_table with_rows after_draw
+unfolding filled zeros grant_of sharing_row caching_row shared_again renewed_row put_off free put_off_by_own granted no_lease decides creates
+    writes_through stores wrote stores_recovering resizes removes puts_off commits new_file written_file resized_file fenced_file with_row with_files
+    with_new_file quiet drops says after_notices keeping keeping_with with_table attaches tells_later serves leases vacates ends_writing opens at_time
+    boot crash empty_table with_rows after_draw
 recovers = refl
 
 stored : WasStoredAt (entries_since_boot first (pushed ++ asked)) 10
-unfolding filled zeros grant_of sharing_row caching_row shared_again renewed_row put_off free put_off_by_own granted no_lease decides creates writes_through stores wrote stores_recovering resizes removes puts_off commits new_file written_file resized_file fenced_file with_row with_files with_new_file quiet drops says after_notices keeping keeping_with with_table attaches tells_later serves leases vacates ends_writing opens at_time boot crash empty_table with_rows after_draw
+unfolding filled zeros grant_of sharing_row caching_row shared_again renewed_row put_off free put_off_by_own granted no_lease decides creates
+    writes_through stores wrote stores_recovering resizes removes puts_off commits new_file written_file resized_file fenced_file with_row with_files
+    with_new_file quiet drops says after_notices keeping keeping_with with_table attaches tells_later serves leases vacates ends_writing opens at_time
+    boot crash empty_table with_rows after_draw
 stored = record { place = 0; who = writer; file = 1; block = 0; first = 1; last = 1; there = refl }
 
 pub recoveries-are-met : RecoveriesAreMet

@@ -12,7 +12,7 @@ use Rattle.nq_base.specs.declared.Said.TheVariants.{Ok}
 use Rattle.nq_base.specs.declared.Told.{Told}
 use Rattle.nq_base.specs.declared.Who.{Who}
 use Rattle.nq_model.specs.Client.{UnderWay, is_push_of, push_passes, losses_of, is_clean_in}
-use Rattle.nq_model.specs.ClientStep.{told}
+use Rattle.nq_base.specs.Calls.{told}
 use Rattle.nq_model.specs.Journal.{Exists, Somewhere, Stores, IsStored}
 use Rattle.nq_model.specs.Reported.{Names, loss_told}
 use Rattle.nq_model.specs.Synchronized.{IsDelayedOn, IsNamedLoss, IsStoredOrTold, AreStoredOrTold, IsPutKept, IsKept}

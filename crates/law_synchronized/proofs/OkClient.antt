@@ -16,7 +16,8 @@ use Rattle.walk_client.proofs.ClientFacts.{Alone}
 use Rattle.walk_client.proofs.ClientMoves.{some-same, none-some}
 use Rattle.walk_fates.proofs.ServerTells.{Tells}
 use Rattle.nq_model.specs.Client.{Client, ClientStep, for_call, Ticket, UnderWay, begun, losses_of}
-use Rattle.nq_model.specs.ClientStep.{told, begins_call, is_called, sends_unless_cached, says_busy, losses_for, changed_file, client_call, at_time, sends_again, client_tick, fresh_client, starts, next_incarnation, restart}
+use Rattle.nq_model.specs.ClientStep.{begins_call, is_called, sends_unless_cached, says_busy, losses_for, changed_file, client_call, at_time, sends_again, client_tick, fresh_client, starts, next_incarnation, restart}
+use Rattle.nq_base.specs.Calls.{told}
 use Rattle.nq_model.specs.Hear.{inc_of, replied, cancels, evicted, hear}
 use Rattle.nq_model.specs.Ordered.{HasOpen, IsOpenCall}
 use Rattle.nq_promises.specs.BusyIsSaidAtOnce.{IsStartOf}

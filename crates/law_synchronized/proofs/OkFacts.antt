@@ -14,7 +14,7 @@ use Rattle.walk_calls.proofs.CallsFit.{entry_who}
 use Rattle.walk_client.proofs.SettleCases.{IsRead}
 use Rattle.walk_client.proofs.ClientMoves.{none-some}
 use Rattle.nq_model.specs.Client.{Client, ClientStep, for_call, Ticket, UnderWay, losses_of, is_clean_in}
-use Rattle.nq_model.specs.ClientStep.{told}
+use Rattle.nq_base.specs.Calls.{told}
 use Rattle.nq_model.specs.Journal.{Exists, Throughout, Somewhere, IsOpen, call_of, IsWriteBy, IsThrough}
 use Rattle.nq_model.specs.Message.{sequence_of}
 use Rattle.nq_model.specs.Reported.{Names}

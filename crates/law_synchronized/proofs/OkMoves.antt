@@ -12,7 +12,7 @@ use Rattle.walk_calls.proofs.CallsFit.{entry_who}
 use Rattle.walk_client.proofs.ClientMoves.{some-same, none-some}
 use Rattle.nq_model.proofs.Lists.{each-map}
 use Rattle.nq_model.specs.Client.{UnderWay, is_push_of, is_push_at, first_dirty, drop_dirty, dirty_at}
-use Rattle.nq_model.specs.ClientStep.{told}
+use Rattle.nq_base.specs.Calls.{told}
 use Rattle.nq_model.specs.Hear.{loss_entry, push_of}
 use Rattle.nq_model.specs.Journal.{Exists, Somewhere, IsAnswer}
 use Rattle.nq_model.specs.Settle.{overwritten, overwritten_at, with_write}

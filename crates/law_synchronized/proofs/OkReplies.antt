@@ -24,7 +24,7 @@ use Rattle.walk_client.proofs.ClientFacts.{fits_job}
 use Rattle.walk_client.proofs.ClientMoves.{some-same, none-some, keeps-or-cancels}
 use Rattle.walk_fates.proofs.ServerTells.{Tells, later, decided}
 use Rattle.nq_model.specs.Client.{Client, ClientStep, for_call, Ticket, UnderWay, Notice, begun, notice_on}
-use Rattle.nq_model.specs.ClientStep.{told}
+use Rattle.nq_base.specs.Calls.{told}
 use Rattle.nq_model.specs.Decide.{verdict_reply}
 use Rattle.nq_model.specs.Hear.{vacates_lease, vacates_noticed, loses, reports, without_lease, push_refused, breaks_chain, if_broken, holds, takes_grant, takes_optional, answers_call, caches_block, purges, knows_revision, then_caches, read_done, marks_through, lease_done, caches_write, write_done, ends_push, caches_push, push_done, answer_of, spends, attached, pauses, replied, reply_counts, waits_for, counts_for_call, is_put_off, cancels, notes_notice, evicted}
 use Rattle.nq_model.specs.Journal.{Somewhere}

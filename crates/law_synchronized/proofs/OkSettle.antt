@@ -17,7 +17,7 @@ use Rattle.walk_client.proofs.SendCases.{pushed, send-cases}
 use Rattle.walk_client.proofs.SettleCases.{IsSettling, IsRead, IsWrite, IsSync, of_sync, of_put, settle-cases}
 use Rattle.walk_client.proofs.ClientMoves.{some-same, none-some}
 use Rattle.nq_model.specs.Client.{ClientStep, Job, for_call, renewing, Ticket, UnderWay, first_dirty, drop_dirty, is_clean, is_push_of}
-use Rattle.nq_model.specs.ClientStep.{told}
+use Rattle.nq_base.specs.Calls.{told}
 use Rattle.nq_model.specs.Journal.{Throughout, Somewhere, IsOpen, call_of}
 use Rattle.nq_model.specs.Legal.{IsReading}
 use Rattle.nq_model.specs.Message.{sequence_of}

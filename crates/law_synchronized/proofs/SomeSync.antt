@@ -10,7 +10,7 @@ use Rattle.nq_model.specs.Journal.{Exists, call_of}
 use Rattle.nq_model.specs.ServerStep.{at_time as at_server_time}
 use Rattle.nq_model.specs.World.{Head, run}
 use Rattle.law_synchronized.specs.Met.{IsOk, IsDelayedAndStored, IsSyncedOnce}
-use Rattle.walk_entries.proofs.GivenRuns.{given-run}
+use Rattle.walk_run.proofs.GivenRuns.{given-run}
 
 -- one host, one file of one block
 abbrev one-host : Head

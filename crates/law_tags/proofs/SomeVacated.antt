@@ -24,7 +24,7 @@ use Rattle.nq_model.specs.World.{from_host, run}
 use Rattle.nq_model.specs.ClientStep.{attached_client}
 use Rattle.nq_model.specs.Hear.{is_reply_to}
 use Rattle.nq_model.specs.ServerStep.{leases, boot}
-use Rattle.walk_entries.proofs.GivenRuns.{given-run}
+use Rattle.walk_run.proofs.GivenRuns.{given-run}
 
 -- host 0 reads; host 1 wants to cut the file, so host 0 is told to give its lease up, and does; it reads again, and then
 -- wants to write; the newest event first

@@ -12,7 +12,8 @@ use Rattle.nq_base.specs.declared.Said.{Said}
 use Rattle.nq_base.specs.declared.Told.{Told}
 use Rattle.nq_base.specs.declared.Who.{Who}
 use Rattle.nq_model.specs.Client.{Client, ClientStep, for_call, Ticket, UnderWay}
-use Rattle.nq_model.specs.ClientStep.{told, client_call, client_tick, restart}
+use Rattle.nq_model.specs.ClientStep.{client_call, client_tick, restart}
+use Rattle.nq_base.specs.Calls.{told}
 use Rattle.nq_model.specs.Hear.{hear, inc_of}
 use Rattle.nq_model.specs.Journal.{Throughout, call_of}
 use Rattle.nq_model.specs.Kept.{host_row}

@@ -10,7 +10,7 @@ use Rattle.nq_model.specs.Server.{to_host}
 use Rattle.nq_model.specs.ServerStep.{at_time as at_time_of_serverstep, boot, crash}
 use Rattle.nq_model.specs.World.{Head, run}
 use Rattle.law_told.specs.Met.{TellingsAreMet}
-use Rattle.walk_entries.proofs.GivenRuns.{given-run}
+use Rattle.walk_run.proofs.GivenRuns.{given-run}
 
 -- one host, and no file
 abbrev one-host : Head

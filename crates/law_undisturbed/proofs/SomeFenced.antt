@@ -22,7 +22,7 @@ use Rattle.walk_server.proofs.Tests.{some-is}
 use Rattle.law_undisturbed.proofs.BoundOrFenced.{bound-or-fenced-in-every-run}
 use Rattle.nq_promises.specs.WritesAreUndisturbed.{IsBoundAndDue, IsFencedAt, IsUncovered}
 use Rattle.law_undisturbed.specs.Met.{BoundAndFencedAreMet}
-use Rattle.walk_entries.proofs.GivenRuns.{given-run}
+use Rattle.walk_run.proofs.GivenRuns.{given-run}
 
 -- the delayed write
 abbrev push : Push

@@ -1,4 +1,5 @@
 pub mod Block
+pub mod Calls
 pub mod Content
 pub mod Entries
 pub mod Lists

@@ -1,6 +1,10 @@
 //! What users call, and the events of a schedule.
 
+ghost use Rattle.std.specs.Prelude.{◌≡◌};
+ghost use Rattle.nq_base.specs.Calls.{told};
+
 use crate::blocks::Block;
+use crate::entries::Told;
 use crate::names::Name;
 use crate::numbers::{BlockNo, FileId, Host};
 
@@ -55,6 +59,46 @@ pub enum Call {
     Remove {
         file: FileId,
     },
+}
+
+impl Call {
+    /// The call as a journal tells it: a body by its value.
+    pub fn told(&self) -> Told
+        ensures { result ≡ told self.now }
+    {
+        match self {
+            Call::Create { name, blocks } => Told::Create {
+                name: *name,
+                blocks: *blocks,
+            },
+            Call::Lookup { name } => Told::Lookup { name: *name },
+            Call::Attr { file } => Told::Attr { file: *file },
+            Call::Read { file, block } => Told::Read {
+                file: *file,
+                block: *block,
+            },
+            Call::Fetch { file, block } => Told::Fetch {
+                file: *file,
+                block: *block,
+            },
+            Call::Write { file, block, body } => Told::Write {
+                file: *file,
+                block: *block,
+                value: body.value(),
+            },
+            Call::WriteSync { file, block, body } => Told::WriteSync {
+                file: *file,
+                block: *block,
+                value: body.value(),
+            },
+            Call::Sync { file } => Told::Sync { file: *file },
+            Call::Resize { file, blocks } => Told::Resize {
+                file: *file,
+                blocks: *blocks,
+            },
+            Call::Remove { file } => Told::Remove { file: *file },
+        }
+    }
 }
 
 /// One atomic step at one host.

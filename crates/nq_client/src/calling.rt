@@ -2,7 +2,8 @@
 
 ghost use Rattle.std.specs.Prelude.{◌≡◌, ◌≤◌, ◌<◌, ◌+◌, ◌^◌, map, false, IfOk};
 ghost use Rattle.nq_model.specs.Client.{begun, losses_of, span_of};
-ghost use Rattle.nq_model.specs.ClientStep.{begins_call, call_freely, changed_file, client_call, is_called, losses_for, says_busy, tell_losses, told};
+ghost use Rattle.nq_model.specs.ClientStep.{begins_call, call_freely, changed_file, client_call, is_called, losses_for, says_busy, tell_losses};
+ghost use Rattle.nq_base.specs.Calls.{told};
 ghost use Rattle.nq_model.specs.Settle.{names_losses};
 ghost use Rattle.nq_client.specs.Finishing.{HasRooms};
 ghost use Rattle.nq_client.specs.Step.{HasNumbers, HasRoom, step_of};
@@ -14,7 +15,7 @@ use crate::losses::spans_of;
 use crate::rooms::Rooms;
 use crate::state::{State, UnderWay};
 use crate::step::Step;
-use nq_base::{Answer, Call, Entry, FileId, Losses, NoMemory, Said, Spans, Told};
+use nq_base::{Answer, Call, Entry, FileId, Losses, NoMemory, Said, Spans};
 use std::alloc::Global;
 
 /// The losses that a call is told before anything else, as its answer and as a journal names them.
@@ -51,44 +52,6 @@ fn changed_file(call: &Call) -> Option<FileId>
         | Call::Attr { .. }
         | Call::Read { .. }
         | Call::Fetch { .. } => None,
-    }
-}
-
-/// A call as a journal tells it.
-fn told(call: &Call) -> Told
-    ensures { result ≡ told call.now }
-{
-    match call {
-        Call::Create { name, blocks } => Told::Create {
-            name: *name,
-            blocks: *blocks,
-        },
-        Call::Lookup { name } => Told::Lookup { name: *name },
-        Call::Attr { file } => Told::Attr { file: *file },
-        Call::Read { file, block } => Told::Read {
-            file: *file,
-            block: *block,
-        },
-        Call::Fetch { file, block } => Told::Fetch {
-            file: *file,
-            block: *block,
-        },
-        Call::Write { file, block, body } => Told::Write {
-            file: *file,
-            block: *block,
-            value: body.value(),
-        },
-        Call::WriteSync { file, block, body } => Told::WriteSync {
-            file: *file,
-            block: *block,
-            value: body.value(),
-        },
-        Call::Sync { file } => Told::Sync { file: *file },
-        Call::Resize { file, blocks } => Told::Resize {
-            file: *file,
-            blocks: *blocks,
-        },
-        Call::Remove { file } => Told::Remove { file: *file },
     }
 }
 
@@ -175,7 +138,7 @@ impl Step {
         self.entries.note(Entry::C {
             who: self.state.who,
             q: self.state.calls,
-            told: told(call),
+            told: call.told(),
         });
     }
 

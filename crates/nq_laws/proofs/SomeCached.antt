@@ -11,7 +11,7 @@ use Rattle.nq_model.specs.ClientStep.{attached_client}
 use Rattle.nq_model.specs.Hear.{attached}
 use Rattle.nq_model.specs.ServerStep.{boot}
 use Rattle.nq_model.specs.World.{run}
-use Rattle.walk_entries.proofs.GivenRuns.{given-run}
+use Rattle.walk_run.proofs.GivenRuns.{given-run}
 
 -- the first host's client after it
 reader : Client

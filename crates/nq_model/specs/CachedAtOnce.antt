@@ -7,7 +7,8 @@ use Rattle.nq_base.specs.declared.Entry.{Entry}
 use Rattle.nq_base.specs.declared.Said.{Said}
 use Rattle.nq_base.specs.declared.Value.{Value}
 use Rattle.nq_model.specs.Client.{Lease, Client, ClientStep, lease_on, lets_read}
-use Rattle.nq_model.specs.ClientStep.{client_call, told}
+use Rattle.nq_model.specs.ClientStep.{client_call}
+use Rattle.nq_base.specs.Calls.{told}
 use Rattle.nq_model.specs.Settle.{cached_body, ticket_is_for_call, after_read}
 
 -- a client is attached and has no call under way, holds a caching lease that runs by its own clock, and has the block:

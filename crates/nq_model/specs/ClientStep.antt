@@ -1,6 +1,6 @@
 -- The client's step: a call, a tick, a start.
 use Rattle.std.specs.Prelude.{ℕ, ◌+◌, true, false, not, ◌||◌, List, [], ◌∷◌, ◌++◌, Option, Some, None, nat_le, is_some, if◌then◌else◌}
-use Rattle.nq_base.specs.Block.{value_of}
+use Rattle.nq_base.specs.Calls.{told}
 use Rattle.nq_base.specs.declared.Answer.{Answer}
 use Rattle.nq_base.specs.declared.Call.{Call}
 use Rattle.nq_base.specs.declared.Call.TheVariants.{Create, Lookup, Attr, Read, Fetch, Write, WriteSync, Sync, Resize, Remove}
@@ -15,19 +15,6 @@ use Rattle.nq_model.specs.Message.{call}
 use Rattle.nq_model.specs.Profile.{patience}
 use Rattle.nq_model.specs.Send.{send_next}
 use Rattle.nq_model.specs.Settle.{names_losses, settle}
-
--- a call as a journal tells it
-abbrev pub told : Call → Told
-told (Create name blocks) = Told.Create name blocks
-told (Lookup name) = Told.Lookup name
-told (Attr file) = Told.Attr file
-told (Read file block) = Told.Read file block
-told (Fetch file block) = Told.Fetch file block
-told (Write file block body) = Told.Write file block (value_of body)
-told (WriteSync file block body) = Told.WriteSync file block (value_of body)
-told (Sync file) = Told.Sync file
-told (Resize file blocks) = Told.Resize file blocks
-told (Remove file) = Told.Remove file
 
 -- the file whose losses a call is told, if it changes or syncs one
 abbrev pub changed_file : Call → Option ℕ

@@ -65,10 +65,6 @@ most_taken_by_server = 2305843009213693952
 abbrev pub most_taken_by_client : ℕ
 most_taken_by_client = 1073741824
 
--- the number of the last boot that a server can have
-abbrev pub most_boots : ℕ
-most_boots = 4294967295
-
 -- the kept incarnations, sequences and revisions are below these ends, so that an image can have them
 abbrev pub inc_end : ℕ
 inc_end = 2147483648

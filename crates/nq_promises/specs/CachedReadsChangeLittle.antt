@@ -7,7 +7,7 @@ use Rattle.nq_base.specs.declared.Entry.{Entry}
 use Rattle.nq_base.specs.declared.Event.{Event}
 use Rattle.nq_base.specs.declared.Said.{Said}
 use Rattle.nq_model.specs.Client.{Client, Lease, lease_on, clean_at}
-use Rattle.nq_model.specs.ClientStep.{told}
+use Rattle.nq_base.specs.Calls.{told}
 use Rattle.nq_model.specs.World.{Head, World, run}
 use Rattle.nq_model.specs.CachedAtOnce.{HasCached}
 

@@ -13,7 +13,7 @@ use Rattle.nq_base.specs.declared.Told.{Told}
 use Rattle.nq_words.specs.Forms.{HasTold}
 use Rattle.nq_journal.specs.Text.{Has}
 use Rattle.nq_model.proofs.Lists.{each-append}
-use Rattle.nq_model.specs.ClientStep.{told}
+use Rattle.nq_base.specs.Calls.{told}
 use Rattle.nq_model.specs.Journal.{Each}
 use Rattle.nq_model.specs.Kept.{Kept}
 use Rattle.nq_model.specs.Stepped.{most_events, stepped}

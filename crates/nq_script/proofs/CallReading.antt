@@ -8,7 +8,7 @@ use Rattle.nq_base.specs.declared.Call.{Call}
 use Rattle.nq_base.specs.declared.Told.{Told}
 use Rattle.nq_base.proofs.Filling.{filled-value}
 use Rattle.nq_base.proofs.Options.{bind_some}
-use Rattle.nq_script.specs.Calls.{FitsCall, HasCall, IsFilled, IsFilledCall, SpellsCall, call_of, call_words, told_as}
+use Rattle.nq_script.specs.Calls.{FitsCall, HasCall, IsFilled, IsFilledCall, SpellsCall, call_of, call_words}
 use Rattle.nq_script.specs.Reading.{either, after, number_then, told_of}
 use Rattle.nq_script.specs.Text.{spaced}
 use Rattle.nq_script.proofs.CallWords.{spaced-joined}
@@ -19,6 +19,7 @@ use Rattle.nq_words.specs.Reading.{cut as cut_at, u32_of}
 use Rattle.nq_words.proofs.Again.{told_spelled}
 use Rattle.nq_words.proofs.Found.{told_read}
 use Rattle.nq_words.proofs.Numerals.{u32_again, u32_found}
+use Rattle.nq_base.specs.Calls.{told}
 
 -- what a choice gives comes of the one or, where that is not there, of the other
 pub either-found : {A B : Type 0} (o : Option A) (f : A → Option B) (other : Option B) (y : B) → either o f other ≡ Some y
@@ -65,7 +66,7 @@ filled-same body is =
 
 -- ---- from what is told to the call
 
-told-called : (told : Told) → told ≡ told_as (call_of told)
+told-called : (told : Told) → told ≡ told (call_of told)
 told-called (Told.Create name blocks) = refl
 told-called (Told.Lookup name) = refl
 told-called (Told.Attr file) = refl
@@ -98,7 +99,7 @@ told-found version words told e =
 
 -- ---- from a call to what is told
 
-told-of-call : (version : ℕ) (call : Call) → HasCall version call → FitsCall call → HasTold version (told_as call) × FitsTold (told_as call)
+told-of-call : (version : ℕ) (call : Call) → HasCall version call → FitsCall call → HasTold version (told call) × FitsTold (told call)
 told-of-call version (Call.Create name blocks) has fits = (tt, fits)
 told-of-call version (Call.Lookup name) has fits = (tt, fits)
 told-of-call version (Call.Attr file) has fits = (tt, fits)
@@ -111,7 +112,7 @@ told-of-call version (Call.Resize file blocks) has fits = (has, fits)
 told-of-call version (Call.Remove file) has fits = (has, fits)
 
 -- what is told of a call with a filled block, if it has one, is enough to make it again
-pub call-filled : (call : Call) → IsFilledCall call → call_of (told_as call) ≡ call
+pub call-filled : (call : Call) → IsFilledCall call → call_of (told call) ≡ call
 call-filled (Call.Create name blocks) is = refl
 call-filled (Call.Lookup name) is = refl
 call-filled (Call.Attr file) is = refl
@@ -140,8 +141,8 @@ pub told-again : (version : ℕ) (call : Call) (words : List ℕ) → SpellsCall
     → (told : Told) × (told_of version words ≡ Some told) × (call_of told ≡ call)
 told-again version call words s =
     let told = told-of-call version call s.0 s.1 in
-    let spelled : SpellsTold version (told_as call) words = (told.0, told.1, s.2 ∙ spaced-joined (call_words call)) in
-    (told_as call, told_spelled version (told_as call) words spelled, call-filled call (has-filled version call s.0))
+    let spelled : SpellsTold version (told call) words = (told.0, told.1, s.2 ∙ spaced-joined (call_words call)) in
+    (told call, told_spelled version (told call) words spelled, call-filled call (has-filled version call s.0))
 
 -- what is read is the one call that is spelled
 pub told-same : (version : ℕ) (words : List ℕ) (told : Told) (call : Call) → told_of version words ≡ Some told → SpellsCall version call words → call_of told ≡ call

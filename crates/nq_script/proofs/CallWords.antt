@@ -2,10 +2,11 @@
 use Rattle.std.proofs.Common.{◌≡◌, ℕ, List, [], ◌∷◌, ◌++◌, refl, ap, sym, ◌∙◌, append-nil}
 use Rattle.std.specs.List.{flat_map}
 use Rattle.nq_base.specs.declared.Call.{Call}
-use Rattle.nq_script.specs.Calls.{FitsCall, call_words, told_as}
+use Rattle.nq_script.specs.Calls.{FitsCall, call_words}
 use Rattle.nq_script.specs.Text.{spaced}
 use Rattle.nq_words.specs.Forms.{FitsTold, told_words}
 use Rattle.nq_words.specs.Words.{joined}
+use Rattle.nq_base.specs.Calls.{told}
 
 -- a word in front of the words of a call, with a blank between
 pub spaced-call : (word : List ℕ) (call : Call) → spaced (word ∷ call_words call) ≡ word ++ 32 ∷ spaced (call_words call)
@@ -28,10 +29,10 @@ spaced-joined (word ∷ []) = sym (append-nil word)
 spaced-joined (word ∷ next ∷ words) = ap (λ t. word ++ 32 ∷ t) (spaced-joined (next ∷ words))
 
 -- the text of what is told of a call is that of the call
-pub call_spaced : (call : Call) → joined (told_words (told_as call)) ≡ spaced (call_words call)
+pub call_spaced : (call : Call) → joined (told_words (told call)) ≡ spaced (call_words call)
 call_spaced call = sym (spaced-joined (call_words call))
 
-pub call_fits : (call : Call) → FitsTold (told_as call) → FitsCall call
+pub call_fits : (call : Call) → FitsTold (told call) → FitsCall call
 call_fits (Call.Create name blocks) fits = fits
 call_fits (Call.Lookup name) fits = fits
 call_fits (Call.Attr file) fits = fits

@@ -6,6 +6,7 @@ use Rattle.nq_base.specs.declared.Call.{Call}
 use Rattle.nq_base.specs.declared.Told.{Told}
 use Rattle.nq_script.specs.Text.{spaced}
 use Rattle.nq_words.specs.Forms.{told_words}
+use Rattle.nq_base.specs.Calls.{told}
 
 -- a body that a word can tell: a block filled with a number below 2 ^ 32
 abbrev pub IsFilled : (body : List ℕ) → Type 0
@@ -17,22 +18,9 @@ IsFilledCall (Call.Write file block body) = IsFilled body
 IsFilledCall (Call.WriteSync file block body) = IsFilled body
 IsFilledCall other = Unit {0}
 
--- the call as words tell it: a body by its value
-abbrev pub told_as : Call → Told
-told_as (Call.Create name blocks) = Told.Create name blocks
-told_as (Call.Lookup name) = Told.Lookup name
-told_as (Call.Attr file) = Told.Attr file
-told_as (Call.Read file block) = Told.Read file block
-told_as (Call.Fetch file block) = Told.Fetch file block
-told_as (Call.Write file block body) = Told.Write file block (value_of body)
-told_as (Call.WriteSync file block body) = Told.WriteSync file block (value_of body)
-told_as (Call.Sync file) = Told.Sync file
-told_as (Call.Resize file blocks) = Told.Resize file blocks
-told_as (Call.Remove file) = Told.Remove file
-
 -- the words of a call; a body is told by its value
 abbrev pub call_words : Call → List (List ℕ)
-call_words call = told_words (told_as call)
+call_words call = told_words (told call)
 
 -- a call that a version can tell: its body is a filled block, and only version 2 has resizes and removals
 abbrev pub HasCall : (version : ℕ) → Call → Type 0

@@ -1,7 +1,7 @@
 //! Calls, which have a block where words tell its value.
 
 ghost use Rattle.std.specs.Prelude.{◌≡◌, ◌≢◌};
-ghost use Rattle.nq_script.specs.Calls.{call_of, told_as, SpellsCall};
+ghost use Rattle.nq_script.specs.Calls.{call_of, SpellsCall};
 ghost use Rattle.nq_base.specs.declared.Call.{Call};
 ghost use Rattle.nq_base.specs.declared.Told.{Told};
 ghost use Rattle.nq_script.specs.Faults.{Answers};
@@ -35,44 +35,6 @@ pub(crate) fn call_of(told: &Told) -> Call
         Told::Sync { file } => Call::Sync { file },
         Told::Resize { file, blocks } => Call::Resize { file, blocks },
         Told::Remove { file } => Call::Remove { file },
-    }
-}
-
-/// The call as words tell it: a body by its value.
-pub(crate) fn told_as(call: &Call) -> Told
-    ensures { result ≡ told_as call.now }
-{
-    match call {
-        Call::Create { name, blocks } => Told::Create {
-            name: *name,
-            blocks: *blocks,
-        },
-        Call::Lookup { name } => Told::Lookup { name: *name },
-        Call::Attr { file } => Told::Attr { file: *file },
-        Call::Read { file, block } => Told::Read {
-            file: *file,
-            block: *block,
-        },
-        Call::Fetch { file, block } => Told::Fetch {
-            file: *file,
-            block: *block,
-        },
-        Call::Write { file, block, body } => Told::Write {
-            file: *file,
-            block: *block,
-            value: body.value(),
-        },
-        Call::WriteSync { file, block, body } => Told::WriteSync {
-            file: *file,
-            block: *block,
-            value: body.value(),
-        },
-        Call::Sync { file } => Told::Sync { file: *file },
-        Call::Resize { file, blocks } => Told::Resize {
-            file: *file,
-            blocks: *blocks,
-        },
-        Call::Remove { file } => Told::Remove { file: *file },
     }
 }
 

@@ -7,7 +7,6 @@ ghost use Rattle.nq_script.specs.Heads.{FitsHead, file_line, head_lines, longest
 ghost use Rattle.nq_script.specs.Lines.{HasEvent, HasLine, FitsEvent, SpellsEvent, TellsLine, event_words, longest_words};
 ghost use Rattle.nq_script.specs.Text.{IsVersion, spaced, text_of};
 
-use crate::calls::told_as;
 use crate::heads::Head;
 use crate::lines::Line;
 use nq_base::{Call, Event, FileList, Name, NoMemory};
@@ -26,7 +25,7 @@ fn append_call(text: &mut Vec<u8>, call: &Call) -> Result<(), NoMemory>
     ensures written { OnOk result (text.new.items ≡ text.old.items ++ spaced (call_words call.now)) }
     ensures fits { OnOk result (FitsCall call.now) }
 {
-    push_told(text, &told_as(call))
+    push_told(text, &call.told())
 }
 
 /// Appends the words of an event, so many times over.

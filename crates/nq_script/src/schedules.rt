@@ -6,7 +6,7 @@ ghost use Rattle.nq_script.specs.Calls.{IsFilledCall};
 ghost use Rattle.nq_script.specs.Lines.{HasEvent, IsFilledEvent, SpellsEvent};
 ghost use Rattle.nq_script.specs.Text.{text_of};
 
-use crate::calls::{call_of, told_as};
+use crate::calls::call_of;
 use crate::print::append_event_line;
 use nq_base::{Call, Event, NoMemory};
 use std::alloc::Global;
@@ -143,5 +143,5 @@ fn filled_call(call: &Call) -> Call
     requires { IsFilledCall call.now }
     ensures { result ≡ call.now }
 {
-    call_of(&told_as(call))
+    call_of(&call.told())
 }

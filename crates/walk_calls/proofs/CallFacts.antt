@@ -16,7 +16,7 @@ use Rattle.walk_calls.proofs.Entries.{entry_who, entry_call, entry_number, IsOpe
 use Rattle.walk_calls.proofs.Placed.{IsCachedBy, Placed, Spaced, call-told}
 use Rattle.walk_calls.proofs.Quiet.{IsNoCall, open-more, open-before, OpenFits, ReadFits}
 use Rattle.nq_model.specs.Client.{UnderWay, for_call, Ticket}
-use Rattle.nq_model.specs.ClientStep.{told}
+use Rattle.nq_base.specs.Calls.{told}
 use Rattle.nq_model.specs.Journal.{Each, Exists, Throughout, AtEachPlace, IsCall, IsAnswer, IsOpen, call_of, told_by}
 use Rattle.nq_model.specs.Message.{Message, call, asker, sequence_of}
 use Rattle.nq_model.specs.Ordered.{IsCallBelow, HasOpen, IsOpenCall, IsBusyNext, IsBeforeCall, IsNumbered, IsResizeBy}

@@ -14,7 +14,7 @@ use Rattle.walk_calls.proofs.CallFacts.{CallsAt, IsBounded, NoneDone, IsPut, Pen
 use Rattle.walk_calls.proofs.Quiet.{IsNoChange, IsQuiet, told-more, before-more, OpenFits, open-fits-more, ReadFits, read-fits-more}
 use Rattle.walk_client.proofs.ClientMoves.{some-same, none-some}
 use Rattle.nq_model.specs.Client.{UnderWay, for_call, Ticket}
-use Rattle.nq_model.specs.ClientStep.{told}
+use Rattle.nq_base.specs.Calls.{told}
 use Rattle.nq_model.specs.Journal.{Exists, Throughout, IsCall, IsAnswer, IsOpen}
 use Rattle.nq_model.specs.Message.{Message, call, asker, sequence_of}
 use Rattle.nq_model.specs.Ordered.{Writes, Resizes, IsBeforeCall, IsNumbered, IsResizeBy, IsWriteInOrder, IsResizeInOrder}

@@ -26,7 +26,8 @@ use Rattle.walk_client.proofs.StepCases.{call-cases, unless-cached-cases, tick-c
 use Rattle.walk_client.proofs.ClientFacts.{Alone}
 use Rattle.walk_client.proofs.ClientMoves.{some-same, none-some}
 use Rattle.nq_model.specs.Client.{Client, ClientStep, begun, losses_of, loss_list}
-use Rattle.nq_model.specs.ClientStep.{told, begins_call, is_called, says_busy, client_call, at_time, client_tick, next_incarnation, fresh_client, starts, restart}
+use Rattle.nq_model.specs.ClientStep.{begins_call, is_called, says_busy, client_call, at_time, client_tick, next_incarnation, fresh_client, starts, restart}
+use Rattle.nq_base.specs.Calls.{told}
 use Rattle.nq_model.specs.Hear.{inc_of, cancels, evicted, goes_on, replied, hear}
 use Rattle.nq_model.specs.Journal.{Exists, IsCall, IsAnswer, IsOpen}
 use Rattle.nq_model.specs.Message.{Message, call, reply}

@@ -23,7 +23,7 @@ use Rattle.walk_client.proofs.SendCases.{send-cases, pushed}
 use Rattle.walk_client.proofs.SettleCases.{IsRead, IsSettling, settle-cases}
 use Rattle.walk_client.proofs.ClientMoves.{some-same, none-some}
 use Rattle.nq_model.specs.Client.{ClientStep, UnderWay, Job, for_call, Ticket}
-use Rattle.nq_model.specs.ClientStep.{told}
+use Rattle.nq_base.specs.Calls.{told}
 use Rattle.nq_model.specs.Journal.{Exists, IsAnswer, IsOpen, call_of}
 use Rattle.nq_model.specs.OfTheirCall.{Reads}
 use Rattle.nq_model.specs.Ordered.{Writes, Resizes, IsWriteInOrder, IsResizeInOrder}

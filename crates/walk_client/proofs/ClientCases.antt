@@ -86,7 +86,8 @@ pub record Closed (Heard : ℕ → Tag → Type 0) (Given : ℕ → Grant → �
   pub asks : (k : Core) (job : Job) (request : Request) → sequence_of request ≡ None → CanSend k job request → P k → P (after_request k job request)
   pub decides : (k : Core) (job : Job) (request : Request) → sequence_of request ≡ Some k.seq → CanSend k job request → P k → P (after_decided k job request)
   pub again : (k : Core) (t : Ticket) → k.ticket ≡ Some t → P k → P (after_again k t)
-  pub holds : (k : Core) (file : ℕ) (g : Grant) (sent : ℕ) → Given file g sent → k.ticket ≡ None → notice_on file k.notices ≡ None → P k → P (record k { leases = put_lease (granted_lease file g sent) k.leases })
+  pub holds : (k : Core) (file : ℕ) (g : Grant) (sent : ℕ) → Given file g sent → k.ticket ≡ None → notice_on file k.notices ≡ None → P k
+      → P (record k { leases = put_lease (granted_lease file g sent) k.leases })
   pub cancels : (k : Core) (file : ℕ) → P k → P (record k { ticket = cancelled file k.ticket })
   pub notes : (k : Core) (file : ℕ) (tag : Tag) → Heard file tag → P k → P (record k { notices = with_notice file tag k.notices })
 

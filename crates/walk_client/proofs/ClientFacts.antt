@@ -70,7 +70,8 @@ pub record IsLease (now : ℕ) (l : Lease) : Type 0 where
   pub past : l.expiry ≤ now + l.term
 
 -- the client's call, request, leases and notices
-pub record Asking (who : Who) (now : ℕ) (attached : Bool) (call : Option UnderWay) (ticket : Option Ticket) (xid seq : ℕ) (leases : List Lease) (notices : List Notice) : Type 0 where
+pub record Asking (who : Who) (now : ℕ) (attached : Bool) (call : Option UnderWay) (ticket : Option Ticket) (xid seq : ℕ) (leases : List Lease)
+    (notices : List Notice) : Type 0 where
   pub ticketed : (t : Ticket) → ticket ≡ Some t → IsTicket who now xid seq t
   pub waiting : attached ≡ false → IsWaiting call ticket leases notices
   pub attaching : (t : Ticket) → ticket ≡ Some t → t.job ≡ Job.attaching → attached ≡ false

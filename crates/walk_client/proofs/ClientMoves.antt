@@ -16,12 +16,15 @@ pub none-some : {A : Type 0} {B : Type 0} (x : A) → None ≡ Some x → B
 none-some x h = cc
 
 -- a client with a call, a lease or a notice is attached
-pub attached-with-call : {who : Who} {now xid seq : ℕ} {attached : Bool} {call : Option UnderWay} {ticket : Option Ticket} {leases : List Lease} {notices : List Notice} → Asking who now attached call ticket xid seq leases notices → (u : UnderWay) → call ≡ Some u → attached ≡ true
+pub attached-with-call : {who : Who} {now xid seq : ℕ} {attached : Bool} {call : Option UnderWay} {ticket : Option Ticket} {leases : List Lease}
+    {notices : List Notice} → Asking who now attached call ticket xid seq leases notices → (u : UnderWay) → call ≡ Some u → attached ≡ true
 attached-with-call {attached = true} h u e = refl
 attached-with-call {attached = false} h u e = let w = h.waiting refl in none-some u (sym w.idle ∙ e)
 
 -- a client whose request is not to attach, or that has none, is attached
-pub attached-with-ticket : {who : Who} {now xid seq : ℕ} {attached : Bool} {call : Option UnderWay} {ticket : Option Ticket} {leases : List Lease} {notices : List Notice} → Asking who now attached call ticket xid seq leases notices → (t : Ticket) → ticket ≡ Some t → (t.job ≡ attaching → ⊥) → attached ≡ true
+pub attached-with-ticket : {who : Who} {now xid seq : ℕ} {attached : Bool} {call : Option UnderWay} {ticket : Option Ticket} {leases : List Lease}
+    {notices : List Notice} → Asking who now attached call ticket xid seq leases notices → (t : Ticket) → ticket ≡ Some t → (t.job ≡ attaching → ⊥)
+    → attached ≡ true
 attached-with-ticket {attached = true} h t e other = refl
 attached-with-ticket {attached = false} h t e other =
     let w = h.waiting refl in
@@ -29,19 +32,24 @@ attached-with-ticket {attached = false} h t e other =
     absurd (other (subst (λ z. z.job ≡ attaching) one w.job))
 
 -- the call under way is answered, while the request under way is not the call's
-pub ends-call : {who : Who} {now xid seq : ℕ} {attached : Bool} {call : Option UnderWay} {ticket : Option Ticket} {leases : List Lease} {notices : List Notice} → Asking who now attached call ticket xid seq leases notices → ticket_is_for_call ticket ≡ false → Asking who now attached None ticket xid seq leases notices
+pub ends-call : {who : Who} {now xid seq : ℕ} {attached : Bool} {call : Option UnderWay} {ticket : Option Ticket} {leases : List Lease}
+    {notices : List Notice} → Asking who now attached call ticket xid seq leases notices → ticket_is_for_call ticket ≡ false
+    → Asking who now attached None ticket xid seq leases notices
 ends-call h other = record {
   ticketed = h.ticketed;
   waiting = λ e. let w = h.waiting e in record { request = w.request; asks = w.asks; job = w.job; idle = refl; no_lease = w.no_lease; no_notice = w.no_notice };
   attaching = h.attaching;
-  called = λ t e f. let bad : ticket_is_for_call (Some t) ≡ true = rw f refl in let not_it : ticket_is_for_call (Some t) ≡ false = subst (λ o. ticket_is_for_call o ≡ false) e other in cc;
+  called =
+      λ t e f. let bad : ticket_is_for_call (Some t) ≡ true = rw f refl in
+      let not_it : ticket_is_for_call (Some t) ≡ false = subst (λ o. ticket_is_for_call o ≡ false) e other in cc;
   leased = h.leased;
   unwanted = h.unwanted;
   changed = h.changed;
 }
 
 -- another call is under way at an attached client
-pub begins : {who : Who} {now xid seq : ℕ} {call : Option UnderWay} {ticket : Option Ticket} {leases : List Lease} {notices : List Notice} (u : UnderWay) → Asking who now true call ticket xid seq leases notices → Asking who now true (Some u) ticket xid seq leases notices
+pub begins : {who : Who} {now xid seq : ℕ} {call : Option UnderWay} {ticket : Option Ticket} {leases : List Lease} {notices : List Notice}
+    (u : UnderWay) → Asking who now true call ticket xid seq leases notices → Asking who now true (Some u) ticket xid seq leases notices
 begins u h = record {
   ticketed = h.ticketed;
   waiting = λ e. absurd (cc);
@@ -59,34 +67,47 @@ marked-lease now f l h = record { term = rw (marked-term f l, marked-expiry f l)
 pub uses : {who : Who} {now xid seq : ℕ} {attached : Bool} {call : Option UnderWay} {ticket : Option Ticket} {leases : List Lease} {notices : List Notice} (f : ℕ) → Asking who now attached call ticket xid seq leases notices → Asking who now attached call ticket xid seq (used_lease f leases) notices
 uses {now = now} {leases = leases} f h = record {
   ticketed = h.ticketed;
-  waiting = λ e. let w = h.waiting e in record { request = w.request; asks = w.asks; job = w.job; idle = w.idle; no_lease = ap (used_lease f) w.no_lease; no_notice = w.no_notice };
+  waiting =
+      λ e. let w = h.waiting e in record
+      { request = w.request; asks = w.asks; job = w.job; idle = w.idle; no_lease = ap (used_lease f) w.no_lease; no_notice = w.no_notice };
   attaching = h.attaching;
   called = h.called;
-  leased = λ file l e. let m = marked-before file f leases l e in subst (λ z. IsLease now z) (sym m.same) (marked-lease now f m.before (h.leased file m.before m.found));
+  leased =
+      λ file l e. let m = marked-before file f leases l e in
+      subst (λ z. IsLease now z) (sym m.same) (marked-lease now f m.before (h.leased file m.before m.found));
   unwanted = h.unwanted;
   changed = λ t file e c. used-lease-found file f leases ∙ ap (option_map (marked_used f)) (h.changed t file e c);
 }
 
 -- a lease is dropped
-pub drops : {who : Who} {now xid seq : ℕ} {attached : Bool} {call : Option UnderWay} {ticket : Option Ticket} {leases : List Lease} {notices : List Notice} (f : ℕ) → Asking who now attached call ticket xid seq leases notices → Asking who now attached call ticket xid seq (drop_lease f leases) notices
+pub drops : {who : Who} {now xid seq : ℕ} {attached : Bool} {call : Option UnderWay} {ticket : Option Ticket} {leases : List Lease}
+    {notices : List Notice} (f : ℕ) → Asking who now attached call ticket xid seq leases notices
+    → Asking who now attached call ticket xid seq (drop_lease f leases) notices
 drops {leases = leases} f h = record {
   ticketed = h.ticketed;
-  waiting = λ e. let w = h.waiting e in record { request = w.request; asks = w.asks; job = w.job; idle = w.idle; no_lease = ap (drop_lease f) w.no_lease; no_notice = w.no_notice };
+  waiting =
+      λ e. let w = h.waiting e in record
+      { request = w.request; asks = w.asks; job = w.job; idle = w.idle; no_lease = ap (drop_lease f) w.no_lease; no_notice = w.no_notice };
   attaching = h.attaching;
   called = h.called;
   leased = λ file l e. h.leased file l (lease-before-drop f file leases l e).1;
   unwanted = h.unwanted;
   changed = λ t file e c. still-none file (lease_on file (drop_lease f leases)) refl (h.changed t file e c);
 } where
-  still-none : (file : ℕ) (o : Option Lease) → lease_on file (drop_lease f leases) ≡ o → lease_on file leases ≡ None → lease_on file (drop_lease f leases) ≡ None
+  still-none : (file : ℕ) (o : Option Lease) → lease_on file (drop_lease f leases) ≡ o → lease_on file leases ≡ None
+      → lease_on file (drop_lease f leases) ≡ None
   still-none file None e n = e
   still-none file (Some l) e n = none-some l (sym n ∙ (lease-before-drop f file leases l e).1)
 
 -- a notice is dropped
-pub drops-notice : {who : Who} {now xid seq : ℕ} {attached : Bool} {call : Option UnderWay} {ticket : Option Ticket} {leases : List Lease} {notices : List Notice} (f : ℕ) → Asking who now attached call ticket xid seq leases notices → Asking who now attached call ticket xid seq leases (drop_notice f notices)
+pub drops-notice : {who : Who} {now xid seq : ℕ} {attached : Bool} {call : Option UnderWay} {ticket : Option Ticket} {leases : List Lease}
+    {notices : List Notice} (f : ℕ) → Asking who now attached call ticket xid seq leases notices
+    → Asking who now attached call ticket xid seq leases (drop_notice f notices)
 drops-notice {notices = notices} f h = record {
   ticketed = h.ticketed;
-  waiting = λ e. let w = h.waiting e in record { request = w.request; asks = w.asks; job = w.job; idle = w.idle; no_lease = w.no_lease; no_notice = ap (drop_notice f) w.no_notice };
+  waiting =
+      λ e. let w = h.waiting e in record
+      { request = w.request; asks = w.asks; job = w.job; idle = w.idle; no_lease = w.no_lease; no_notice = ap (drop_notice f) w.no_notice };
   attaching = h.attaching;
   called = h.called;
   leased = h.leased;
@@ -95,7 +116,9 @@ drops-notice {notices = notices} f h = record {
 }
 
 -- numbers are drawn
-pub draws : {who : Who} {now xid seq : ℕ} {attached : Bool} {call : Option UnderWay} {ticket : Option Ticket} {leases : List Lease} {notices : List Notice} (xid' seq' : ℕ) → xid ≤ xid' → seq ≤ seq' → Asking who now attached call ticket xid seq leases notices → Asking who now attached call ticket xid' seq' leases notices
+pub draws : {who : Who} {now xid seq : ℕ} {attached : Bool} {call : Option UnderWay} {ticket : Option Ticket} {leases : List Lease}
+    {notices : List Notice} (xid' seq' : ℕ) → xid ≤ xid' → seq ≤ seq' → Asking who now attached call ticket xid seq leases notices
+    → Asking who now attached call ticket xid' seq' leases notices
 draws {xid = xid} {seq = seq} xid' seq' more more' h = record {
   ticketed = λ t e. let k = h.ticketed t e in record {
     number = let below = k.number in omega arith;
@@ -114,7 +137,8 @@ draws {xid = xid} {seq = seq} xid' seq' more more' h = record {
 }
 
 -- the client is attached, and its request is spent
-pub attaches : {who : Who} {now xid seq : ℕ} {attached : Bool} {call : Option UnderWay} {ticket : Option Ticket} {leases : List Lease} {notices : List Notice} → Asking who now attached call ticket xid seq leases notices → Asking who now true call None xid seq leases notices
+pub attaches : {who : Who} {now xid seq : ℕ} {attached : Bool} {call : Option UnderWay} {ticket : Option Ticket} {leases : List Lease}
+    {notices : List Notice} → Asking who now attached call ticket xid seq leases notices → Asking who now true call None xid seq leases notices
 attaches h = record {
   ticketed = λ t e. none-some t e;
   waiting = λ e. absurd (cc);
@@ -126,7 +150,8 @@ attaches h = record {
 }
 
 -- the request under way is spent by an attached client
-pub spends : {who : Who} {now xid seq : ℕ} {call : Option UnderWay} {ticket : Option Ticket} {leases : List Lease} {notices : List Notice} → Asking who now true call ticket xid seq leases notices → Asking who now true call None xid seq leases notices
+pub spends : {who : Who} {now xid seq : ℕ} {call : Option UnderWay} {ticket : Option Ticket} {leases : List Lease} {notices : List Notice}
+    → Asking who now true call ticket xid seq leases notices → Asking who now true call None xid seq leases notices
 spends h = attaches h
 
 -- a request that is sent by an attached client with none under way
@@ -139,9 +164,13 @@ pub record IsNext (who : Who) (call : Option UnderWay) (seq : ℕ) (leases : Lis
   pub unwanted : (file : ℕ) (n : Notice) → notice_on file notices ≡ Some n → wants_of file request ≡ false
   pub changed : (file : ℕ) → changes_file request ≡ Some file → lease_on file leases ≡ None
 
-pub sends : {who : Who} {now xid seq : ℕ} {call : Option UnderWay} {ticket : Option Ticket} {leases : List Lease} {notices : List Notice} (job : Job) (request : Request) → Asking who now true call ticket xid seq leases notices → IsNext who call seq leases notices job request → Asking who now true call (Some (record { xid = xid; first = now; last = now; request = request; job = job })) (xid + 1) seq leases notices
+pub sends : {who : Who} {now xid seq : ℕ} {call : Option UnderWay} {ticket : Option Ticket} {leases : List Lease} {notices : List Notice} (job : Job)
+    (request : Request) → Asking who now true call ticket xid seq leases notices → IsNext who call seq leases notices job request
+    → Asking who now true call (Some (record { xid = xid; first = now; last = now; request = request; job = job })) (xid + 1) seq leases notices
 sends {who = who} {now = now} {xid = xid} {seq = seq} {call = call} {leases = leases} job request h k = record {
-  ticketed = λ t e. subst (λ z. IsTicket who now (xid + 1) seq z) (some-same new t e) (record { number = omega arith; sent = omega arith; past = omega arith; asks = k.asks; fits = k.fits; drawn = k.drawn });
+  ticketed =
+      λ t e. subst (λ z. IsTicket who now (xid + 1) seq z) (some-same new t e)
+      (record { number = omega arith; sent = omega arith; past = omega arith; asks = k.asks; fits = k.fits; drawn = k.drawn });
   waiting = λ e. absurd (cc);
   attaching = λ t e j. absurd (k.no_attach (subst (λ z. z.job ≡ attaching) (sym (some-same new t e)) j));
   called = λ t e j. k.called (subst (λ z. z.job ≡ for_call) (sym (some-same new t e)) j);
@@ -153,10 +182,24 @@ sends {who = who} {now = now} {xid = xid} {seq = seq} {call = call} {leases = le
   new = record { xid = xid; first = now; last = now; request = request; job = job }
 
 -- the request under way is sent again
-pub sends-again : {who : Who} {now xid seq : ℕ} {attached : Bool} {call : Option UnderWay} {ticket : Option Ticket} {leases : List Lease} {notices : List Notice} (t : Ticket) → ticket ≡ Some t → Asking who now attached call ticket xid seq leases notices → Asking who now attached call (Some (record t { last = now })) xid seq leases notices
+pub sends-again : {who : Who} {now xid seq : ℕ} {attached : Bool} {call : Option UnderWay} {ticket : Option Ticket} {leases : List Lease}
+    {notices : List Notice} (t : Ticket) → ticket ≡ Some t → Asking who now attached call ticket xid seq leases notices
+    → Asking who now attached call (Some (record t { last = now })) xid seq leases notices
 sends-again {who = who} {now = now} {xid = xid} {seq = seq} {attached = attached} {call = call} {leases = leases} {notices = notices} t is h = record {
-  ticketed = λ s e. subst (λ z. IsTicket who now xid seq z) (some-same again s e) (let k = h.ticketed t is in record { number = k.number; sent = let a = k.sent in let b = k.past in omega arith; past = omega arith; asks = k.asks; fits = k.fits; drawn = k.drawn });
-  waiting = λ e. let w = h.waiting e in let one : w.request ≡ t = some-same w.request t (sym w.asks ∙ is) in record { request = again; asks = refl; job = subst (λ z. z.job ≡ attaching) one w.job; idle = w.idle; no_lease = w.no_lease; no_notice = w.no_notice };
+  ticketed =
+      λ s e. subst (λ z. IsTicket who now xid seq z) (some-same again s e)
+      (let k = h.ticketed t is in record
+      { number = k.number; sent = let a = k.sent in let b = k.past in omega arith; past = omega arith; asks = k.asks; fits = k.fits; drawn = k.drawn });
+  waiting =
+      λ e. let w = h.waiting e in let one : w.request ≡ t = some-same w.request t (sym w.asks ∙ is) in
+      record {
+        request = again;
+        asks = refl;
+        job = subst (λ z. z.job ≡ attaching) one w.job;
+        idle = w.idle;
+        no_lease = w.no_lease;
+        no_notice = w.no_notice;
+      };
   attaching = λ s e j. h.attaching t is (subst (λ z. z.job ≡ attaching) (sym (some-same again s e)) j);
   called = λ s e j. h.called t is (subst (λ z. z.job ≡ for_call) (sym (some-same again s e)) j);
   leased = h.leased;
@@ -189,12 +232,16 @@ attach-wants-none f (Request.Evicted who file tag) h = refl
 attach-wants-none f (Request.Resize who seq q file blocks) h = refl
 attach-wants-none f (Request.Remove who seq q file) h = refl
 
-pub cancels : {who : Who} {now xid seq : ℕ} {attached : Bool} {call : Option UnderWay} {ticket : Option Ticket} {leases : List Lease} {notices : List Notice} (f : ℕ) → Asking who now attached call ticket xid seq leases notices → Asking who now attached call (cancelled f ticket) xid seq leases notices
+pub cancels : {who : Who} {now xid seq : ℕ} {attached : Bool} {call : Option UnderWay} {ticket : Option Ticket} {leases : List Lease}
+    {notices : List Notice} (f : ℕ) → Asking who now attached call ticket xid seq leases notices
+    → Asking who now attached call (cancelled f ticket) xid seq leases notices
 cancels {attached = attached} {call = call} {ticket = ticket} {leases = leases} {notices = notices} f h = record {
   ticketed = λ t e. h.ticketed t (keeps-or-cancels f ticket t e).0;
   waiting = λ e. let w = h.waiting e in record {
     request = w.request;
-    asks = kept w.request (wants_of f w.request.request) refl w.asks (attach-wants-none f w.request.request (subst (λ j. fits_job j w.request.request ≡ true) w.job (h.ticketed w.request w.asks).fits));
+    asks =
+        kept w.request (wants_of f w.request.request) refl w.asks
+        (attach-wants-none f w.request.request (subst (λ j. fits_job j w.request.request ≡ true) w.job (h.ticketed w.request w.asks).fits));
     job = w.job;
     idle = w.idle;
     no_lease = w.no_lease;
@@ -210,7 +257,9 @@ cancels {attached = attached} {call = call} {ticket = ticket} {leases = leases} 
   kept t b e is not_wanted = rw (is, not_wanted) refl
 
 -- a notice waits for a file that the request under way does not want
-pub notes : {who : Who} {now xid seq : ℕ} {call : Option UnderWay} {ticket : Option Ticket} {leases : List Lease} {notices : List Notice} (n : Notice) → ((t : Ticket) → ticket ≡ Some t → wants_of n.file t.request ≡ false) → Asking who now true call ticket xid seq leases notices → Asking who now true call ticket xid seq leases (put_notice n notices)
+pub notes : {who : Who} {now xid seq : ℕ} {call : Option UnderWay} {ticket : Option Ticket} {leases : List Lease} {notices : List Notice} (n : Notice)
+    → ((t : Ticket) → ticket ≡ Some t → wants_of n.file t.request ≡ false) → Asking who now true call ticket xid seq leases notices
+    → Asking who now true call ticket xid seq leases (put_notice n notices)
 notes {ticket = ticket} {notices = notices} n spared h = record {
   ticketed = h.ticketed;
   waiting = λ e. absurd (cc);
@@ -220,12 +269,15 @@ notes {ticket = ticket} {notices = notices} n spared h = record {
   unwanted = λ file m t a e. case file m t e (notice-after-put n file notices m a);
   changed = h.changed;
 } where
-  case : (file : ℕ) (m : Notice) (t : Ticket) → ticket ≡ Some t → ((file ≡ n.file) × (m ≡ n)) ⊎ ((file ≢ n.file) × (notice_on file notices ≡ Some m)) → wants_of file t.request ≡ false
+  case : (file : ℕ) (m : Notice) (t : Ticket) → ticket ≡ Some t → ((file ≡ n.file) × (m ≡ n)) ⊎ ((file ≢ n.file) × (notice_on file notices ≡ Some m))
+      → wants_of file t.request ≡ false
   case file m t e (inl p) = subst (λ f. wants_of f t.request ≡ false) (sym p.0) (spared t e)
   case file m t e (inr p) = h.unwanted file m t p.1 e
 
 -- a lease is held that was asked for in the past
-pub holds : {who : Who} {now xid seq : ℕ} {call : Option UnderWay} {ticket : Option Ticket} {leases : List Lease} {notices : List Notice} (l : Lease) → IsLease now l → ((t : Ticket) → ticket ≡ Some t → changes_file t.request ≡ Some l.file → ⊥) → Asking who now true call ticket xid seq leases notices → Asking who now true call ticket xid seq (put_lease l leases) notices
+pub holds : {who : Who} {now xid seq : ℕ} {call : Option UnderWay} {ticket : Option Ticket} {leases : List Lease} {notices : List Notice} (l : Lease)
+    → IsLease now l → ((t : Ticket) → ticket ≡ Some t → changes_file t.request ≡ Some l.file → ⊥)
+    → Asking who now true call ticket xid seq leases notices → Asking who now true call ticket xid seq (put_lease l leases) notices
 holds {now = now} {ticket = ticket} {leases = leases} l past spared h = record {
   ticketed = h.ticketed;
   waiting = λ e. absurd (cc);
@@ -239,7 +291,8 @@ holds {now = now} {ticket = ticket} {leases = leases} l past spared h = record {
   case file m (inl p) = subst (λ z. IsLease now z) (sym p.1) past
   case file m (inr p) = h.leased file m p.1
 
-  none : (file : ℕ) (t : Ticket) → ticket ≡ Some t → changes_file t.request ≡ Some file → (o : Option Lease) → lease_on file (put_lease l leases) ≡ o → lease_on file (put_lease l leases) ≡ None
+  none : (file : ℕ) (t : Ticket) → ticket ≡ Some t → changes_file t.request ≡ Some file → (o : Option Lease) → lease_on file (put_lease l leases) ≡ o
+      → lease_on file (put_lease l leases) ≡ None
   none file t e c None f = f
   none file t e c (Some m) f = which (lease-after-put l file leases m f)
     where
@@ -248,9 +301,13 @@ holds {now = now} {ticket = ticket} {leases = leases} l past spared h = record {
       which (inr p) = none-some m (sym (h.changed t file e c) ∙ p.1)
 
 -- time passes
-pub passes : {who : Who} {now xid seq : ℕ} {attached : Bool} {call : Option UnderWay} {ticket : Option Ticket} {leases : List Lease} {notices : List Notice} (later : ℕ) → now ≤ later → Asking who now attached call ticket xid seq leases notices → Asking who later attached call ticket xid seq leases notices
+pub passes : {who : Who} {now xid seq : ℕ} {attached : Bool} {call : Option UnderWay} {ticket : Option Ticket} {leases : List Lease}
+    {notices : List Notice} (later : ℕ) → now ≤ later → Asking who now attached call ticket xid seq leases notices
+    → Asking who later attached call ticket xid seq leases notices
 passes {now = now} later more h = record {
-  ticketed = λ t e. let k = h.ticketed t e in record { number = k.number; sent = k.sent; past = let a = k.past in omega arith; asks = k.asks; fits = k.fits; drawn = k.drawn };
+  ticketed =
+      λ t e. let k = h.ticketed t e in
+      record { number = k.number; sent = k.sent; past = let a = k.past in omega arith; asks = k.asks; fits = k.fits; drawn = k.drawn };
   waiting = h.waiting;
   attaching = h.attaching;
   called = h.called;
@@ -260,9 +317,12 @@ passes {now = now} later more h = record {
 }
 
 -- a client that is to be attached
-pub waits : (who : Who) (now : ℕ) → Asking who now false None (Some (record { xid = 1; first = now; last = now; request = Request.Attach who; job = attaching })) 2 1 [] []
+pub waits : (who : Who) (now : ℕ)
+    → Asking who now false None (Some (record { xid = 1; first = now; last = now; request = Request.Attach who; job = attaching })) 2 1 [] []
 waits who now = record {
-  ticketed = λ t e. subst (λ z. IsTicket who now 2 1 z) (some-same first t e) (record { number = omega arith; sent = omega arith; past = omega arith; asks = refl; fits = refl; drawn = λ n d. none-some n d });
+  ticketed =
+      λ t e. subst (λ z. IsTicket who now 2 1 z) (some-same first t e)
+      (record { number = omega arith; sent = omega arith; past = omega arith; asks = refl; fits = refl; drawn = λ n d. none-some n d });
   waiting = λ e. record { request = first; asks = refl; job = refl; idle = refl; no_lease = refl; no_notice = refl };
   attaching = λ t e j. refl;
   called = λ t e j. let other : attaching ≡ for_call = subst (λ z. z.job ≡ for_call) (sym (some-same first t e)) j in absurd (cc);

@@ -32,7 +32,8 @@ free-idle t f = rw (f.free) refl
 
 -- ---- answers
 
-pub answers-of-keeps : {P : Core → Type 0} (t : ClientStep) (answer : Answer) (by : Option ℕ) (o : Option UnderWay) → IsFree t → Both P t → Both P (answers_call_of t answer by o)
+pub answers-of-keeps : {P : Core → Type 0} (t : ClientStep) (answer : Answer) (by : Option ℕ) (o : Option UnderWay) → IsFree t → Both P t
+    → Both P (answers_call_of t answer by o)
 answers-of-keeps t answer by None f b = b
 answers-of-keeps t answer by (Some u) f b = answers-keeps t u.q answer by (free-idle t f) b
 
@@ -41,7 +42,8 @@ answers-call-keeps t answer by f b = answers-of-keeps t answer by t.client.call 
 
 reports-to-keeps : {P : Core → Type 0} (t : ClientStep) (file : ℕ) (o : Option UnderWay) → IsFree t → Both P t → Both P (reports_to t file o)
 reports-to-keeps t file None f b = b
-reports-to-keeps {P = P} t file (Some u) f b = choice (Both P) (waits_for file u.written u.call) (names_losses t u.q file) t (λ e. names-keeps t u.q file (free-idle t f) b) (λ e. b)
+reports-to-keeps {P = P} t file (Some u) f b =
+    choice (Both P) (waits_for file u.written u.call) (names_losses t u.q file) t (λ e. names-keeps t u.q file (free-idle t f) b) (λ e. b)
 
 reports-keeps : {P : Core → Type 0} (t : ClientStep) (file : ℕ) → IsFree t → Both P t → Both P (reports t file)
 reports-keeps t file f b = reports-to-keeps t file t.client.call f b
@@ -61,17 +63,23 @@ unfolding knows_revision
 quiet-knows t file rev b = record { alone = record { asking = b.alone.asking; delaying = b.alone.delaying }; core = b.core }
 
 -- the mark of a call under way
-through-asking : (c : Client) (on : Bool) (o : Option UnderWay) → c.attached ≡ true → c.call ≡ o → AskingOf c → Asking c.who c.now c.attached (with_through on o) c.ticket c.xid c.seq c.leases c.notices
+through-asking : (c : Client) (on : Bool) (o : Option UnderWay) → c.attached ≡ true → c.call ≡ o → AskingOf c
+    → Asking c.who c.now c.attached (with_through on o) c.ticket c.xid c.seq c.leases c.notices
 through-asking c on None attached is h = subst (λ o. Asking c.who c.now c.attached o c.ticket c.xid c.seq c.leases c.notices) is h
 through-asking c on (Some u) attached is h = begun-call c (record u { through = on }) attached h
 
 through-keeps : {P : Core → Type 0} (t : ClientStep) (on : Bool) → t.client.attached ≡ true → Both P t → Both P (marks_through on t)
 unfolding marks_through
-through-keeps t on attached b = record { alone = record { asking = through-asking t.client on t.client.call attached refl b.alone.asking; delaying = b.alone.delaying }; core = b.core }
+through-keeps t on attached b =
+    record { alone = record { asking = through-asking t.client on t.client.call attached refl b.alone.asking; delaying = b.alone.delaying }; core = b.core }
 
 pub pauses-keeps : {P : Core → Type 0} (t : ClientStep) → t.client.attached ≡ true → Both P t → Both P (pauses t)
 unfolding pauses marks_through
-pauses-keeps t attached b = record { alone = record { asking = through-asking t.client false t.client.call attached refl b.alone.asking; delaying = b.alone.delaying }; core = b.core }
+pauses-keeps t attached b =
+    record {
+      alone = record { asking = through-asking t.client false t.client.call attached refl b.alone.asking; delaying = b.alone.delaying };
+      core = b.core;
+    }
 
 -- ---- a grant is taken
 
@@ -83,20 +91,28 @@ loses-free : (t : ClientStep) (file : ℕ) → IsFree t → IsFree (loses t file
 unfolding loses
 loses-free t file f = record { free = f.free; attached = f.attached }
 
-breaks-keeps : {P : Core → Type 0} (t : ClientStep) (file : ℕ) (o : Option Notice) → notice_on file t.client.notices ≡ o → o ≡ None → IsFree t → Both P t → Both P (reports (vacates_noticed (loses t file) file o) file)
+breaks-keeps : {P : Core → Type 0} (t : ClientStep) (file : ℕ) (o : Option Notice) → notice_on file t.client.notices ≡ o → o ≡ None → IsFree t
+    → Both P t → Both P (reports (vacates_noticed (loses t file) file o) file)
 breaks-keeps t file None is none f b = reports-keeps (loses t file) file (loses-free t file f) (loses-keeps t file is b)
 breaks-keeps t file (Some n) is none f b = none-some n (sym none)
 
-reports-same : (t : ClientStep) (file : ℕ) (o : Option UnderWay) → ((reports_to t file o).client.ticket ≡ t.client.ticket) × ((reports_to t file o).client.attached ≡ t.client.attached) × ((reports_to t file o).client.notices ≡ t.client.notices) × ((reports_to t file o).client.now ≡ t.client.now)
+reports-same : (t : ClientStep) (file : ℕ) (o : Option UnderWay)
+    → ((reports_to t file o).client.ticket ≡ t.client.ticket) × ((reports_to t file o).client.attached ≡ t.client.attached)
+    × ((reports_to t file o).client.notices ≡ t.client.notices) × ((reports_to t file o).client.now ≡ t.client.now)
 unfolding answers
 reports-same t file None = (refl, refl, refl, refl)
 reports-same t file (Some u) = step (waits_for file u.written u.call)
   where
-    step : (b : Bool) → ((if b then names_losses t u.q file else t).client.ticket ≡ t.client.ticket) × ((if b then names_losses t u.q file else t).client.attached ≡ t.client.attached) × ((if b then names_losses t u.q file else t).client.notices ≡ t.client.notices) × ((if b then names_losses t u.q file else t).client.now ≡ t.client.now)
+    step : (b : Bool) → ((if b then names_losses t u.q file else t).client.ticket ≡ t.client.ticket)
+        × ((if b then names_losses t u.q file else t).client.attached ≡ t.client.attached)
+        × ((if b then names_losses t u.q file else t).client.notices ≡ t.client.notices)
+        × ((if b then names_losses t u.q file else t).client.now ≡ t.client.now)
     step true = (refl, refl, refl, refl)
     step false = (refl, refl, refl, refl)
 
-loses-same : (t : ClientStep) (file : ℕ) → ((loses t file).client.ticket ≡ t.client.ticket) × ((loses t file).client.attached ≡ t.client.attached) × ((loses t file).client.notices ≡ t.client.notices) × ((loses t file).client.now ≡ t.client.now)
+loses-same : (t : ClientStep) (file : ℕ)
+    → ((loses t file).client.ticket ≡ t.client.ticket) × ((loses t file).client.attached ≡ t.client.attached)
+    × ((loses t file).client.notices ≡ t.client.notices) × ((loses t file).client.now ≡ t.client.now)
 unfolding loses
 loses-same t file = (refl, refl, refl, refl)
 
@@ -114,23 +130,31 @@ broken-same t file None none =
     record { ticket = r.0 ∙ l.0; attached = r.1 ∙ l.1; notices = r.2 ∙ l.2; now = r.3 ∙ l.3 }
 broken-same t file (Some n) none = none-some n (sym none)
 
-if-broken-keeps : {P : Core → Type 0} (t : ClientStep) (file : ℕ) (g : Grant) → notice_on file t.client.notices ≡ None → IsFree t → Both P t → Both P (if_broken t file g)
+if-broken-keeps : {P : Core → Type 0} (t : ClientStep) (file : ℕ) (g : Grant) → notice_on file t.client.notices ≡ None → IsFree t → Both P t
+    → Both P (if_broken t file g)
 if-broken-keeps {P = P} t file g none f b =
-    choice (Both P) (breaks g (lease_on file t.client.leases) && not (is_clean t.client file)) (breaks_chain t file) t (λ e. breaks-keeps t file (notice_on file t.client.notices) refl none f b) (λ e. b)
+    choice (Both P) (breaks g (lease_on file t.client.leases) && not (is_clean t.client file)) (breaks_chain t file) t
+    (λ e. breaks-keeps t file (notice_on file t.client.notices) refl none f b) (λ e. b)
 
 if-broken-same : (t : ClientStep) (file : ℕ) (g : Grant) → notice_on file t.client.notices ≡ None → IsSame t (if_broken t file g)
 if-broken-same t file g none =
-    choice (IsSame t) (breaks g (lease_on file t.client.leases) && not (is_clean t.client file)) (breaks_chain t file) t (λ e. broken-same t file (notice_on file t.client.notices) none) (λ e. record { ticket = refl; attached = refl; notices = refl; now = refl })
+    choice (IsSame t) (breaks g (lease_on file t.client.leases) && not (is_clean t.client file)) (breaks_chain t file) t
+    (λ e. broken-same t file (notice_on file t.client.notices) none) (λ e. record { ticket = refl; attached = refl; notices = refl; now = refl })
 
 granted-is : (now file : ℕ) (g : Grant) (sent : ℕ) → sent ≤ now → IsLease now (granted_lease file g sent)
 unfolding granted_lease
 granted-is now file g sent past = record { term = omega arith; past = omega arith }
 
-holds-keeps : {Heard : ℕ → Tag → Type 0} {Given : ℕ → Grant → ℕ → Type 0} {P : Core → Type 0} → Closed Heard Given P → (t : ClientStep) (file : ℕ) (g : Grant) (sent : ℕ) → Given file g sent → sent ≤ t.client.now → IsFree t → notice_on file t.client.notices ≡ None → Both P t → Both P (holds t file g sent)
+holds-keeps : {Heard : ℕ → Tag → Type 0} {Given : ℕ → Grant → ℕ → Type 0} {P : Core → Type 0} → Closed Heard Given P
+    → (t : ClientStep) (file : ℕ) (g : Grant) (sent : ℕ) → Given file g sent → sent ≤ t.client.now → IsFree t → notice_on file t.client.notices ≡ None
+    → Both P t → Both P (holds t file g sent)
 unfolding holds
 holds-keeps closed t file g sent given past f none b = record {
   alone = record {
-    asking = from-true (λ a. Asking c.who c.now a c.call c.ticket c.xid c.seq (put_lease (granted_lease file g sent) c.leases) c.notices) c.attached f.attached (move.holds (granted_lease file g sent) (granted-is c.now file g sent past) (λ u e. none-some u (sym f.free ∙ e)) (at-true (λ a. Asking c.who c.now a c.call c.ticket c.xid c.seq c.leases c.notices) c.attached f.attached b.alone.asking));
+    asking =
+        from-true (λ a. Asking c.who c.now a c.call c.ticket c.xid c.seq (put_lease (granted_lease file g sent) c.leases) c.notices) c.attached
+        f.attached (move.holds (granted_lease file g sent) (granted-is c.now file g sent past) (λ u e. none-some u (sym f.free ∙ e))
+        (at-true (λ a. Asking c.who c.now a c.call c.ticket c.xid c.seq c.leases c.notices) c.attached f.attached b.alone.asking));
     delaying = b.alone.delaying;
   };
   core = closed.holds (core_of t) file g sent given f.free none b.core;
@@ -139,27 +163,36 @@ holds-keeps closed t file g sent given past f none b = record {
   c = t.client
 
 -- a grant is taken from the reply to a request that wanted it
-takes-keeps : {Heard : ℕ → Tag → Type 0} {Given : ℕ → Grant → ℕ → Type 0} {P : Core → Type 0} → Closed Heard Given P → (t : ClientStep) (file : ℕ) (g : Grant) (sent : ℕ) → Given file g sent → sent ≤ t.client.now → IsFree t → notice_on file t.client.notices ≡ None → Both P t → Both P (takes_grant t file g sent)
+takes-keeps : {Heard : ℕ → Tag → Type 0} {Given : ℕ → Grant → ℕ → Type 0} {P : Core → Type 0} → Closed Heard Given P
+    → (t : ClientStep) (file : ℕ) (g : Grant) (sent : ℕ) → Given file g sent → sent ≤ t.client.now → IsFree t → notice_on file t.client.notices ≡ None
+    → Both P t → Both P (takes_grant t file g sent)
 takes-keeps closed t file g sent given past f none b =
     let s = if-broken-same t file g none in
-    holds-keeps closed (if_broken t file g) file g sent given (subst (λ n. sent ≤ n) (sym s.now) past) (record { free = s.ticket ∙ f.free; attached = s.attached ∙ f.attached }) (subst (λ ns. notice_on file ns ≡ None) (sym s.notices) none) (if-broken-keeps t file g none f b)
+    holds-keeps closed (if_broken t file g) file g sent given (subst (λ n. sent ≤ n) (sym s.now) past)
+    (record { free = s.ticket ∙ f.free; attached = s.attached ∙ f.attached }) (subst (λ ns. notice_on file ns ≡ None) (sym s.notices) none)
+    (if-broken-keeps t file g none f b)
 
 holds-free : (t : ClientStep) (file : ℕ) (g : Grant) (sent : ℕ) → IsFree t → IsFree (holds t file g sent)
 unfolding holds
 holds-free t file g sent f = record { free = f.free; attached = f.attached }
 
 takes-free : (t : ClientStep) (file : ℕ) (g : Grant) (sent : ℕ) → notice_on file t.client.notices ≡ None → IsFree t → IsFree (takes_grant t file g sent)
-takes-free t file g sent none f = let s = if-broken-same t file g none in holds-free (if_broken t file g) file g sent (record { free = s.ticket ∙ f.free; attached = s.attached ∙ f.attached })
+takes-free t file g sent none f =
+    let s = if-broken-same t file g none in
+    holds-free (if_broken t file g) file g sent (record { free = s.ticket ∙ f.free; attached = s.attached ∙ f.attached })
 
 -- a grant that a reply may bring: it is given, and its file has no notice
 abbrev pub Brings : (ℕ → Grant → ℕ → Type 0) → ClientStep → (file : ℕ) → Option Grant → (sent : ℕ) → Type 0
 Brings Given t file o sent = (g : Grant) → o ≡ Some g → Given file g sent × (notice_on file t.client.notices ≡ None)
 
-pub optional-keeps : {Heard : ℕ → Tag → Type 0} {Given : ℕ → Grant → ℕ → Type 0} {P : Core → Type 0} → Closed Heard Given P → (t : ClientStep) (file : ℕ) (o : Option Grant) (sent : ℕ) → Brings Given t file o sent → sent ≤ t.client.now → IsFree t → Both P t → Both P (takes_optional t file o sent)
+pub optional-keeps : {Heard : ℕ → Tag → Type 0} {Given : ℕ → Grant → ℕ → Type 0} {P : Core → Type 0} → Closed Heard Given P
+    → (t : ClientStep) (file : ℕ) (o : Option Grant) (sent : ℕ) → Brings Given t file o sent → sent ≤ t.client.now → IsFree t → Both P t
+    → Both P (takes_optional t file o sent)
 optional-keeps closed t file None sent brings past f b = b
 optional-keeps closed t file (Some g) sent brings past f b = let k = brings g refl in takes-keeps closed t file g sent k.0 past f k.1 b
 
-optional-free : (Given : ℕ → Grant → ℕ → Type 0) (t : ClientStep) (file : ℕ) (o : Option Grant) (sent : ℕ) → Brings Given t file o sent → IsFree t → IsFree (takes_optional t file o sent)
+optional-free : (Given : ℕ → Grant → ℕ → Type 0) (t : ClientStep) (file : ℕ) (o : Option Grant) (sent : ℕ) → Brings Given t file o sent → IsFree t
+    → IsFree (takes_optional t file o sent)
 optional-free Given t file None sent brings f = f
 optional-free Given t file (Some g) sent brings f = takes-free t file g sent (brings g refl).1 f
 
@@ -167,29 +200,37 @@ caches-free : (t : ClientStep) (file block : ℕ) (body : List ℕ) → IsFree t
 unfolding caches_block
 caches-free t file block body f = record { free = f.free; attached = f.attached }
 
-then-caches-keeps : {P : Core → Type 0} (t : ClientStep) (file block : ℕ) (body : List ℕ) (o : Option Grant) → Both P t → Both P (then_caches t file block body o)
-then-caches-keeps {P = P} t file block body o b = choice (Both P) (grant_caches o) (caches_block t file block body) t (λ e. quiet-caches t file block body b) (λ e. b)
+then-caches-keeps : {P : Core → Type 0} (t : ClientStep) (file block : ℕ) (body : List ℕ) (o : Option Grant) → Both P t
+    → Both P (then_caches t file block body o)
+then-caches-keeps {P = P} t file block body o b =
+    choice (Both P) (grant_caches o) (caches_block t file block body) t (λ e. quiet-caches t file block body b) (λ e. b)
 
 then-caches-free : (t : ClientStep) (file block : ℕ) (body : List ℕ) (o : Option Grant) → IsFree t → IsFree (then_caches t file block body o)
 then-caches-free t file block body o f = choice IsFree (grant_caches o) (caches_block t file block body) t (λ e. caches-free t file block body f) (λ e. f)
 
-pub read-done-keeps : {Heard : ℕ → Tag → Type 0} {Given : ℕ → Grant → ℕ → Type 0} {P : Core → Type 0} → Closed Heard Given P → (t : ClientStep) (file block : ℕ) (body : List ℕ) (o : Option Grant) (sent number : ℕ) → Brings Given t file o sent → sent ≤ t.client.now → IsFree t → Both P t → Both P (read_done t file block body o sent number)
+pub read-done-keeps : {Heard : ℕ → Tag → Type 0} {Given : ℕ → Grant → ℕ → Type 0} {P : Core → Type 0} → Closed Heard Given P
+    → (t : ClientStep) (file block : ℕ) (body : List ℕ) (o : Option Grant) (sent number : ℕ) → Brings Given t file o sent → sent ≤ t.client.now
+    → IsFree t → Both P t → Both P (read_done t file block body o sent number)
 read-done-keeps {Given = Given} closed t file block body o sent number brings past f b =
     answers-call-keeps (then_caches (takes_optional t file o sent) file block body o) (Answer.Ok (Value.Body body)) (Some number)
     (then-caches-free (takes_optional t file o sent) file block body o (optional-free Given t file o sent brings f))
     (then-caches-keeps (takes_optional t file o sent) file block body o (optional-keeps closed t file o sent brings past f b))
 
-pub lease-done-keeps : {Heard : ℕ → Tag → Type 0} {Given : ℕ → Grant → ℕ → Type 0} {P : Core → Type 0} → Closed Heard Given P → (t : ClientStep) (file : ℕ) (o : Option Grant) (sent : ℕ) → Brings Given t file o sent → sent ≤ t.client.now → IsFree t → Both P t → Both P (lease_done t file o sent)
+pub lease-done-keeps : {Heard : ℕ → Tag → Type 0} {Given : ℕ → Grant → ℕ → Type 0} {P : Core → Type 0} → Closed Heard Given P
+    → (t : ClientStep) (file : ℕ) (o : Option Grant) (sent : ℕ) → Brings Given t file o sent → sent ≤ t.client.now → IsFree t → Both P t
+    → Both P (lease_done t file o sent)
 lease-done-keeps {Given = Given} {P = P} closed t file o sent brings past f b =
     choice (Both P) (grant_caches o) (takes_optional t file o sent) (marks_through true (takes_optional t file o sent))
     (λ e. optional-keeps closed t file o sent brings past f b)
-    (λ e. through-keeps (takes_optional t file o sent) true (optional-free Given t file o sent brings f).attached (optional-keeps closed t file o sent brings past f b))
+    (λ e. through-keeps (takes_optional t file o sent) true (optional-free Given t file o sent brings f).attached
+    (optional-keeps closed t file o sent brings past f b))
 
 -- ---- a write that went through
 
 caches-write-keeps : {P : Core → Type 0} (t : ClientStep) (file block : ℕ) (body : List ℕ) (rev : ℕ) → Both P t → Both P (caches_write t file block body rev)
 caches-write-keeps {P = P} t file block body rev b =
-    choice (Both P) (holds_caching (lease_on file t.client.leases) && is_revision_before rev (revision_of file t.client.revisions)) (caches_block t file block body) (purges t file) (λ e. quiet-caches t file block body b) (λ e. quiet-purges t file b)
+    choice (Both P) (holds_caching (lease_on file t.client.leases) && is_revision_before rev (revision_of file t.client.revisions))
+    (caches_block t file block body) (purges t file) (λ e. quiet-caches t file block body b) (λ e. quiet-purges t file b)
 
 purges-free : (t : ClientStep) (file : ℕ) → IsFree t → IsFree (purges t file)
 unfolding purges
@@ -201,9 +242,11 @@ knows-free t file rev f = record { free = f.free; attached = f.attached }
 
 caches-write-free : (t : ClientStep) (file block : ℕ) (body : List ℕ) (rev : ℕ) → IsFree t → IsFree (caches_write t file block body rev)
 caches-write-free t file block body rev f =
-    choice IsFree (holds_caching (lease_on file t.client.leases) && is_revision_before rev (revision_of file t.client.revisions)) (caches_block t file block body) (purges t file) (λ e. caches-free t file block body f) (λ e. purges-free t file f)
+    choice IsFree (holds_caching (lease_on file t.client.leases) && is_revision_before rev (revision_of file t.client.revisions))
+    (caches_block t file block body) (purges t file) (λ e. caches-free t file block body f) (λ e. purges-free t file f)
 
-pub write-done-keeps : {P : Core → Type 0} (t : ClientStep) (file block : ℕ) (body : List ℕ) (rev : ℕ) → IsFree t → Both P t → Both P (write_done t file block body rev)
+pub write-done-keeps : {P : Core → Type 0} (t : ClientStep) (file block : ℕ) (body : List ℕ) (rev : ℕ) → IsFree t → Both P t
+    → Both P (write_done t file block body rev)
 write-done-keeps t file block body rev f b =
     answers-call-keeps (knows_revision (caches_write t file block body rev) file rev) (Answer.Ok Value.Nothing) None
     (knows-free (caches_write t file block body rev) file rev (caches-write-free t file block body rev f))
@@ -218,7 +261,8 @@ pub record IsSpent (t : ClientStep) (file : ℕ) : Type 0 where
   pub noticed : (f : ℕ) (n : Notice) → notice_on f t.client.notices ≡ Some n → f ≢ file → list_any (is_push_of f) t.client.dirty ≡ true
 
 -- so they do again once the file's own notice was seen to
-settled-push : (t : ClientStep) (file : ℕ) → IsSpent t file → t.client.push ≡ None → ((n : Notice) → notice_on file t.client.notices ≡ Some n → is_clean t.client file ≡ false) → Alone t.client
+settled-push : (t : ClientStep) (file : ℕ) → IsSpent t file → t.client.push ≡ None
+    → ((n : Notice) → notice_on file t.client.notices ≡ Some n → is_clean t.client file ≡ false) → Alone t.client
 settled-push t file s none own = record {
   asking = s.asking;
   delaying = record {
@@ -228,8 +272,11 @@ settled-push t file s none own = record {
   };
 } where
   case : (f : ℕ) (n : Notice) → notice_on f t.client.notices ≡ Some n → (b : Bool) → (f == file) ≡ b → is_clean_in f t.client.dirty t.client.push ≡ false
-  case f n e true same = let one : f ≡ file = same-number f file same in subst (λ g. is_clean_in g t.client.dirty t.client.push ≡ false) (sym one) (own n (subst (λ g. notice_on g t.client.notices ≡ Some n) one e))
-  case f n e false other = writes.writes-in-list f t.client.dirty t.client.push (s.noticed f n e (λ same. let is : (f == file) ≡ true = number-same f file same in absurd (cc)))
+  case f n e true same =
+      let one : f ≡ file = same-number f file same in
+      subst (λ g. is_clean_in g t.client.dirty t.client.push ≡ false) (sym one) (own n (subst (λ g. notice_on g t.client.notices ≡ Some n) one e))
+  case f n e false other =
+      writes.writes-in-list f t.client.dirty t.client.push (s.noticed f n e (λ same. let is : (f == file) ≡ true = number-same f file same in absurd (cc)))
 
 -- the step so far keeps what it kept, where the push under way is spent
 pub record Spent (P : Core → Type 0) (t : ClientStep) (file : ℕ) : Type 0 where
@@ -237,49 +284,78 @@ pub record Spent (P : Core → Type 0) (t : ClientStep) (file : ℕ) : Type 0 wh
   pub core : P (core_of t)
 
 -- the client is Both again
-both-again : {P : Core → Type 0} (t : ClientStep) (file : ℕ) → Spent P t file → t.client.push ≡ None → ((n : Notice) → notice_on file t.client.notices ≡ Some n → is_clean t.client file ≡ false) → Both P t
+both-again : {P : Core → Type 0} (t : ClientStep) (file : ℕ) → Spent P t file → t.client.push ≡ None
+    → ((n : Notice) → notice_on file t.client.notices ≡ Some n → is_clean t.client file ≡ false) → Both P t
 both-again t file s none own = record { alone = settled-push t file s.spent none own; core = s.core }
 
 -- a notice on the file is answered
-vacates-spent : {Heard : ℕ → Tag → Type 0} {Given : ℕ → Grant → ℕ → Type 0} {P : Core → Type 0} → Closed Heard Given P → (t : ClientStep) (file : ℕ) (o : Option Notice) → ((g : Grant) (sent : ℕ) → Given file g sent → ⊥) → notice_on file t.client.notices ≡ o → Spent P t file → t.client.push ≡ None → Both P (vacates_noticed t file o)
+vacates-spent : {Heard : ℕ → Tag → Type 0} {Given : ℕ → Grant → ℕ → Type 0} {P : Core → Type 0} → Closed Heard Given P
+    → (t : ClientStep) (file : ℕ) (o : Option Notice) → ((g : Grant) (sent : ℕ) → Given file g sent → ⊥) → notice_on file t.client.notices ≡ o
+    → Spent P t file → t.client.push ≡ None → Both P (vacates_noticed t file o)
 unfolding vacates_lease
 vacates-spent closed t file None ungiven is s none = both-again t file s none (λ n e. none-some n (sym is ∙ e))
 vacates-spent closed t file (Some n) ungiven is s none = record {
   alone = record {
     asking = move.drops-notice file (move.drops file (move.draws (t.client.xid + 1) t.client.seq (omega arith) (omega arith) s.spent.asking));
     delaying = record {
-      noticed = λ f m e. let before = notice-before-drop file f t.client.notices m e in writes.writes-in-list f t.client.dirty t.client.push (s.spent.noticed f m before.1 before.0);
+      noticed =
+          λ f m e. let before = notice-before-drop file f t.client.notices m e in
+          writes.writes-in-list f t.client.dirty t.client.push (s.spent.noticed f m before.1 before.0);
       under_way = λ p e. none-some p (sym none ∙ e);
       empty = λ e. let a = s.spent.free.attached in absurd (cc);
     };
   };
-  core = closed.vacates (core_of t) file n.tag (record { unwanted = λ u e. none-some u (sym s.spent.free.free ∙ e); ungiven = ungiven; source = inl (n, is, refl) }) s.core;
+  core =
+      closed.vacates (core_of t) file n.tag
+      (record { unwanted = λ u e. none-some u (sym s.spent.free.free ∙ e); ungiven = ungiven; source = inl (n, is, refl) }) s.core;
 }
 
 -- a push was done
 caches-push-spent : {P : Core → Type 0} (t : ClientStep) (file block : ℕ) (body : List ℕ) → Spent P t file → Spent P (caches_push t file block body) file
 unfolding caches_block
-caches-push-spent {P = P} t file block body s = choice (λ u. Spent P u file) (is_some (dirty_at file block t.client.dirty)) t (caches_block t file block body) (λ e. s) (λ e. record { spent = record { asking = s.spent.asking; free = record { free = s.spent.free.free; attached = s.spent.free.attached }; noticed = s.spent.noticed }; core = s.core })
+caches-push-spent {P = P} t file block body s =
+    choice (λ u. Spent P u file) (is_some (dirty_at file block t.client.dirty)) t (caches_block t file block body) (λ e. s)
+    (λ e. record {
+      spent = record {
+        asking = s.spent.asking;
+        free = record { free = s.spent.free.free; attached = s.spent.free.attached };
+        noticed = s.spent.noticed;
+      };
+      core = s.core;
+    })
 
 caches-push-none : (t : ClientStep) (file block : ℕ) (body : List ℕ) → t.client.push ≡ None → (caches_push t file block body).client.push ≡ None
 unfolding caches_block
-caches-push-none t file block body none = choice (λ u. u.client.push ≡ None) (is_some (dirty_at file block t.client.dirty)) t (caches_block t file block body) (λ e. none) (λ e. none)
+caches-push-none t file block body none =
+    choice (λ u. u.client.push ≡ None) (is_some (dirty_at file block t.client.dirty)) t (caches_block t file block body) (λ e. none) (λ e. none)
 
 ends-spent : {P : Core → Type 0} (t : ClientStep) (file rev : ℕ) → Spent P t file → Spent P (knows_revision (ends_push t) file rev) file
 unfolding ends_push knows_revision
-ends-spent t file rev s = record { spent = record { asking = s.spent.asking; free = record { free = s.spent.free.free; attached = s.spent.free.attached }; noticed = s.spent.noticed }; core = s.core }
+ends-spent t file rev s =
+    record {
+      spent = record {
+        asking = s.spent.asking;
+        free = record { free = s.spent.free.free; attached = s.spent.free.attached };
+        noticed = s.spent.noticed;
+      };
+      core = s.core;
+    }
 
 ends-none : (t : ClientStep) (file rev : ℕ) → (knows_revision (ends_push t) file rev).client.push ≡ None
 unfolding ends_push knows_revision
 ends-none t file rev = refl
 
-vacates-if-clean-keeps : {Heard : ℕ → Tag → Type 0} {Given : ℕ → Grant → ℕ → Type 0} {P : Core → Type 0} → Closed Heard Given P → (t : ClientStep) (file : ℕ) → ((g : Grant) (sent : ℕ) → Given file g sent → ⊥) → Spent P t file → t.client.push ≡ None → Both P (vacates_if_clean t file)
+vacates-if-clean-keeps : {Heard : ℕ → Tag → Type 0} {Given : ℕ → Grant → ℕ → Type 0} {P : Core → Type 0} → Closed Heard Given P
+    → (t : ClientStep) (file : ℕ) → ((g : Grant) (sent : ℕ) → Given file g sent → ⊥) → Spent P t file → t.client.push ≡ None
+    → Both P (vacates_if_clean t file)
 vacates-if-clean-keeps {P = P} closed t file ungiven s none =
     choice (Both P) (is_clean t.client file) (vacates_noticed t file (notice_on file t.client.notices)) t
     (λ e. vacates-spent closed t file (notice_on file t.client.notices) ungiven refl s none)
     (λ e. both-again t file s none (λ n f. e))
 
-pub push-done-keeps : {Heard : ℕ → Tag → Type 0} {Given : ℕ → Grant → ℕ → Type 0} {P : Core → Type 0} → Closed Heard Given P → (t : ClientStep) (file block : ℕ) (body : List ℕ) (rev : ℕ) → ((g : Grant) (sent : ℕ) → Given file g sent → ⊥) → Spent P t file → Both P (push_done t file block body rev)
+pub push-done-keeps : {Heard : ℕ → Tag → Type 0} {Given : ℕ → Grant → ℕ → Type 0} {P : Core → Type 0} → Closed Heard Given P
+    → (t : ClientStep) (file block : ℕ) (body : List ℕ) (rev : ℕ) → ((g : Grant) (sent : ℕ) → Given file g sent → ⊥) → Spent P t file
+    → Both P (push_done t file block body rev)
 push-done-keeps closed t file block body rev ungiven s =
     vacates-if-clean-keeps closed (caches_push (knows_revision (ends_push t) file rev) file block body) file ungiven
     (caches-push-spent (knows_revision (ends_push t) file rev) file block body (ends-spent t file rev s))
@@ -301,10 +377,16 @@ loses-none : (t : ClientStep) (file : ℕ) → other_push file t.client.push ≡
 unfolding loses
 loses-none t file h = h
 
-without-spent : {Heard : ℕ → Tag → Type 0} {Given : ℕ → Grant → ℕ → Type 0} {P : Core → Type 0} → Closed Heard Given P → (t : ClientStep) (file : ℕ) → Spent P t file → Spent P (without_lease t file) file
+without-spent : {Heard : ℕ → Tag → Type 0} {Given : ℕ → Grant → ℕ → Type 0} {P : Core → Type 0} → Closed Heard Given P → (t : ClientStep) (file : ℕ)
+    → Spent P t file → Spent P (without_lease t file) file
 unfolding without_lease
 without-spent closed t file s = record {
-  spent = record { asking = move.drops file s.spent.asking; free = record { free = s.spent.free.free; attached = s.spent.free.attached }; noticed = s.spent.noticed };
+  spent =
+      record {
+        asking = move.drops file s.spent.asking;
+        free = record { free = s.spent.free.free; attached = s.spent.free.attached };
+        noticed = s.spent.noticed;
+      };
   core = closed.drops (core_of t) file s.core;
 }
 
@@ -321,7 +403,9 @@ unfolding vacates_lease
 vacated-free t file None f = f
 vacated-free t file (Some n) f = record { free = f.free; attached = f.attached }
 
-pub push-refused-keeps : {Heard : ℕ → Tag → Type 0} {Given : ℕ → Grant → ℕ → Type 0} {P : Core → Type 0} → Closed Heard Given P → (t : ClientStep) (file : ℕ) → ((g : Grant) (sent : ℕ) → Given file g sent → ⊥) → other_push file t.client.push ≡ None → Spent P t file → Both P (push_refused t file)
+pub push-refused-keeps : {Heard : ℕ → Tag → Type 0} {Given : ℕ → Grant → ℕ → Type 0} {P : Core → Type 0} → Closed Heard Given P
+    → (t : ClientStep) (file : ℕ) → ((g : Grant) (sent : ℕ) → Given file g sent → ⊥) → other_push file t.client.push ≡ None → Spent P t file
+    → Both P (push_refused t file)
 push-refused-keeps {P = P} closed t file ungiven gone s =
     reports-keeps (vacates_noticed third file (notice_on file t.client.notices)) file
     (vacated-free third file (notice_on file t.client.notices) kept.spent.free)
@@ -343,18 +427,23 @@ push-refused-keeps {P = P} closed t file ungiven gone s =
 
 -- by a reply to a request that neither attaches nor pushes
 spent-asking : (c : Client) → c.attached ≡ true → AskingOf c → Asking c.who c.now c.attached c.call None c.xid c.seq c.leases c.notices
-spent-asking c attached h = from-true (λ a. Asking c.who c.now a c.call None c.xid c.seq c.leases c.notices) c.attached attached (move.spends (at-true (λ a. Asking c.who c.now a c.call c.ticket c.xid c.seq c.leases c.notices) c.attached attached h))
+spent-asking c attached h =
+    from-true (λ a. Asking c.who c.now a c.call None c.xid c.seq c.leases c.notices) c.attached attached
+    (move.spends (at-true (λ a. Asking c.who c.now a c.call c.ticket c.xid c.seq c.leases c.notices) c.attached attached h))
 
-spent-delaying : (c : Client) (ticket : Ticket) → c.ticket ≡ Some ticket → (ticket.job ≡ pushing → ⊥) → DelayingOf c → Delaying c.attached None c.notices c.dirty c.push
+spent-delaying : (c : Client) (ticket : Ticket) → c.ticket ≡ Some ticket → (ticket.job ≡ pushing → ⊥) → DelayingOf c
+    → Delaying c.attached None c.notices c.dirty c.push
 spent-delaying c ticket is other h = record {
   noticed = h.noticed;
   under_way = λ p e. none-some p (sym (writes.no-push c.push h (λ t f j. other (subst (λ z. z.job ≡ pushing) (some-same t ticket (sym f ∙ is)) j))) ∙ e);
   empty = h.empty;
 }
 
-pub spent-keeps : {P : Core → Type 0} (c : Client) (ticket : Ticket) → c.ticket ≡ Some ticket → c.attached ≡ true → (ticket.job ≡ pushing → ⊥) → Alone c → P (record (core_of (begun c)) { ticket = None }) → Both P (spends (begun c))
+pub spent-keeps : {P : Core → Type 0} (c : Client) (ticket : Ticket) → c.ticket ≡ Some ticket → c.attached ≡ true → (ticket.job ≡ pushing → ⊥) → Alone c
+    → P (record (core_of (begun c)) { ticket = None }) → Both P (spends (begun c))
 unfolding spends
-spent-keeps c ticket is attached other a core = record { alone = record { asking = spent-asking c attached a.asking; delaying = spent-delaying c ticket is other a.delaying }; core = core }
+spent-keeps c ticket is attached other a core =
+    record { alone = record { asking = spent-asking c attached a.asking; delaying = spent-delaying c ticket is other a.delaying }; core = core }
 
 pub spent-free : (c : Client) → c.attached ≡ true → IsFree (spends (begun c))
 unfolding spends
@@ -369,10 +458,14 @@ unfolding spends
 spent-notices c = refl
 
 -- by the reply to a push
-pub push-of-file : (w : Who) (seq file block first last : ℕ) (base : PushBase) (body : List ℕ) (p : Push) → push_in (Request.Write w seq file block first last (Some base) body) ≡ Some p → p.file ≡ file
-push-of-file w seq file block first last base body p e = let same : record { file = file; block = block; first = first; last = last; body = body } ≡ p = some-same _ p e in ap (λ q. q.file) (sym same)
+pub push-of-file : (w : Who) (seq file block first last : ℕ) (base : PushBase) (body : List ℕ) (p : Push)
+    → push_in (Request.Write w seq file block first last (Some base) body) ≡ Some p → p.file ≡ file
+push-of-file w seq file block first last base body p e =
+    let same : record { file = file; block = block; first = first; last = last; body = body } ≡ p = some-same _ p e in ap (λ q. q.file) (sym same)
 
-pub spent-push : {P : Core → Type 0} (c : Client) (ticket : Ticket) (file : ℕ) → c.ticket ≡ Some ticket → c.attached ≡ true → ((p : Push) → push_in ticket.request ≡ Some p → p.file ≡ file) → Alone c → P (record (core_of (begun c)) { ticket = None }) → Spent P (spends (begun c)) file
+pub spent-push : {P : Core → Type 0} (c : Client) (ticket : Ticket) (file : ℕ) → c.ticket ≡ Some ticket → c.attached ≡ true
+    → ((p : Push) → push_in ticket.request ≡ Some p → p.file ≡ file) → Alone c → P (record (core_of (begun c)) { ticket = None })
+    → Spent P (spends (begun c)) file
 unfolding spends
 spent-push c ticket file is attached of_file a core = record {
   spent = record {
@@ -395,7 +488,8 @@ spent-push c ticket file is attached of_file a core = record {
   case f apart (inr some) = under f apart c.push refl some
 
 -- the push under way is of the request's file
-pub spent-gone : (c : Client) (ticket : Ticket) (file : ℕ) → c.ticket ≡ Some ticket → ((p : Push) → push_in ticket.request ≡ Some p → p.file ≡ file) → Alone c → other_push file (spends (begun c)).client.push ≡ None
+pub spent-gone : (c : Client) (ticket : Ticket) (file : ℕ) → c.ticket ≡ Some ticket → ((p : Push) → push_in ticket.request ≡ Some p → p.file ≡ file)
+    → Alone c → other_push file (spends (begun c)).client.push ≡ None
 unfolding spends
 spent-gone c ticket file is of_file a = case c.push refl
   where

@@ -38,22 +38,33 @@ pub record SendCases (in_tick : Bool) (t : ClientStep) (Q : ClientStep → Type 
   -- the first delayed writes of a file are pushed
   pub pushing : (file : ℕ) (p : Push) → t.client.ticket ≡ None → first_dirty file t.client.dirty ≡ Some p → p.file ≡ file → Q (pushed t p)
   -- the call's request is sent
-  pub creating : (u : UnderWay) (name : List ℕ) (blocks : ℕ) → IsFree t u → u.call ≡ Call.Create name blocks → Q (sends_request (after_seq t) for_call (Request.Create t.client.who t.client.seq name blocks))
+  pub creating : (u : UnderWay) (name : List ℕ) (blocks : ℕ) → IsFree t u → u.call ≡ Call.Create name blocks
+      → Q (sends_request (after_seq t) for_call (Request.Create t.client.who t.client.seq name blocks))
   pub looking_up : (u : UnderWay) (name : List ℕ) → IsFree t u → u.call ≡ Call.Lookup name → Q (sends_request t for_call (Request.Lookup t.client.who name))
   pub getting_attributes : (u : UnderWay) (file : ℕ) → IsFree t u → u.call ≡ Call.Attr file → Q (sends_request t for_call (Request.GetAttr t.client.who file))
-  pub reading : (u : UnderWay) (file block : ℕ) → IsFree t u → u.call ≡ Call.Read file block → Q (sends_request t for_call (Request.Read t.client.who u.q file block (read_want t.client file)))
-  pub fetching : (u : UnderWay) (file block : ℕ) → IsFree t u → u.call ≡ Call.Fetch file block → Q (sends_request t for_call (Request.Read t.client.who u.q file block None))
+  pub reading : (u : UnderWay) (file block : ℕ) → IsFree t u → u.call ≡ Call.Read file block
+      → Q (sends_request t for_call (Request.Read t.client.who u.q file block (read_want t.client file)))
+  pub fetching : (u : UnderWay) (file block : ℕ) → IsFree t u → u.call ≡ Call.Fetch file block
+      → Q (sends_request t for_call (Request.Read t.client.who u.q file block None))
   -- a write goes through, where it is to or where a non-caching lease runs
-  pub writing : (u : UnderWay) (file block : ℕ) (body : List ℕ) → IsFree t u → u.call ≡ Call.Write file block body → (u.through || shares_live t.client.now (lease_on file t.client.leases)) ≡ true → Q (sends_write t file block body)
+  pub writing : (u : UnderWay) (file block : ℕ) (body : List ℕ) → IsFree t u → u.call ≡ Call.Write file block body
+      → (u.through || shares_live t.client.now (lease_on file t.client.leases)) ≡ true → Q (sends_write t file block body)
   -- else a lease is wanted
-  pub leasing : (u : UnderWay) (file block : ℕ) (body : List ℕ) → IsFree t u → u.call ≡ Call.Write file block body → u.through ≡ false → shares_live t.client.now (lease_on file t.client.leases) ≡ false → Q (sends_request t for_call (Request.GetLease t.client.who file (want_of t.client Mode.Writing)))
+  pub leasing : (u : UnderWay) (file block : ℕ) (body : List ℕ) → IsFree t u → u.call ≡ Call.Write file block body → u.through ≡ false
+      → shares_live t.client.now (lease_on file t.client.leases) ≡ false
+      → Q (sends_request t for_call (Request.GetLease t.client.who file (want_of t.client Mode.Writing)))
   -- a put goes through
-  pub putting : (u : UnderWay) (file block : ℕ) (body : List ℕ) → IsFree t u → u.call ≡ Call.WriteSync file block body → u.written ≡ false → Q (sends_write t file block body)
+  pub putting : (u : UnderWay) (file block : ℕ) (body : List ℕ) → IsFree t u → u.call ≡ Call.WriteSync file block body → u.written ≡ false
+      → Q (sends_write t file block body)
   -- a clean file is changed, and its lease is given up before
-  pub resizing : (u : UnderWay) (file blocks : ℕ) → IsFree t u → u.call ≡ Call.Resize file blocks → is_clean t.client file ≡ true → Q (sends_request (after_seq (gives_up t file)) for_call (Request.Resize t.client.who t.client.seq u.q file blocks))
-  pub removing : (u : UnderWay) (file : ℕ) → IsFree t u → u.call ≡ Call.Remove file → is_clean t.client file ≡ true → Q (sends_request (after_seq (gives_up t file)) for_call (Request.Remove t.client.who t.client.seq u.q file))
+  pub resizing : (u : UnderWay) (file blocks : ℕ) → IsFree t u → u.call ≡ Call.Resize file blocks → is_clean t.client file ≡ true
+      → Q (sends_request (after_seq (gives_up t file)) for_call (Request.Resize t.client.who t.client.seq u.q file blocks))
+  pub removing : (u : UnderWay) (file : ℕ) → IsFree t u → u.call ≡ Call.Remove file → is_clean t.client file ≡ true
+      → Q (sends_request (after_seq (gives_up t file)) for_call (Request.Remove t.client.who t.client.seq u.q file))
   -- a lease is renewed, in a tick's step: its file is clean, and no notice waits for it
-  pub renewing : (file : ℕ) (lease : Lease) → in_tick ≡ true → t.client.ticket ≡ None → NothingToPush t.client → t.client.pause ≤ t.client.now → renewed_file t.client ≡ Some file → lease_on file t.client.leases ≡ Some lease → lease.file ≡ file → is_clean t.client file ≡ true → notice_on file t.client.notices ≡ None → Q (sends_request t renewing (Request.GetLease t.client.who lease.file (want_of t.client lease.mode)))
+  pub renewing : (file : ℕ) (lease : Lease) → in_tick ≡ true → t.client.ticket ≡ None → NothingToPush t.client → t.client.pause ≤ t.client.now
+      → renewed_file t.client ≡ Some file → lease_on file t.client.leases ≡ Some lease → lease.file ≡ file → is_clean t.client file ≡ true
+      → notice_on file t.client.notices ≡ None → Q (sends_request t renewing (Request.GetLease t.client.who lease.file (want_of t.client lease.mode)))
 
 -- ---- where a request is under way nothing more is sent
 
@@ -91,7 +102,9 @@ pub noticed-one : (notices : List Notice) (file : ℕ) → least (map file_of_no
 noticed-one [] file h = none-some file h
 noticed-one (n ∷ notices) file h = step (n.file == file) refl (least-with-one n.file (least (map file_of_notice notices)) file h) (noticed-one notices file)
   where
-    step : (b : Bool) → (n.file == file) ≡ b → (n.file ≡ file) ⊎ (least (map file_of_notice notices) ≡ Some file) → (least (map file_of_notice notices) ≡ Some file → (m : Notice) × (notice_on file notices ≡ Some m)) → (m : Notice) × ((if b then Some n else notice_on file notices) ≡ Some m)
+    step : (b : Bool) → (n.file == file) ≡ b → (n.file ≡ file) ⊎ (least (map file_of_notice notices) ≡ Some file)
+        → (least (map file_of_notice notices) ≡ Some file → (m : Notice) × (notice_on file notices ≡ Some m))
+        → (m : Notice) × ((if b then Some n else notice_on file notices) ≡ Some m)
     step true e which rest = (n, refl)
     step false e (inl same) rest = let is : (n.file == file) ≡ true = number-same n.file file same in absurd (cc)
     step false e (inr less) rest = rest less
@@ -103,11 +116,14 @@ no-noticed (m ∷ notices) h file n e = absurd (least-with-some m.file (least (m
 -- ---- the lease to renew
 
 -- the least file of the leases that pass a test is the file of one that passes
-pub least-passes : (p : Lease → Bool) (leases : List Lease) (file : ℕ) → least (map file_of_lease (filter p leases)) ≡ Some file → (l : Lease) × (l.file ≡ file) × (p l ≡ true)
+pub least-passes : (p : Lease → Bool) (leases : List Lease) (file : ℕ) → least (map file_of_lease (filter p leases)) ≡ Some file
+    → (l : Lease) × (l.file ≡ file) × (p l ≡ true)
 least-passes p [] file h = none-some file h
 least-passes p (l ∷ leases) file h = step (p l) refl h (least-passes p leases file)
   where
-    step : (b : Bool) → p l ≡ b → least (map file_of_lease (if b then l ∷ filter p leases else filter p leases)) ≡ Some file → (least (map file_of_lease (filter p leases)) ≡ Some file → (m : Lease) × (m.file ≡ file) × (p m ≡ true)) → (m : Lease) × (m.file ≡ file) × (p m ≡ true)
+    step : (b : Bool) → p l ≡ b → least (map file_of_lease (if b then l ∷ filter p leases else filter p leases)) ≡ Some file
+        → (least (map file_of_lease (filter p leases)) ≡ Some file → (m : Lease) × (m.file ≡ file) × (p m ≡ true))
+        → (m : Lease) × (m.file ≡ file) × (p m ≡ true)
     step true e g rest = which (least-with-one l.file (least (map file_of_lease (filter p leases))) file g)
       where
         which : (l.file ≡ file) ⊎ (least (map file_of_lease (filter p leases)) ≡ Some file) → (m : Lease) × (m.file ≡ file) × (p m ≡ true)
@@ -124,22 +140,25 @@ renewed-facts c file h =
 -- ---- the walk
 
 module _ (in_tick : Bool) (t : ClientStep) (Q : ClientStep → Type 0) (cases : SendCases in_tick t Q) (free : t.client.ticket ≡ None) where
-  idle : is_asking t ≡ false
-  idle = ap is_some free
-
   -- what was sent stays so
   sent : (s : ClientStep) (job : Job) (request : Request) → Q (sends_request s job request) → Q (then_renews in_tick (sends_request s job request))
   sent s job request q = subst Q (sym (asking-renews in_tick (sends_request s job request) (sent-asks s job request))) q
 
-  these : (R : ClientStep → Type 0) (file : ℕ) (o : Option Push) → first_dirty file t.client.dirty ≡ o → ((p : Push) → first_dirty file t.client.dirty ≡ Some p → R (pushed t p)) → (first_dirty file t.client.dirty ≡ None → R t) → R (pushes_these t o)
+  these : (R : ClientStep → Type 0) (file : ℕ) (o : Option Push) → first_dirty file t.client.dirty ≡ o
+      → ((p : Push) → first_dirty file t.client.dirty ≡ Some p → R (pushed t p)) → (first_dirty file t.client.dirty ≡ None → R t) → R (pushes_these t o)
   these R file None e pushes stays = stays e
   these R file (Some p) e pushes stays = pushes p e
 
-  due : (R : ClientStep → Type 0) (o : Option ℕ) → ((file : ℕ) (p : Push) → o ≡ Some file → first_dirty file t.client.dirty ≡ Some p → R (pushed t p)) → (((file : ℕ) → o ≡ Some file → first_dirty file t.client.dirty ≡ None) → R t) → R (pushes_due t o)
+  due : (R : ClientStep → Type 0) (o : Option ℕ) → ((file : ℕ) (p : Push) → o ≡ Some file → first_dirty file t.client.dirty ≡ Some p → R (pushed t p))
+      → (((file : ℕ) → o ≡ Some file → first_dirty file t.client.dirty ≡ None) → R t) → R (pushes_due t o)
   due R None pushes stays = stays (λ file e. none-some file e)
-  due R (Some file) pushes stays = these R file (first_dirty file t.client.dirty) refl (λ p e. pushes file p refl e) (λ e. stays (λ g same. subst (λ f. first_dirty f t.client.dirty ≡ None) (some-same file g same) e))
+  due R (Some file) pushes stays =
+      these R file (first_dirty file t.client.dirty) refl (λ p e. pushes file p refl e)
+      (λ e. stays (λ g same. subst (λ f. first_dirty f t.client.dirty ≡ None) (some-same file g same) e))
 
-  then-due : (R : ClientStep → Type 0) (o : Option ℕ) → ((file : ℕ) (p : Push) → o ≡ Some file → first_dirty file t.client.dirty ≡ Some p → R (pushed t p)) → (((file : ℕ) → o ≡ Some file → first_dirty file t.client.dirty ≡ None) → R t) → R (then_pushes t o)
+  then-due : (R : ClientStep → Type 0) (o : Option ℕ)
+      → ((file : ℕ) (p : Push) → o ≡ Some file → first_dirty file t.client.dirty ≡ Some p → R (pushed t p))
+      → (((file : ℕ) → o ≡ Some file → first_dirty file t.client.dirty ≡ None) → R t) → R (then_pushes t o)
   then-due R o pushes stays = choice R (is_asking t) t (pushes_due t o) (λ e. absurd (cc)) (λ e. due R o pushes stays)
 
   push : (file : ℕ) (p : Push) → first_dirty file t.client.dirty ≡ Some p → Q (pushed t p)
@@ -148,7 +167,8 @@ module _ (in_tick : Bool) (t : ClientStep) (Q : ClientStep → Type 0) (cases : 
   push-then : (file : ℕ) (p : Push) → first_dirty file t.client.dirty ≡ Some p → Q (then_renews in_tick (pushed t p))
   push-then file p e = subst Q (sym (asking-renews in_tick (pushed t p) (sent-asks _ _ _))) (push file p e)
 
-  renews-one : NothingToPush t.client → t.client.pause ≤ t.client.now → in_tick ≡ true → (file : ℕ) → renewed_file t.client ≡ Some file → (o : Option Lease) → lease_on file t.client.leases ≡ o → Q (renews_lease t o)
+  renews-one : NothingToPush t.client → t.client.pause ≤ t.client.now → in_tick ≡ true → (file : ℕ) → renewed_file t.client ≡ Some file
+      → (o : Option Lease) → lease_on file t.client.leases ≡ o → Q (renews_lease t o)
   renews-one nothing unpaused ticks file is None e = cases.stays free nothing
   renews-one nothing unpaused ticks file is (Some lease) e =
       let f = renewed-facts t.client file is in
@@ -187,17 +207,20 @@ module _ (in_tick : Bool) (t : ClientStep) (Q : ClientStep → Type 0) (cases : 
   asked nothing true request goes = sent t for_call request (goes refl)
   asked nothing false request goes = then-renewed nothing in_tick refl
 
-  change : NothingToPush t.client → (b : Bool) (file : ℕ) (request : Request) → (b ≡ true → is_clean t.client file ≡ true → Q (sends_request (after_seq (gives_up t file)) for_call request)) → R (next_change t b file request)
+  change : NothingToPush t.client → (b : Bool) (file : ℕ) (request : Request)
+      → (b ≡ true → is_clean t.client file ≡ true → Q (sends_request (after_seq (gives_up t file)) for_call request)) → R (next_change t b file request)
   change nothing b file request goes =
       choice
       R
       (is_clean t.client file)
       (if b then sends_request (after_seq (gives_up t file)) for_call request else t)
       (pushes t file)
-      (λ clean. choice R b (sends_request (after_seq (gives_up t file)) for_call request) t (λ may. sent (after_seq (gives_up t file)) for_call request (goes may clean)) (λ pauses. then-renewed nothing in_tick refl))
+      (λ clean. choice R b (sends_request (after_seq (gives_up t file)) for_call request) t
+      (λ may. sent (after_seq (gives_up t file)) for_call request (goes may clean)) (λ pauses. then-renewed nothing in_tick refl))
       (λ dirty. pushes-or nothing file)
 
-  next-call : (u : UnderWay) → t.client.call ≡ Some u → NothingToPush t.client → (b : Bool) → nat_le t.client.pause t.client.now ≡ b → (op : Call) → u.call ≡ op → R (next_of_call t u b op)
+  next-call : (u : UnderWay) → t.client.call ≡ Some u → NothingToPush t.client → (b : Bool) → nat_le t.client.pause t.client.now ≡ b → (op : Call)
+      → u.call ≡ op → R (next_of_call t u b op)
   next-call u called nothing b may op is = go op is
     where
       is_free : nat_le t.client.pause t.client.now ≡ true → IsFree t u
@@ -216,7 +239,8 @@ module _ (in_tick : Bool) (t : ClientStep) (Q : ClientStep → Type 0) (cases : 
           (λ through. sent _ _ _ (cases.writing u file block body (goes e) is through))
           (λ wants. let a = or_parts _ _ wants in sent _ _ _ (cases.leasing u file block body (goes e) is a.0 a.1))
 
-      puts : (file block : ℕ) (body : List ℕ) → u.call ≡ Call.WriteSync file block body → (written may_ask : Bool) → u.written ≡ written → b ≡ may_ask → R (next_put t written may_ask file block body)
+      puts : (file block : ℕ) (body : List ℕ) → u.call ≡ Call.WriteSync file block body → (written may_ask : Bool) → u.written ≡ written → b ≡ may_ask
+          → R (next_put t written may_ask file block body)
       puts file block body is true may_ask w e = pushes-or nothing file
       puts file block body is false true w e = sent _ _ _ (cases.putting u file block body (goes e) is w)
       puts file block body is false false w e = then-renewed nothing in_tick refl
@@ -234,7 +258,8 @@ module _ (in_tick : Bool) (t : ClientStep) (Q : ClientStep → Type 0) (cases : 
       go (Call.Attr file) is = asked nothing b _ (λ e. cases.getting_attributes u file (goes e) is)
       go (Call.Read file block) is = asked nothing b _ (λ e. cases.reading u file block (goes e) is)
       go (Call.Fetch file block) is = asked nothing b _ (λ e. cases.fetching u file block (goes e) is)
-      go (Call.Write file block body) is = choice R b (next_write t u file block body) t (λ e. writes file block body is e) (λ e. then-renewed nothing in_tick refl)
+      go (Call.Write file block body) is =
+          choice R b (next_write t u file block body) t (λ e. writes file block body is e) (λ e. then-renewed nothing in_tick refl)
       go (Call.WriteSync file block body) is = puts file block body is u.written b refl refl
       go (Call.Sync file) is = pushes-or nothing file
       go (Call.Resize file blocks) is = change nothing b file _ (λ e clean. cases.resizing u file blocks (goes e) is clean)
@@ -276,7 +301,9 @@ module _ (in_tick : Bool) (t : ClientStep) (Q : ClientStep → Type 0) (cases : 
 
 asking-send : (in_tick : Bool) (t : ClientStep) → is_asking t ≡ true → send_next in_tick t ≡ t
 asking-send in_tick t e =
-    ap (λ s. then_renews in_tick (then_calls (then_ending s))) (asking-pushes t (noticed_file t.client) e) ∙ ap (λ s. then_renews in_tick (then_calls s)) (asking-pushes t (ending_file t.client) e) ∙ ap (then_renews in_tick) (asking-calls t e) ∙ asking-renews in_tick t e
+    ap (λ s. then_renews in_tick (then_calls (then_ending s))) (asking-pushes t (noticed_file t.client) e)
+    ∙ ap (λ s. then_renews in_tick (then_calls s)) (asking-pushes t (ending_file t.client) e) ∙ ap (then_renews in_tick) (asking-calls t e)
+    ∙ asking-renews in_tick t e
 
 -- what is shown of each outcome holds of the step after the next request was sent
 pub send-cases : (in_tick : Bool) (t : ClientStep) (Q : ClientStep → Type 0) → SendCases in_tick t Q → Q (send_next in_tick t)

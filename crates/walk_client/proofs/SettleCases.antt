@@ -69,21 +69,30 @@ pub record SettleCases (t : ClientStep) (Q : ClientStep → Type 0) : Type 0 whe
   -- the call's own request is under way
   pub asking : (u : UnderWay) → t.client.call ≡ Some u → ticket_is_for_call t.client.ticket ≡ true → Q t
   -- a read past the end of the file
-  pub read_out : (u : UnderWay) (file block : ℕ) (lease : Lease) → IsSettling t u → IsRead u.call file block → CanRead t.client file lease → lease.blocks ≤ block → Q (answers t u.q Answer.Range None)
+  pub read_out : (u : UnderWay) (file block : ℕ) (lease : Lease) → IsSettling t u → IsRead u.call file block → CanRead t.client file lease
+      → lease.blocks ≤ block → Q (answers t u.q Answer.Range None)
   -- a read of what the client has
-  pub reading : (u : UnderWay) (file block : ℕ) (lease : Lease) (body : List ℕ) → IsSettling t u → IsRead u.call file block → CanRead t.client file lease → block < lease.blocks → cached_body t.client file block ≡ Some body → Q (reads_cached t u file block body)
+  pub reading : (u : UnderWay) (file block : ℕ) (lease : Lease) (body : List ℕ) → IsSettling t u → IsRead u.call file block
+      → CanRead t.client file lease → block < lease.blocks → cached_body t.client file block ≡ Some body → Q (reads_cached t u file block body)
   -- a read that waits
   pub read_waits : (u : UnderWay) (file block : ℕ) → IsSettling t u → IsRead u.call file block → ReadWaits t.client file block → Q t
   -- a write past the end of the file
-  pub write_out : (u : UnderWay) (sync : Bool) (file block : ℕ) (body : List ℕ) (lease : Lease) → IsSettling t u → IsWrite u sync file block body → CanWrite t.client u file lease → lease.blocks ≤ block → Q (answers t u.q Answer.Range None)
+  pub write_out : (u : UnderWay) (sync : Bool) (file block : ℕ) (body : List ℕ) (lease : Lease) → IsSettling t u → IsWrite u sync file block body
+      → CanWrite t.client u file lease → lease.blocks ≤ block → Q (answers t u.q Answer.Range None)
   -- a write that finds no room
-  pub write_full : (u : UnderWay) (sync : Bool) (file block : ℕ) (body : List ℕ) (lease : Lease) → IsSettling t u → IsWrite u sync file block body → CanWrite t.client u file lease → block < lease.blocks → is_full t.client file block ≡ true → Q (answers t u.q Answer.DirtyFull None)
+  pub write_full : (u : UnderWay) (sync : Bool) (file block : ℕ) (body : List ℕ) (lease : Lease) → IsSettling t u → IsWrite u sync file block body
+      → CanWrite t.client u file lease → block < lease.blocks → is_full t.client file block ≡ true → Q (answers t u.q Answer.DirtyFull None)
   -- a write is delayed, and answered
-  pub writing : (u : UnderWay) (file block : ℕ) (body : List ℕ) (lease : Lease) → IsSettling t u → u.call ≡ Call.Write file block body → CanWrite t.client u file lease → block < lease.blocks → is_full t.client file block ≡ false → Q (answers (delays t file block body) u.q (Answer.Ok Value.Nothing) None)
+  pub writing : (u : UnderWay) (file block : ℕ) (body : List ℕ) (lease : Lease) → IsSettling t u → u.call ≡ Call.Write file block body
+      → CanWrite t.client u file lease → block < lease.blocks → is_full t.client file block ≡ false
+      → Q (answers (delays t file block body) u.q (Answer.Ok Value.Nothing) None)
   -- a put's write is delayed, and the put waits until the file is clean
-  pub putting : (u : UnderWay) (file block : ℕ) (body : List ℕ) (lease : Lease) → IsSettling t u → u.call ≡ Call.WriteSync file block body → u.written ≡ false → CanWrite t.client u file lease → block < lease.blocks → is_full t.client file block ≡ false → Q (marks_written (delays t file block body) u)
+  pub putting : (u : UnderWay) (file block : ℕ) (body : List ℕ) (lease : Lease) → IsSettling t u → u.call ≡ Call.WriteSync file block body
+      → u.written ≡ false → CanWrite t.client u file lease → block < lease.blocks → is_full t.client file block ≡ false
+      → Q (marks_written (delays t file block body) u)
   -- a write or a put that waits
-  pub write_waits : (u : UnderWay) (sync : Bool) (file block : ℕ) (body : List ℕ) → IsSettling t u → IsWrite u sync file block body → WriteWaits t.client u file → Q t
+  pub write_waits : (u : UnderWay) (sync : Bool) (file block : ℕ) (body : List ℕ) → IsSettling t u → IsWrite u sync file block body
+      → WriteWaits t.client u file → Q t
   -- a sync, or a put whose write was delayed, of a clean file
   pub syncing : (u : UnderWay) (file : ℕ) → IsSettling t u → IsSync u file → is_clean t.client file ≡ true → Q (answers t u.q (Answer.Ok Value.Nothing) None)
   -- a sync, or a put whose write was delayed, that waits
@@ -101,7 +110,8 @@ pub record Settled (t : ClientStep) : Type 0 where
 pub settle-cases : (t : ClientStep) (Q : ClientStep → Type 0) → SettleCases t Q → Q (settle t)
 settle-cases t Q cases = under-way t.client.call refl
   where
-    reads : (u : UnderWay) (file block : ℕ) → IsSettling t u → IsRead u.call file block → (o : Option Lease) → lease_on file t.client.leases ≡ o → Q (settle_read t u file block o)
+    reads : (u : UnderWay) (file block : ℕ) → IsSettling t u → IsRead u.call file block → (o : Option Lease) → lease_on file t.client.leases ≡ o
+        → Q (settle_read t u file block o)
     reads u file block is read None e = cases.read_waits u file block is read (no_lease (λ lease can. none-some lease (sym e ∙ can.held)))
     reads u file block is read (Some lease) e =
         choice
@@ -113,13 +123,17 @@ settle-cases t Q cases = under-way t.client.call refl
         (λ refuses. cases.read_waits u file block is read (no_lease (λ other can. refused other can refuses)))
       where
         refused : (other : Lease) → CanRead t.client file other → lets_read t.client.now lease ≡ false → ⊥
-        refused other can refuses = let one : lease ≡ other = some-same lease other (sym e ∙ can.held) in let yes : lets_read t.client.now lease ≡ true = subst (λ l. lets_read t.client.now l ≡ true) (sym one) can.lets in absurd (cc)
+        refused other can refuses =
+            let one : lease ≡ other = some-same lease other (sym e ∙ can.held) in
+            let yes : lets_read t.client.now lease ≡ true = subst (λ l. lets_read t.client.now l ≡ true) (sym one) can.lets in absurd (cc)
 
-        has : CanRead t.client file lease → block < lease.blocks → (o : Option (List ℕ)) → cached_body t.client file block ≡ o → Q (settle_body t u file block o)
+        has : CanRead t.client file lease → block < lease.blocks → (o : Option (List ℕ)) → cached_body t.client file block ≡ o
+            → Q (settle_body t u file block o)
         has can below None none = cases.read_waits u file block is read (no_block lease can below none)
         has can below (Some body) some = cases.reading u file block lease body is read can below some
 
-        within : CanRead t.client file lease → Q (if nat_le lease.blocks block then answers t u.q Answer.Range None else settle_body t u file block (cached_body t.client file block))
+        within : CanRead t.client file lease
+            → Q (if nat_le lease.blocks block then answers t u.q Answer.Range None else settle_body t u file block (cached_body t.client file block))
         within can =
             choice
             Q
@@ -129,11 +143,13 @@ settle-cases t Q cases = under-way t.client.call refl
             (λ out. cases.read_out u file block lease is read can (is-at-most _ _ out))
             (λ below. has can (is-not-at-most _ _ below) (cached_body t.client file block) refl)
 
-    delayed : (u : UnderWay) (sync : Bool) (file block : ℕ) (body : List ℕ) (lease : Lease) → IsSettling t u → IsWrite u sync file block body → CanWrite t.client u file lease → block < lease.blocks → is_full t.client file block ≡ false → Q (after_delay (delays t file block body) u sync)
+    delayed : (u : UnderWay) (sync : Bool) (file block : ℕ) (body : List ℕ) (lease : Lease) → IsSettling t u → IsWrite u sync file block body
+        → CanWrite t.client u file lease → block < lease.blocks → is_full t.client file block ≡ false → Q (after_delay (delays t file block body) u sync)
     delayed u true file block body lease is write can below room = cases.putting u file block body lease is write.0 write.1 can below room
     delayed u false file block body lease is write can below room = cases.writing u file block body lease is write can below room
 
-    writes : (u : UnderWay) (sync : Bool) (file block : ℕ) (body : List ℕ) → IsSettling t u → IsWrite u sync file block body → (o : Option Lease) → lease_on file t.client.leases ≡ o → Q (settle_write t u sync file block body o)
+    writes : (u : UnderWay) (sync : Bool) (file block : ℕ) (body : List ℕ) → IsSettling t u → IsWrite u sync file block body → (o : Option Lease)
+        → lease_on file t.client.leases ≡ o → Q (settle_write t u sync file block body o)
     writes u sync file block body is write None e = cases.write_waits u sync file block body is write (λ lease can. none-some lease (sym e ∙ can.held))
     writes u sync file block body is write (Some lease) e =
         choice
@@ -141,10 +157,12 @@ settle-cases t Q cases = under-way t.client.call refl
         (lets_write t.client.now lease && not (is_some (notice_on file t.client.notices)) && not u.through)
         (settle_write_in t u sync file block body lease)
         t
-        (λ lets. within (let a = and_parts _ _ lets in let b = and_parts _ _ a.0 in record { held = e; lets = b.0; unnoticed = none-there _ (not-true _ b.1); delayed = not-true _ a.1 }))
+        (λ lets. within (let a = and_parts _ _ lets in let b = and_parts _ _ a.0 in
+        record { held = e; lets = b.0; unnoticed = none-there _ (not-true _ b.1); delayed = not-true _ a.1 }))
         (λ refuses. cases.write_waits u sync file block body is write (λ other can. refused other can refuses))
       where
-        refused : (other : Lease) → CanWrite t.client u file other → (lets_write t.client.now lease && not (is_some (notice_on file t.client.notices)) && not u.through) ≡ false → ⊥
+        refused : (other : Lease) → CanWrite t.client u file other
+            → (lets_write t.client.now lease && not (is_some (notice_on file t.client.notices)) && not u.through) ≡ false → ⊥
         refused other can refuses =
             let one : lease ≡ other = some-same lease other (sym e ∙ can.held) in
             let lets : lets_write t.client.now lease ≡ true = subst (λ l. lets_write t.client.now l ≡ true) (sym one) can.lets in
@@ -176,9 +194,11 @@ settle-cases t Q cases = under-way t.client.call refl
             (λ room. delayed u sync file block body lease is write can (is-not-at-most _ _ below) room))
 
     syncs : (u : UnderWay) (file : ℕ) → IsSettling t u → IsSync u file → Q (settle_sync t u file)
-    syncs u file is sync = choice Q (is_clean t.client file) (answers t u.q (Answer.Ok Value.Nothing) None) t (cases.syncing u file is sync) (cases.sync_waits u file is sync)
+    syncs u file is sync =
+        choice Q (is_clean t.client file) (answers t u.q (Answer.Ok Value.Nothing) None) t (cases.syncing u file is sync) (cases.sync_waits u file is sync)
 
-    puts : (u : UnderWay) (file block : ℕ) (body : List ℕ) → IsSettling t u → u.call ≡ Call.WriteSync file block body → (written : Bool) → u.written ≡ written → Q (settle_put t u written file block body)
+    puts : (u : UnderWay) (file block : ℕ) (body : List ℕ) → IsSettling t u → u.call ≡ Call.WriteSync file block body → (written : Bool)
+        → u.written ≡ written → Q (settle_put t u written file block body)
     puts u file block body is put true written = syncs u file is (of_put block body put written)
     puts u file block body is put false written = writes u true file block body is (put, written) (lease_on file t.client.leases) refl
 
@@ -293,9 +313,12 @@ read-waits t u file block is read waits = record {
   syncs = λ v f other sync. absurd (read-no-sync u file block f read (subst (λ w. IsSync w f) (sym (one-settling t u v is other)) sync));
 }
 
-write-waits : (t : ClientStep) (u : UnderWay) (sync : Bool) (file block : ℕ) (body : List ℕ) → IsSettling t u → IsWrite u sync file block body → WriteWaits t.client u file → Settled t
+write-waits : (t : ClientStep) (u : UnderWay) (sync : Bool) (file block : ℕ) (body : List ℕ) → IsSettling t u → IsWrite u sync file block body
+    → WriteWaits t.client u file → Settled t
 write-waits t u sync file block body is write waits = record {
-  reads = λ v f b other reads. absurd (read-no-write u sync f b file block body (subst (λ w. IsRead w.call f b) (sym (one-settling t u v is other)) reads) write);
+  reads =
+      λ v f b other reads. absurd (read-no-write u sync f b file block body (subst (λ w. IsRead w.call f b) (sym (one-settling t u v is other)) reads)
+      write);
   writes = λ v s f b x other writes.
       let one = one-settling t u v is other in
       let same = same-write u sync s file block f b body x write (subst (λ w. IsWrite w s f b x) (sym one) writes) in
@@ -320,7 +343,9 @@ needs-reply t u is needs = record {
 }
 
 -- a file with a delayed write is not clean
-found-any-step : (file block : ℕ) (p x : Push) (xs : List Push) (b : Bool) → is_push_at file block x ≡ b → (dirty_at file block xs ≡ Some p → list_any (is_push_of file) xs ≡ true) → (if b then Some x else dirty_at file block xs) ≡ Some p → (is_push_of file x || list_any (is_push_of file) xs) ≡ true
+found-any-step : (file block : ℕ) (p x : Push) (xs : List Push) (b : Bool) → is_push_at file block x ≡ b
+    → (dirty_at file block xs ≡ Some p → list_any (is_push_of file) xs ≡ true) → (if b then Some x else dirty_at file block xs) ≡ Some p
+    → (is_push_of file x || list_any (is_push_of file) xs) ≡ true
 found-any-step file block p x xs true e rest found = let a = and_parts _ _ e in let of : is_push_of file x ≡ true = a.0 in rw of refl
 found-any-step file block p x xs false e rest found = either (is_push_of file x) (list_any (is_push_of file) xs) (rest found)
   where
@@ -341,18 +366,23 @@ any-last file y (x ∷ xs) e = either (is_push_of file x) (list_any (is_push_of 
     either true b h = refl
     either false b h = h
 
-dirty-any : (file block number : ℕ) (body : List ℕ) (dirty : List Push) (o : Option Push) → dirty_at file block dirty ≡ o → list_any (is_push_of file) (with_write file block number body dirty o) ≡ true
+dirty-any : (file block number : ℕ) (body : List ℕ) (dirty : List Push) (o : Option Push) → dirty_at file block dirty ≡ o
+    → list_any (is_push_of file) (with_write file block number body dirty o) ≡ true
 dirty-any file block number body dirty None e = any-last file (record { file = file; block = block; first = number; last = number; body = body }) dirty refl
 dirty-any file block number body dirty (Some p) e = any-written file file block number body dirty (Some p) (found-any file block p dirty e)
 
 pub delayed-dirty : (t : ClientStep) (file block : ℕ) (body : List ℕ) → is_clean (delays t file block body).client file ≡ false
 unfolding after_write
-delayed-dirty t file block body = let dirty = dirty-any file block t.client.number body t.client.dirty (dirty_at file block t.client.dirty) refl in rw dirty refl
+delayed-dirty t file block body =
+    let dirty = dirty-any file block t.client.number body t.client.dirty (dirty_at file block t.client.dirty) refl in rw dirty refl
 
 -- a put whose write was delayed waits, since its file is not clean
-put-waits : (t : ClientStep) (u : UnderWay) (file block : ℕ) (body : List ℕ) → IsSettling t u → u.call ≡ Call.WriteSync file block body → Settled (marks_written (delays t file block body) u)
+put-waits : (t : ClientStep) (u : UnderWay) (file block : ℕ) (body : List ℕ) → IsSettling t u → u.call ≡ Call.WriteSync file block body
+    → Settled (marks_written (delays t file block body) u)
 unfolding marks_written after_write
-put-waits t u file block body is put = sync-waits (marks_written (delays t file block body) u) (record u { written = true }) file settles (of_put block body put refl) (is-dirty ∙ delayed-dirty t file block body)
+put-waits t u file block body is put =
+    sync-waits (marks_written (delays t file block body) u) (record u { written = true }) file settles (of_put block body put refl)
+    (is-dirty ∙ delayed-dirty t file block body)
   where
     settles : IsSettling (marks_written (delays t file block body) u) (record u { written = true })
     settles = record { called = refl; idle = is.idle }

@@ -27,7 +27,8 @@ unfolding answers
 names-keeps t q file idle b = record { alone = record { asking = ends-call b.alone.asking idle; delaying = b.alone.delaying }; core = b.core }
 
 -- a read is answered from what the client has
-pub cached-keeps : {Heard : ℕ → Tag → Type 0} {Given : ℕ → Grant → ℕ → Type 0} {P : Core → Type 0} → Closed Heard Given P → (t : ClientStep) (u : UnderWay) (file block : ℕ) (body : List ℕ) → IsIdle t → Both P t → Both P (reads_cached t u file block body)
+pub cached-keeps : {Heard : ℕ → Tag → Type 0} {Given : ℕ → Grant → ℕ → Type 0} {P : Core → Type 0} → Closed Heard Given P
+    → (t : ClientStep) (u : UnderWay) (file block : ℕ) (body : List ℕ) → IsIdle t → Both P t → Both P (reads_cached t u file block body)
 unfolding reads_cached answers after_read
 cached-keeps closed t u file block body idle b = record {
   alone = record { asking = ends-call (uses file b.alone.asking) idle; delaying = b.alone.delaying };
@@ -35,7 +36,8 @@ cached-keeps closed t u file block body idle b = record {
 }
 
 -- a write is delayed
-pub delay-keeps : {Heard : ℕ → Tag → Type 0} {Given : ℕ → Grant → ℕ → Type 0} {P : Core → Type 0} → Closed Heard Given P → (t : ClientStep) (file block : ℕ) (body : List ℕ) → t.client.attached ≡ true → Both P t → Both P (delays t file block body)
+pub delay-keeps : {Heard : ℕ → Tag → Type 0} {Given : ℕ → Grant → ℕ → Type 0} {P : Core → Type 0} → Closed Heard Given P
+    → (t : ClientStep) (file block : ℕ) (body : List ℕ) → t.client.attached ≡ true → Both P t → Both P (delays t file block body)
 unfolding after_write
 delay-keeps closed t file block body attached b = record {
   alone = record {
@@ -55,14 +57,21 @@ delayed-attached t file block body h = h
 
 -- another call state at an attached client
 pub begun-call : (c : Client) (u : UnderWay) → c.attached ≡ true → AskingOf c → Asking c.who c.now c.attached (Some u) c.ticket c.xid c.seq c.leases c.notices
-begun-call c u e h = subst (λ a. Asking c.who c.now a (Some u) c.ticket c.xid c.seq c.leases c.notices) (sym e) (begins u (subst (λ a. Asking c.who c.now a c.call c.ticket c.xid c.seq c.leases c.notices) e h))
+begun-call c u e h =
+    subst (λ a. Asking c.who c.now a (Some u) c.ticket c.xid c.seq c.leases c.notices) (sym e)
+    (begins u (subst (λ a. Asking c.who c.now a c.call c.ticket c.xid c.seq c.leases c.notices) e h))
 
 written-keeps : {P : Core → Type 0} (t : ClientStep) (u : UnderWay) → t.client.attached ≡ true → Both P t → Both P (marks_written t u)
 unfolding marks_written
-written-keeps t u attached b = record { alone = record { asking = begun-call t.client (record u { written = true }) attached b.alone.asking; delaying = b.alone.delaying }; core = b.core }
+written-keeps t u attached b =
+    record {
+      alone = record { asking = begun-call t.client (record u { written = true }) attached b.alone.asking; delaying = b.alone.delaying };
+      core = b.core;
+    }
 
 -- a call that needs no packet is settled
-pub settle-keeps : {Heard : ℕ → Tag → Type 0} {Given : ℕ → Grant → ℕ → Type 0} {P : Core → Type 0} → Closed Heard Given P → (t : ClientStep) → Both P t → Both P (settle t)
+pub settle-keeps : {Heard : ℕ → Tag → Type 0} {Given : ℕ → Grant → ℕ → Type 0} {P : Core → Type 0} → Closed Heard Given P → (t : ClientStep) → Both P t
+    → Both P (settle t)
 settle-keeps {P = P} closed t b = settle-cases t (Both P) (record {
   idle = λ none. b;
   asking = λ u is own. b;
@@ -71,8 +80,12 @@ settle-keeps {P = P} closed t b = settle-cases t (Both P) (record {
   read_waits = λ u file block is read waits. b;
   write_out = λ u sync file block body lease is write can out. answers-keeps t u.q Answer.Range None is.idle b;
   write_full = λ u sync file block body lease is write can within full. answers-keeps t u.q Answer.DirtyFull None is.idle b;
-  writing = λ u file block body lease is write can within room. answers-keeps (delays t file block body) u.q (Answer.Ok Value.Nothing) None (delayed-idle t file block body is.idle) (delay-keeps closed t file block body (attached u is) b);
-  putting = λ u file block body lease is write unwritten can within room. written-keeps (delays t file block body) u (delayed-attached t file block body (attached u is)) (delay-keeps closed t file block body (attached u is) b);
+  writing =
+      λ u file block body lease is write can within room. answers-keeps (delays t file block body) u.q (Answer.Ok Value.Nothing) None
+      (delayed-idle t file block body is.idle) (delay-keeps closed t file block body (attached u is) b);
+  putting =
+      λ u file block body lease is write unwritten can within room. written-keeps (delays t file block body) u
+      (delayed-attached t file block body (attached u is)) (delay-keeps closed t file block body (attached u is) b);
   write_waits = λ u sync file block body is write waits. b;
   syncing = λ u file is sync clean. answers-keeps t u.q (Answer.Ok Value.Nothing) None is.idle b;
   sync_waits = λ u file is sync dirty. b;

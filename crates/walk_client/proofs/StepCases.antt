@@ -26,9 +26,11 @@ pub record CallCases (c : Client) (op : Call) (Q : ClientStep → Type 0) : Type
   -- another call is under way, or the client is not attached yet
   pub busy : (is_some c.call ≡ true) ⊎ (c.attached ≡ false) → Q (says_busy (begins_call c op))
   -- the call is told the losses of its file
-  pub telling : (file : ℕ) (loss : Loss) (losses : List Loss) → c.call ≡ None → c.attached ≡ true → changed_file op ≡ Some file → losses_of file c.losses ≡ loss ∷ losses → Q (names_losses (begins_call c op) (begins_call c op).client.calls file)
+  pub telling : (file : ℕ) (loss : Loss) (losses : List Loss) → c.call ≡ None → c.attached ≡ true → changed_file op ≡ Some file
+      → losses_of file c.losses ≡ loss ∷ losses → Q (names_losses (begins_call c op) (begins_call c op).client.calls file)
   -- the call is under way
-  pub going : c.call ≡ None → c.attached ≡ true → losses_for (changed_file op) c.losses ≡ [] → Q (sends_unless_cached (settle (is_called (begins_call c op) op)))
+  pub going : c.call ≡ None → c.attached ≡ true → losses_for (changed_file op) c.losses ≡ []
+      → Q (sends_unless_cached (settle (is_called (begins_call c op) op)))
 
 pub call-cases : (c : Client) (op : Call) (Q : ClientStep → Type 0) → CallCases c op Q → Q (client_call c op)
 call-cases c op Q cases =
@@ -50,16 +52,19 @@ call-cases c op Q cases =
     neither None false e = cc
     neither None true e = (refl, refl)
 
-    tells : c.call ≡ None → c.attached ≡ true → (o : Option ℕ) → changed_file op ≡ o → (loss : Loss) (losses : List Loss) → losses_for o c.losses ≡ loss ∷ losses → Q (tell_losses (begins_call c op) o)
+    tells : c.call ≡ None → c.attached ≡ true → (o : Option ℕ) → changed_file op ≡ o → (loss : Loss) (losses : List Loss)
+        → losses_for o c.losses ≡ loss ∷ losses → Q (tell_losses (begins_call c op) o)
     tells none on None f loss losses e = absurd (cc)
     tells none on (Some file) f loss losses e = cases.telling file loss losses none on f e
 
-    past : c.call ≡ None → c.attached ≡ true → (o : Option ℕ) → changed_file op ≡ o → (losses : List Loss) → losses_for (changed_file op) c.losses ≡ losses → Q (call_past_losses (begins_call c op) op losses)
+    past : c.call ≡ None → c.attached ≡ true → (o : Option ℕ) → changed_file op ≡ o → (losses : List Loss)
+        → losses_for (changed_file op) c.losses ≡ losses → Q (call_past_losses (begins_call c op) op losses)
     past none on o f [] e = cases.going none on e
     past none on o f (loss ∷ losses) e = tells none on (changed_file op) refl loss losses e
 
 -- after a call was answered from the cache nothing is sent
-pub unless-cached-cases : (t : ClientStep) (Q : ClientStep → Type 0) → (t.cached ≡ true → Q t) → (t.cached ≡ false → Q (send_next false t)) → Q (sends_unless_cached t)
+pub unless-cached-cases : (t : ClientStep) (Q : ClientStep → Type 0) → (t.cached ≡ true → Q t) → (t.cached ≡ false → Q (send_next false t))
+    → Q (sends_unless_cached t)
 unless-cached-cases t Q when otherwise = choice Q t.cached t (send_next false t) when otherwise
 
 -- ---- a tick
@@ -102,9 +107,11 @@ evicted-cases t file tag Q cases = choice Q (is_clean t.client file) (vacates_le
 
 pub record HeardCases (c : Client) (k : ℕ) (m : Message) (Q : ClientStep → Type 0) : Type 0 where
   -- the reply to the request under way
-  pub answered : (xid : ℕ) (r : Reply) (ticket : Ticket) → m ≡ reply xid r → c.ticket ≡ Some ticket → xid ≡ ticket.xid → inc_of r ≡ c.who.inc → reply_counts r ticket ≡ true → Q (goes_on (replied (begun c) k ticket r))
+  pub answered : (xid : ℕ) (r : Reply) (ticket : Ticket) → m ≡ reply xid r → c.ticket ≡ Some ticket → xid ≡ ticket.xid → inc_of r ≡ c.who.inc
+      → reply_counts r ticket ≡ true → Q (goes_on (replied (begun c) k ticket r))
   -- a notice
-  pub noticed : (xid file : ℕ) (tag : Tag) → m ≡ call xid (Request.Evicted c.who file tag) → holds_later tag (lease_on file c.leases) ≡ false → Q (goes_on (evicted (cancels (begun c) file) file tag))
+  pub noticed : (xid file : ℕ) (tag : Tag) → m ≡ call xid (Request.Evicted c.who file tag) → holds_later tag (lease_on file c.leases) ≡ false
+      → Q (goes_on (evicted (cancels (begun c) file) file tag))
 
 pub heard-cases : (c : Client) (k : ℕ) (m : Message) (t : ClientStep) (Q : ClientStep → Type 0) → hear c k m ≡ Some t → HeardCases c k m Q → Q t
 heard-cases c k m t Q hears cases = case m refl hears
@@ -121,7 +128,9 @@ heard-cases c k m t Q hears cases = case m refl hears
             let same : goes_on (replied (begun c) k ticket r) ≡ t = some-same _ _ e in
             subst Q same (cases.answered xid r ticket is f (same-number _ _ b.0) (same-number _ _ b.1) a.1)
 
-    notices : (xid : ℕ) (who : Who) (file : ℕ) (tag : Tag) → m ≡ call xid (Request.Evicted who file tag) → (b : Bool) → (same_who who c.who && not (holds_later tag (lease_on file c.leases))) ≡ b → (if b then Some (goes_on (evicted (cancels (begun c) file) file tag)) else None) ≡ Some t → Q t
+    notices : (xid : ℕ) (who : Who) (file : ℕ) (tag : Tag) → m ≡ call xid (Request.Evicted who file tag) → (b : Bool)
+        → (same_who who c.who && not (holds_later tag (lease_on file c.leases))) ≡ b
+        → (if b then Some (goes_on (evicted (cancels (begun c) file) file tag)) else None) ≡ Some t → Q t
     notices xid who file tag is false g e = absurd (cc)
     notices xid who file tag is true g e =
         let a = and_parts _ _ g in

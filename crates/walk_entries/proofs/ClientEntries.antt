@@ -14,7 +14,8 @@ use Rattle.nq_base.specs.declared.Tag.{Tag}
 use Rattle.nq_base.specs.declared.Value.{Value}
 use Rattle.nq_base.specs.declared.Who.{Who}
 use Rattle.nq_model.specs.Client.{Client, ClientStep, Job, for_call, Notice, Ticket, UnderWay, begun, losses_of, loss_list, notice_on}
-use Rattle.nq_model.specs.ClientStep.{told, begins_call, is_called, says_busy, client_call, at_time, sends_again, client_tick, starts, fresh_client, next_incarnation, restart}
+use Rattle.nq_model.specs.ClientStep.{begins_call, is_called, says_busy, client_call, at_time, sends_again, client_tick, starts, fresh_client, next_incarnation, restart}
+use Rattle.nq_base.specs.Calls.{told}
 use Rattle.nq_model.specs.Hear.{vacates_lease, vacates_noticed, loses, reports, without_lease, push_refused, breaks_chain, if_broken, holds, takes_grant, takes_optional, answers_call, caches_block, then_caches, purges, knows_revision, read_done, lease_done, marks_through, caches_write, write_done, ends_push, caches_push, push_done, spends, attached, pauses, cancels, notes_notice, evicted, replied, reply_counts, answer_of, goes_on, hear, inc_of, all_dirty}
 use Rattle.nq_model.specs.Message.{Message, reply}
 use Rattle.nq_model.specs.Send.{sends_request, after_seq, after_number, takes_push, sends_write, gives_up, send_next}

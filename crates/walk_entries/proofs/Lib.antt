@@ -1,4 +1,3 @@
 pub mod ServerEntries
 pub mod Losses
 pub mod ClientEntries
-pub mod GivenRuns

@@ -53,16 +53,21 @@ module _ (s : Server) (who : Who) (file : ℕ) (tag : Tag) (stands : StandingFit
   Before kept phase table = StandsWriting who file tag (standing_in phase table).rows → Stood who file tag (standing_in s.phase s.table).rows
 
   own-unique : s.phase ≡ serving → HasUniqueKeys s.table.rows
-  own-unique p = let own : TableFits s.kept.files s.table.boot s.table.drawn s.table.rows = subst (λ p. StandingFits s.kept.files p s.table) p stands in own.unique
+  own-unique p =
+      let own : TableFits s.kept.files s.table.boot s.table.drawn s.table.rows = subst (λ p. StandingFits s.kept.files p s.table) p stands in own.unique
 
   -- in a phase that goes on the rows of the table count while the server serves
-  moved : (phase : Phase) (table after : Table) → (phase ≡ serving → StandsWriting who file tag after.rows → Stood who file tag table.rows) → StandsWriting who file tag (standing_in phase after).rows → Stood who file tag (standing_in phase table).rows
+  moved : (phase : Phase) (table after : Table) → (phase ≡ serving → StandsWriting who file tag after.rows → Stood who file tag table.rows)
+      → StandsWriting who file tag (standing_in phase after).rows → Stood who file tag (standing_in phase table).rows
   moved serving table after was w = was refl w
   moved (recovering until heard last) table after was w = only-stood who file tag (last_table last).rows w
 
-  fewer : (rows : List Row) → (s.phase ≡ serving → (row : Row) → find_row file who.host rows ≡ Some row → find_row file who.host s.table.rows ≡ Some row) → StandsWriting who file tag (standing_in s.phase (with_rows s.table rows)).rows → Stood who file tag (standing_in s.phase s.table).rows
+  fewer : (rows : List Row) → (s.phase ≡ serving → (row : Row) → find_row file who.host rows ≡ Some row
+      → find_row file who.host s.table.rows ≡ Some row) → StandsWriting who file tag (standing_in s.phase (with_rows s.table rows)).rows
+      → Stood who file tag (standing_in s.phase s.table).rows
   unfolding with_rows
-  fewer rows stood = moved s.phase s.table (with_rows s.table rows) (λ p w. record { row = w.row; stands = stood p w.row w.stands; holder = w.holder; began = w.began })
+  fewer rows stood =
+      moved s.phase s.table (with_rows s.table rows) (λ p w. record { row = w.row; stands = stood p w.row w.stands; holder = w.holder; began = w.began })
 
   was-marked : (f h : ℕ) (access : Access) → StandsWriting who file tag (marked f h access s.table.rows) → StandsWriting who file tag s.table.rows
   was-marked f h access w =
@@ -76,21 +81,31 @@ module _ (s : Server) (who : Who) (file : ℕ) (tag : Tag) (stands : StandingFit
         writes = ap is_writing (sym k.mode) ∙ ap (λ r. is_writing r.mode) (sym m.is) ∙ w.writes;
       }
 
-  marks : (f h : ℕ) (access : Access) → StandsWriting who file tag (standing_in s.phase (with_rows s.table (marked f h access s.table.rows))).rows → Stood who file tag (standing_in s.phase s.table).rows
+  marks : (f h : ℕ) (access : Access) → StandsWriting who file tag (standing_in s.phase (with_rows s.table (marked f h access s.table.rows))).rows
+      → Stood who file tag (standing_in s.phase s.table).rows
   unfolding with_rows
-  marks f h access = moved s.phase s.table (with_rows s.table (marked f h access s.table.rows)) (λ p w. only-stood who file tag s.table.rows (was-marked f h access w))
+  marks f h access =
+      moved s.phase s.table (with_rows s.table (marked f h access s.table.rows)) (λ p w. only-stood who file tag s.table.rows (was-marked f h access w))
 
   -- a row that waits lets its holder write nothing
-  waiter : (q : Question) (want : Want) → StandsWriting who file tag (standing_in s.phase (with_waiter s.table q want)).rows → Stood who file tag (standing_in s.phase s.table).rows
+  waiter : (q : Question) (want : Want) → StandsWriting who file tag (standing_in s.phase (with_waiter s.table q want)).rows
+      → Stood who file tag (standing_in s.phase s.table).rows
   unfolding after_draw with_rows sharing_row
-  waiter q want = moved s.phase s.table (with_waiter s.table q want) (λ p w. case w (found-put file who.host new w.row (marked q.file q.who.host q.access s.table.rows) w.stands))
+  waiter q want =
+      moved s.phase s.table (with_waiter s.table q want)
+      (λ p w. case w (found-put file who.host new w.row (marked q.file q.who.host q.access s.table.rows) w.stands))
     where
       new : Row
       new = sharing_row (with_marked s.table q) q (term_of q want)
 
-      case : (w : StandsWriting who file tag (put_row new (marked q.file q.who.host q.access s.table.rows))) → ((is_row_of file who.host new ≡ true) × (w.row ≡ new)) ⊎ ((is_row_of file who.host new ≡ false) × (find_row file who.host (marked q.file q.who.host q.access s.table.rows) ≡ Some w.row)) → Stood who file tag s.table.rows
+      case : (w : StandsWriting who file tag (put_row new (marked q.file q.who.host q.access s.table.rows)))
+          → ((is_row_of file who.host new ≡ true) × (w.row ≡ new))
+          ⊎ ((is_row_of file who.host new ≡ false) × (find_row file who.host (marked q.file q.who.host q.access s.table.rows) ≡ Some w.row))
+          → Stood who file tag s.table.rows
       case w (inl k) = let mode : is_writing w.row.mode ≡ false = ap (λ r. is_writing r.mode) k.1 in let writes = w.writes in absurd (cc)
-      case w (inr k) = only-stood who file tag s.table.rows (was-marked q.file q.who.host q.access (record { row = w.row; stands = k.1; holder = w.holder; began = w.began; writes = w.writes }))
+      case w (inr k) =
+          only-stood who file tag s.table.rows
+          (was-marked q.file q.who.host q.access (record { row = w.row; stands = k.1; holder = w.holder; began = w.began; writes = w.writes }))
 
   serving-drawn : s.phase ≡ serving → tag_below tag (next_tag s.table) ≡ true
   serving-drawn p = drawn-below s.table.boot s.table.drawn tag (subst (λ q. IsDrawn (standing_in q s.table).boot (standing_in q s.table).drawn tag) p drawn)
@@ -99,7 +114,8 @@ module _ (s : Server) (who : Who) (file : ℕ) (tag : Tag) (stands : StandingFit
   fresh : s.phase ≡ serving → (row : Row) → row.since ≡ next_tag s.table → tag_below tag row.since ≡ false → ⊥
   fresh p row since began = let below : tag_below tag row.since ≡ true = subst (λ t. tag_below tag t ≡ true) (sym since) (serving-drawn p) in absurd (cc)
 
-  granted-own : s.phase ≡ serving → (q : Question) (want : Want) (row : Row) (term : ℕ) → IsGranted s.table q want row term → is_row_of file who.host row ≡ true → row.who ≡ who → tag_below tag row.since ≡ false → Stood who file tag s.table.rows
+  granted-own : s.phase ≡ serving → (q : Question) (want : Want) (row : Row) (term : ℕ) → IsGranted s.table q want row term
+      → is_row_of file who.host row ≡ true → row.who ≡ who → tag_below tag row.since ≡ false → Stood who file tag s.table.rows
   unfolding sharing_row caching_row shared_again renewed_row
   granted-own p q want row term (shares_again own found stays shares is lasts) key holder began = absurd (fresh p row (ap (λ r. r.since) is) began)
   granted-own p q want row term (begins_sharing none room shared is lasts) key holder began = absurd (fresh p row (ap (λ r. r.since) is) began)
@@ -116,19 +132,32 @@ module _ (s : Server) (who : Who) (file : ℕ) (tag : Tag) (stands : StandingFit
         began = subst (λ t. tag_below tag t ≡ false) (ap (λ r. r.since) is) began;
       }
 
-  grants : s.phase ≡ serving → (q : Question) (want : Want) (row : Row) (term : ℕ) → IsGranted s.table q want row term → StandsWriting who file tag (standing_in s.phase (after_draw s.table (put_row row s.table.rows))).rows → Stood who file tag (standing_in s.phase s.table).rows
+  grants : s.phase ≡ serving → (q : Question) (want : Want) (row : Row) (term : ℕ) → IsGranted s.table q want row term
+      → StandsWriting who file tag (standing_in s.phase (after_draw s.table (put_row row s.table.rows))).rows
+      → Stood who file tag (standing_in s.phase s.table).rows
   unfolding after_draw
-  grants p q want row term granted = moved s.phase s.table (after_draw s.table (put_row row s.table.rows)) (λ p w. case p w (found-put file who.host row w.row s.table.rows w.stands))
+  grants p q want row term granted =
+      moved s.phase s.table (after_draw s.table (put_row row s.table.rows)) (λ p w. case p w (found-put file who.host row w.row s.table.rows w.stands))
     where
-      case : s.phase ≡ serving → (w : StandsWriting who file tag (put_row row s.table.rows)) → ((is_row_of file who.host row ≡ true) × (w.row ≡ row)) ⊎ ((is_row_of file who.host row ≡ false) × (find_row file who.host s.table.rows ≡ Some w.row)) → Stood who file tag s.table.rows
-      case p w (inl k) = granted-own p q want row term granted k.0 (subst (λ r. r.who ≡ who) k.1 w.holder) (subst (λ r. tag_below tag r.since ≡ false) k.1 w.began)
+      case : s.phase ≡ serving → (w : StandsWriting who file tag (put_row row s.table.rows))
+          → ((is_row_of file who.host row ≡ true) × (w.row ≡ row))
+          ⊎ ((is_row_of file who.host row ≡ false) × (find_row file who.host s.table.rows ≡ Some w.row)) → Stood who file tag s.table.rows
+      case p w (inl k) =
+          granted-own p q want row term granted k.0 (subst (λ r. r.who ≡ who) k.1 w.holder) (subst (λ r. tag_below tag r.since ≡ false) k.1 w.began)
       case p w (inr k) = record { row = w.row; stands = k.1; holder = w.holder; began = w.began }
 
-  heard-row : (row : Row) (time : ℕ) → s.phase ≡ serving → (host : ℕ) (f : ℕ) → find_row f host s.table.rows ≡ Some row → StandsWriting who file tag (standing_in s.phase (with_rows s.table (put_row (record row { heard = time }) s.table.rows))).rows → Stood who file tag (standing_in s.phase s.table).rows
+  heard-row : (row : Row) (time : ℕ) → s.phase ≡ serving → (host : ℕ) (f : ℕ) → find_row f host s.table.rows ≡ Some row
+      → StandsWriting who file tag (standing_in s.phase (with_rows s.table (put_row (record row { heard = time }) s.table.rows))).rows
+      → Stood who file tag (standing_in s.phase s.table).rows
   unfolding with_rows
-  heard-row row time p host f found = moved s.phase s.table (with_rows s.table (put_row (record row { heard = time }) s.table.rows)) (λ q w. case w (found-put file who.host (record row { heard = time }) w.row s.table.rows w.stands))
+  heard-row row time p host f found =
+      moved s.phase s.table (with_rows s.table (put_row (record row { heard = time }) s.table.rows))
+      (λ q w. case w (found-put file who.host (record row { heard = time }) w.row s.table.rows w.stands))
     where
-      case : (w : StandsWriting who file tag (put_row (record row { heard = time }) s.table.rows)) → ((is_row_of file who.host (record row { heard = time }) ≡ true) × (w.row ≡ record row { heard = time })) ⊎ ((is_row_of file who.host (record row { heard = time }) ≡ false) × (find_row file who.host s.table.rows ≡ Some w.row)) → Stood who file tag s.table.rows
+      case : (w : StandsWriting who file tag (put_row (record row { heard = time }) s.table.rows))
+          → ((is_row_of file who.host (record row { heard = time }) ≡ true) × (w.row ≡ record row { heard = time }))
+          ⊎ ((is_row_of file who.host (record row { heard = time }) ≡ false) × (find_row file who.host s.table.rows ≡ Some w.row))
+          → Stood who file tag s.table.rows
       case w (inl k) =
           let key = of-key file who.host (record row { heard = time }) k.0 in
           let own = found-row f host s.table.rows row found in
@@ -154,15 +183,21 @@ module _ (s : Server) (who : Who) (file : ℕ) (tag : Tag) (stands : StandingFit
     creating = λ name blocks serves can. only-stood who file tag (standing_in s.phase s.table).rows;
     changing = λ w f changed serves current found same c. only-stood who file tag (standing_in s.phase s.table).rows;
     storing = λ w f changed base row serves current found same can. heard-row row s.now serves w.host f.id can.row_found;
-    storing_recovering = λ f changed until heard last p found same w. subst (λ q. Stood who file tag (standing_in q s.table).rows) (sym p) (only-stood who file tag (last_table last).rows w);
-    removing = λ w f serves current found c. fewer _ (λ p row stood. (found-kept (λ r. not (r.file == f.id)) file who.host s.table.rows row (own-unique p) stood).0);
+    storing_recovering =
+        λ f changed until heard last p found same w. subst (λ q. Stood who file tag (standing_in q s.table).rows) (sym p)
+        (only-stood who file tag (last_table last).rows w);
+    removing =
+        λ w f serves current found c. fewer _
+        (λ p row stood. (found-kept (λ r. not (r.file == f.id)) file who.host s.table.rows row (own-unique p) stood).0);
   }
 
   -- the row that is bound after a datagram stood before
-  pub stood-receive : (sender next : ℕ) (d : Datagram) → StandsWriting who file tag (standing (receive s sender next d).server).rows → Stood who file tag (standing s).rows
+  pub stood-receive : (sender next : ℕ) (d : Datagram) → StandsWriting who file tag (standing (receive s sender next d).server).rows
+      → Stood who file tag (standing s).rows
   stood-receive sender next d = server-moves s sender next d Before (moves-before d)
 
-  left : (now : ℕ) → s.phase ≡ serving → (row : Row) → find_row file who.host (end_reading now s.table.rows) ≡ Some row → find_row file who.host s.table.rows ≡ Some row
+  left : (now : ℕ) → s.phase ≡ serving → (row : Row) → find_row file who.host (end_reading now s.table.rows) ≡ Some row
+      → find_row file who.host s.table.rows ≡ Some row
   left now p row found = (found-kept (λ r. not (is_over now r)) file who.host s.table.rows row (own-unique p) found).0
 
   -- and before a tick
@@ -171,5 +206,8 @@ module _ (s : Server) (who : Who) (file : ℕ) (tag : Tag) (stands : StandingFit
     waits = λ until heard last p goes_on. only-stood who file tag (standing_in s.phase s.table).rows;
     opening = λ until heard last p over w. none-some w.row (ap (find_row file who.host) (sym (none-opened s until heard last p none)) ∙ w.stands);
     ends_reading = λ p. fewer _ (λ q row found. left now q row found);
-    ending_writing = λ due p ends. fewer _ (λ q row found. left now q row (found-kept (λ r. not (is_row_of due.file due.who.host r)) file who.host (end_reading now s.table.rows) row (unique-filtered (λ r. not (is_over now r)) s.table.rows (own-unique q)) found).0);
+    ending_writing =
+        λ due p ends. fewer _ (λ q row found. left now q row
+        (found-kept (λ r. not (is_row_of due.file due.who.host r)) file who.host (end_reading now s.table.rows) row
+        (unique-filtered (λ r. not (is_over now r)) s.table.rows (own-unique q)) found).0);
   })

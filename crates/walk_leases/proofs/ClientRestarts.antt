@@ -27,7 +27,8 @@ use Rattle.nq_model.specs.World.{from_host}
 
 -- ---- a restart
 
-module _ (line : HostRow) (s : Server) (events : List Event) (c : Client) (ps : List Packet) (m : Mail c.who c.xid c.ticket ps) (h : KnowsOf line s events c ps) where
+module _ (line : HostRow) (s : Server) (events : List Event) (c : Client) (ps : List Packet) (m : Mail c.who c.xid c.ticket ps)
+    (h : KnowsOf line s events c ps) where
   -- the incarnation that begins, and its first request
   abbrev who : Who
   who = next_incarnation c.who
@@ -50,10 +51,13 @@ module _ (line : HostRow) (s : Server) (events : List Event) (c : Client) (ps : 
   not-attach : (w v : Who) (file : ℕ) (tag : Tag) → Request.Attach w ≡ Request.Vacated v file tag → ⊥
   not-attach w v file tag e = absurd (cc)
 
-  old-vacated : (x : ℕ) (w : Who) (file : ℕ) (tag : Tag) → Asked (ps ++ from_host c.who.host (call 1 (Request.Attach who)) ∷ []) c.who.host x (Request.Vacated w file tag) → Asked ps c.who.host x (Request.Vacated w file tag)
+  old-vacated : (x : ℕ) (w : Who) (file : ℕ) (tag : Tag)
+      → Asked (ps ++ from_host c.who.host (call 1 (Request.Attach who)) ∷ []) c.who.host x (Request.Vacated w file tag)
+      → Asked ps c.who.host x (Request.Vacated w file tag)
   old-vacated x w file tag sent = case (asked-before ps c.who.host 1 x (Request.Attach who) (Request.Vacated w file tag) sent)
     where
-      case : Asked ps c.who.host x (Request.Vacated w file tag) ⊎ ((1 ≡ x) × (Request.Attach who ≡ Request.Vacated w file tag)) → Asked ps c.who.host x (Request.Vacated w file tag)
+      case : Asked ps c.who.host x (Request.Vacated w file tag) ⊎ ((1 ≡ x) × (Request.Attach who ≡ Request.Vacated w file tag))
+          → Asked ps c.who.host x (Request.Vacated w file tag)
       case (inl there) = there
       case (inr new) = absurd (not-attach who w file tag new.1)
 
@@ -70,14 +74,17 @@ module _ (line : HostRow) (s : Server) (events : List Event) (c : Client) (ps : 
     settled = λ kept x r w n sent. let p = h.lined.past in absurd (omega arith);
     answered = λ x a sent inc. absurd (past-reply x a sent inc);
   } where
-    noticed : (x : ℕ) (w : Who) (file : ℕ) (tag : Tag) → Told (ps ++ from_host c.who.host (call 1 (Request.Attach who)) ∷ []) c.who.host (call x (Request.Evicted w file tag)) → w.inc ≤ c.who.inc
+    noticed : (x : ℕ) (w : Who) (file : ℕ) (tag : Tag)
+        → Told (ps ++ from_host c.who.host (call 1 (Request.Attach who)) ∷ []) c.who.host (call x (Request.Evicted w file tag)) → w.inc ≤ c.who.inc
     noticed x w file tag sent = h.lined.evicted_past x w file tag (told-there (call x (Request.Evicted w file tag)) sent)
 
-    above : (x : ℕ) (r : Request) (w : Who) → asker r ≡ Some w → line.inc < w.inc → Asked ps c.who.host x r ⊎ ((1 ≡ x) × (Request.Attach who ≡ r)) → r ≡ Request.Attach w
+    above : (x : ℕ) (r : Request) (w : Who) → asker r ≡ Some w → line.inc < w.inc → Asked ps c.who.host x r ⊎ ((1 ≡ x) × (Request.Attach who ≡ r))
+        → r ≡ Request.Attach w
     above x r w by later (inl old) = h.lined.above x r w old by later
     above x r w by later (inr new) = attaches x r w by new
 
-    waiting : (x : ℕ) (r : Request) (w : Who) → asker r ≡ Some w → w.inc ≡ c.who.inc + 1 → Asked ps c.who.host x r ⊎ ((1 ≡ x) × (Request.Attach who ≡ r)) → r ≡ Request.Attach w
+    waiting : (x : ℕ) (r : Request) (w : Who) → asker r ≡ Some w → w.inc ≡ c.who.inc + 1
+        → Asked ps c.who.host x r ⊎ ((1 ≡ x) × (Request.Attach who ≡ r)) → r ≡ Request.Attach w
     waiting x r w by inc (inl old) = let below = (m.asked x r w old by).inc in absurd (omega arith)
     waiting x r w by inc (inr new) = attaches x r w by new
 
@@ -101,15 +108,27 @@ module _ (line : HostRow) (s : Server) (events : List Event) (c : Client) (ps : 
   }
 
   restarted-knows : Knows NoneHeard NoneGiven line s events who c.now false (Some first) [] [] (ps ++ from_host c.who.host (call 1 (Request.Attach who)) ∷ [])
-  restarted-knows = record { lined = restarted-line; tagged = restarted-tags; covered = restarted-covers; heard = λ file tag bad. absurd bad; pending = λ file g sent bad. absurd bad }
+  restarted-knows =
+      record {
+        lined = restarted-line;
+        tagged = restarted-tags;
+        covered = restarted-covers;
+        heard = λ file tag bad. absurd bad;
+        pending = λ file g sent bad. absurd bad;
+      }
 
   -- at once, while the clock goes on
   restart-now : (host : ℕ) → c.who.host ≡ host → KnowsOf line s events (restart c).client (packets_with ps host (restart c).sends)
   unfolding starts fresh_client
-  restart-now host here = subst (λ n. Knows NoneHeard NoneGiven line s events who c.now false (Some first) [] [] (ps ++ from_host n (call 1 (Request.Attach who)) ∷ [])) here restarted-knows
+  restart-now host here =
+      subst (λ n. Knows NoneHeard NoneGiven line s events who c.now false (Some first) [] [] (ps ++ from_host n (call 1 (Request.Attach who)) ∷ []))
+      here restarted-knows
 
-pub restart-knows : {line : HostRow} {s : Server} {events : List Event} (e : Event) (host : ℕ) (c : Client) (ps : List Packet) → c.now ≡ ticks_of c.who.host events → IsAt host c ps → KnowsOf line s events c ps → KnowsOf line s (e ∷ events) (restart c).client (packets_with ps host (restart c).sends)
-restart-knows {line = line} {s = s} {events = events} e host c ps clock a h = restart-now line s (e ∷ events) c ps a.mail (knows-passes e c.now c clock (omega arith) a.alone h) host a.here
+pub restart-knows : {line : HostRow} {s : Server} {events : List Event} (e : Event) (host : ℕ) (c : Client) (ps : List Packet)
+    → c.now ≡ ticks_of c.who.host events → IsAt host c ps → KnowsOf line s events c ps
+    → KnowsOf line s (e ∷ events) (restart c).client (packets_with ps host (restart c).sends)
+restart-knows {line = line} {s = s} {events = events} e host c ps clock a h =
+    restart-now line s (e ∷ events) c ps a.mail (knows-passes e c.now c clock (omega arith) a.alone h) host a.here
 
 -- ---- what other hosts send
 
@@ -121,7 +140,9 @@ module _ (who : Who) (host : ℕ) (ps : List Packet) (sends : List Message) (apa
   told-old n i = old-told ps host who.host sends n i
 
   -- nothing that is asked or told of this host is new
-  other-packets : {line : HostRow} {s : Server} {events : List Event} {now : ℕ} {attached : Bool} {ticket : Option Ticket} {leases : List Lease} {notices : List Notice} → Knows NoneHeard NoneGiven line s events who now attached ticket leases notices ps → Knows NoneHeard NoneGiven line s events who now attached ticket leases notices (packets_with ps host sends)
+  other-packets : {line : HostRow} {s : Server} {events : List Event} {now : ℕ} {attached : Bool} {ticket : Option Ticket} {leases : List Lease}
+      {notices : List Notice} → Knows NoneHeard NoneGiven line s events who now attached ticket leases notices ps
+      → Knows NoneHeard NoneGiven line s events who now attached ticket leases notices (packets_with ps host sends)
   other-packets h = record {
     lined = let l = h.lined in record {
       past = l.past;
@@ -142,12 +163,31 @@ module _ (who : Who) (host : ℕ) (ps : List Packet) (sends : List Message) (apa
       vacates = λ x w file tag sent. t.vacates x w file tag (asked-old x (Request.Vacated w file tag) sent);
       grants = λ x a g sent. t.grants x a g (told-old (reply x a) sent);
       past_held = λ x w file tag l sent. t.past_held x w file tag l (asked-old x (Request.Vacated w file tag) sent);
-      past_given = λ x w file tag y a g u sent inc told. t.past_given x w file tag y a g u (asked-old x (Request.Vacated w file tag) sent) inc (told-old (reply y a) told);
+      past_given =
+          λ x w file tag y a g u sent inc told. t.past_given x w file tag y a g u (asked-old x (Request.Vacated w file tag) sent) inc
+          (told-old (reply y a) told);
     };
-    covered = cover-ticket _ (packets_with ps host sends) (λ file g t k. (t, record { x = k.x; a = k.a; told = told-old (reply k.x k.a) k.told; inc = k.inc; asked = k.asked; number = k.number; on_file = k.on_file; gives = k.gives }, refl)) h.covered;
+    covered =
+        cover-ticket _ (packets_with ps host sends)
+        (λ file g t k. (
+          t,
+          record {
+            x = k.x;
+            a = k.a;
+            told = told-old (reply k.x k.a) k.told;
+            inc = k.inc;
+            asked = k.asked;
+            number = k.number;
+            on_file = k.on_file;
+            gives = k.gives;
+          },
+          refl,
+        )) h.covered;
     heard = λ file tag bad. absurd bad;
     pending = λ file g sent bad. absurd bad;
   }
 
-pub other-knows : {line : HostRow} {s : Server} {events : List Event} (e : Event) (host : ℕ) (c : Client) (ps : List Packet) (sends : List Message) → (c.who.host ≡ host → ⊥) → c.now ≡ ticks_of c.who.host events → Alone c → KnowsOf line s events c ps → KnowsOf line s (e ∷ events) c (packets_with ps host sends)
+pub other-knows : {line : HostRow} {s : Server} {events : List Event} (e : Event) (host : ℕ) (c : Client) (ps : List Packet) (sends : List Message)
+    → (c.who.host ≡ host → ⊥) → c.now ≡ ticks_of c.who.host events → Alone c → KnowsOf line s events c ps
+    → KnowsOf line s (e ∷ events) c (packets_with ps host sends)
 other-knows e host c ps sends apart clock a h = other-packets c.who host ps sends apart (knows-passes e c.now c clock (omega arith) a h)

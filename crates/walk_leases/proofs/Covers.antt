@@ -50,7 +50,9 @@ abbrev pub GoesOnAt : (file host : ℕ) → (before after : List Row) → Type 0
 GoesOnAt file host before after =
     (was : Row) → find_row file host before ≡ Some was → caches was.mode ≡ true → (row : Row) × (find_row file host after ≡ Some row) × GoesOn was row
 
-pub fitting-goes-on : (who : Who) (file : ℕ) (mode : Mode) (tag : Tag) (until : ℕ) (before after : Table) → caches mode ≡ true → GoesOnAt file who.host before.rows after.rows → HasFitting (claim_of who file mode tag until) before → HasFitting (claim_of who file mode tag until) after
+pub fitting-goes-on : (who : Who) (file : ℕ) (mode : Mode) (tag : Tag) (until : ℕ) (before after : Table) → caches mode ≡ true
+    → GoesOnAt file who.host before.rows after.rows → HasFitting (claim_of who file mode tag until) before
+    → HasFitting (claim_of who file mode tag until) after
 fitting-goes-on who file mode tag until before after c goes h =
     let f = h.fits in
     let n = goes h.row h.stands (at-least-caching h.row.mode mode c f.kind) in
@@ -68,9 +70,12 @@ fitting-goes-on who file mode tag until before after c goes h =
     }
 
 -- a serving server that goes on serving
-pub covered-goes-on : (s t : Server) (who : Who) (file : ℕ) (mode : Mode) (tag : Tag) (until : ℕ) → caches mode ≡ true → s.phase ≡ serving → t.phase ≡ serving → GoesOnAt file who.host s.table.rows t.table.rows → IsCovered s s.phase (claim_of who file mode tag until) → IsCovered t t.phase (claim_of who file mode tag until)
+pub covered-goes-on : (s t : Server) (who : Who) (file : ℕ) (mode : Mode) (tag : Tag) (until : ℕ) → caches mode ≡ true → s.phase ≡ serving
+    → t.phase ≡ serving → GoesOnAt file who.host s.table.rows t.table.rows → IsCovered s s.phase (claim_of who file mode tag until)
+    → IsCovered t t.phase (claim_of who file mode tag until)
 covered-goes-on s t who file mode tag until c p q goes h =
-    subst (λ x. IsCovered t x (claim_of who file mode tag until)) (sym q) (fitting-goes-on who file mode tag until s.table t.table c goes (subst (λ x. IsCovered s x (claim_of who file mode tag until)) p h))
+    subst (λ x. IsCovered t x (claim_of who file mode tag until)) (sym q)
+    (fitting-goes-on who file mode tag until s.table t.table c goes (subst (λ x. IsCovered s x (claim_of who file mode tag until)) p h))
 
 -- ---- the changes of a table
 
@@ -91,7 +96,9 @@ marked-goes-on f h file host access rows was found c =
     )
 
 -- a row that is put: the others go on as they are
-put-goes-on : (file host : ℕ) (row : Row) (rows : List Row) → ((was : Row) → is_row_of file host row ≡ true → find_row file host rows ≡ Some was → caches was.mode ≡ true → GoesOn was row) → GoesOnAt file host rows (put_row row rows)
+put-goes-on : (file host : ℕ) (row : Row) (rows : List Row)
+    → ((was : Row) → is_row_of file host row ≡ true → find_row file host rows ≡ Some was → caches was.mode ≡ true → GoesOn was row)
+    → GoesOnAt file host rows (put_row row rows)
 put-goes-on file host row rows own was found c = step (is_row_of file host row) refl
   where
     step : (b : Bool) → is_row_of file host row ≡ b → (r : Row) × (find_row file host (put_row row rows) ≡ Some r) × GoesOn was r
@@ -99,11 +106,13 @@ put-goes-on file host row rows own was found c = step (is_row_of file host row) 
     step false e = (was, find-put file host row rows ∙ rw e found, same-goes-on was)
 
 -- a tag drawn next is no earlier than a tag that was drawn in this boot, nor than one that is no later than such a tag
-fresh-no-earlier : (boot drawn : ℕ) (was tag : Tag) → was.boot ≡ boot → was.number ≤ drawn → tag_below was tag ≡ false → tag_below (record { boot = boot; number = drawn + 1 }) tag ≡ false
+fresh-no-earlier : (boot drawn : ℕ) (was tag : Tag) → was.boot ≡ boot → was.number ≤ drawn → tag_below was tag ≡ false
+    → tag_below (record { boot = boot; number = drawn + 1 }) tag ≡ false
 fresh-no-earlier boot drawn was tag same few h = grind (arith, nat_tests)
 
 -- the asker's own row, renewed, goes on
-renewed-goes-on : (table : Table) (q : Question) (own : Row) (mode : Mode) (term : ℕ) → own.tag.boot ≡ table.boot → own.tag.number ≤ table.drawn → GoesOn own (renewed_row table q own mode term)
+renewed-goes-on : (table : Table) (q : Question) (own : Row) (mode : Mode) (term : ℕ) → own.tag.boot ≡ table.boot → own.tag.number ≤ table.drawn
+    → GoesOn own (renewed_row table q own mode term)
 unfolding renewed_row
 renewed-goes-on table q own mode term same few = record {
   holder = refl;
@@ -116,10 +125,15 @@ renewed-goes-on table q own mode term same few = record {
 
 -- the tags of the rows that stand were drawn in this boot
 abbrev pub AreOfBoot : Table → Type 0
-AreOfBoot table = (file host : ℕ) (row : Row) → find_row file host table.rows ≡ Some row → (row.tag.boot ≡ table.boot) × (row.tag.number ≤ table.drawn) × (row.since.boot ≡ table.boot) × (row.since.number ≤ row.tag.number)
+AreOfBoot table =
+    (file host : ℕ) (row : Row) → find_row file host table.rows ≡ Some row
+    → (row.tag.boot ≡ table.boot) × (row.tag.number ≤ table.drawn) × (row.since.boot ≡ table.boot) × (row.since.number ≤ row.tag.number)
 
-granted-own : (table : Table) (q : Question) (want : Want) (row : Row) (term : ℕ) (was : Row) → AreOfBoot table → IsGranted table q want row term → own_in table q ≡ Some was → caches was.mode ≡ true → GoesOn was row
-granted-own table q want row term was boots (shares_again own found stays shares is lasts) e c = let one : own ≡ was = some-same own was (sym found ∙ e) in let not_caching : caches was.mode ≡ false = subst (λ r. caches r.mode ≡ false) one shares in absurd (cc)
+granted-own : (table : Table) (q : Question) (want : Want) (row : Row) (term : ℕ) (was : Row) → AreOfBoot table → IsGranted table q want row term
+    → own_in table q ≡ Some was → caches was.mode ≡ true → GoesOn was row
+granted-own table q want row term was boots (shares_again own found stays shares is lasts) e c =
+    let one : own ≡ was = some-same own was (sym found ∙ e) in
+    let not_caching : caches was.mode ≡ false = subst (λ r. caches r.mode ≡ false) one shares in absurd (cc)
 granted-own table q want row term was boots (begins_sharing none room shared is lasts) e c = none-some was (sym none ∙ e)
 granted-own table q want row term was boots (begins_caching none room shared is lasts) e c = none-some was (sym none ∙ e)
 granted-own table q want row term was boots (renews_row own found stays caching is lasts) e c =
@@ -128,22 +142,29 @@ granted-own table q want row term was boots (renews_row own found stays caching 
     subst (λ r. GoesOn r row) one (subst (λ r. GoesOn own r) (sym is) (renewed-goes-on table q own want.mode (term_of q want) b.0 b.1))
 
 -- a granted row is of the asker's host and file
-pub granted-key : (table : Table) (q : Question) (want : Want) (row : Row) (term : ℕ) → IsGranted table q want row term → (row.file ≡ q.file) × (row.who.host ≡ q.who.host)
+pub granted-key : (table : Table) (q : Question) (want : Want) (row : Row) (term : ℕ) → IsGranted table q want row term
+    → (row.file ≡ q.file) × (row.who.host ≡ q.who.host)
 unfolding sharing_row caching_row shared_again renewed_row
-granted-key table q want row term (shares_again own found stays shares is lasts) = let k = found-row q.file q.who.host table.rows own found in (ap (λ r. r.file) is ∙ k.0, ap (λ r. r.who.host) is ∙ k.1)
+granted-key table q want row term (shares_again own found stays shares is lasts) =
+    let k = found-row q.file q.who.host table.rows own found in (ap (λ r. r.file) is ∙ k.0, ap (λ r. r.who.host) is ∙ k.1)
 granted-key table q want row term (begins_sharing none room shared is lasts) = (ap (λ r. r.file) is, ap (λ r. r.who.host) is)
 granted-key table q want row term (begins_caching none room shared is lasts) = (ap (λ r. r.file) is, ap (λ r. r.who.host) is)
-granted-key table q want row term (renews_row own found stays caching is lasts) = let k = found-row q.file q.who.host table.rows own found in (ap (λ r. r.file) is ∙ k.0, ap (λ r. r.who.host) is ∙ k.1)
+granted-key table q want row term (renews_row own found stays caching is lasts) =
+    let k = found-row q.file q.who.host table.rows own found in (ap (λ r. r.file) is ∙ k.0, ap (λ r. r.who.host) is ∙ k.1)
 
-pub granted-goes-on : (table : Table) (q : Question) (want : Want) (row : Row) (term file host : ℕ) → AreOfBoot table → IsGranted table q want row term → GoesOnAt file host table.rows (put_row row table.rows)
+pub granted-goes-on : (table : Table) (q : Question) (want : Want) (row : Row) (term file host : ℕ) → AreOfBoot table → IsGranted table q want row term
+    → GoesOnAt file host table.rows (put_row row table.rows)
 granted-goes-on table q want row term file host boots granted =
     put-goes-on file host row table.rows (λ was e found c.
     let k = granted-key table q want row term granted in
     let o = of-key file host row e in
-    granted-own table q want row term was boots granted (subst (λ f. find_row f q.who.host table.rows ≡ Some was) (sym o.0 ∙ k.0) (subst (λ h. find_row file h table.rows ≡ Some was) (sym o.1 ∙ k.1) found)) c)
+    granted-own table q want row term was boots granted
+    (subst (λ f. find_row f q.who.host table.rows ≡ Some was) (sym o.0 ∙ k.0)
+    (subst (λ h. find_row file h table.rows ≡ Some was) (sym o.1 ∙ k.1) found)) c)
 
 -- the row that waits is put where none was
-pub waiting-goes-on : (table : Table) (q : Question) (want : Want) (file host : ℕ) → own_in table q ≡ None → GoesOnAt file host table.rows (with_waiter table q want).rows
+pub waiting-goes-on : (table : Table) (q : Question) (want : Want) (file host : ℕ) → own_in table q ≡ None
+    → GoesOnAt file host table.rows (with_waiter table q want).rows
 unfolding with_rows after_draw sharing_row
 waiting-goes-on table q want file host none was found c =
     let m = marked-goes-on file host q.file q.who.host q.access table.rows was found c in
@@ -156,13 +177,18 @@ waiting-goes-on table q want file host none was found c =
     no-own : (r : Row) → is_row_of file host row ≡ true → find_row file host (marked q.file q.who.host q.access table.rows) ≡ Some r → ⊥
     no-own r e f =
         let o = of-key file host row e in
-        let gone : find_row q.file q.who.host (marked q.file q.who.host q.access table.rows) ≡ None = find-marked q.file q.who.host q.file q.who.host q.access table.rows ∙ ap (option_map (mark q.file q.who.host q.access)) none in
-        none-some r (sym gone ∙ subst (λ h. find_row q.file h (marked q.file q.who.host q.access table.rows) ≡ Some r) (sym o.1) (subst (λ g. find_row g host (marked q.file q.who.host q.access table.rows) ≡ Some r) (sym o.0) f))
+        let gone : find_row q.file q.who.host (marked q.file q.who.host q.access table.rows) ≡ None = find-marked q.file q.who.host q.file q.who.host
+        q.access table.rows ∙ ap (option_map (mark q.file q.who.host q.access)) none in
+        none-some r (sym gone ∙ subst (λ h. find_row q.file h (marked q.file q.who.host q.access table.rows) ≡ Some r) (sym o.1)
+        (subst (λ g. find_row g host (marked q.file q.who.host q.access table.rows) ≡ Some r) (sym o.0) f))
 
 -- a row that was heard goes on
-pub heard-goes-on : (now file host : ℕ) (row : Row) (rows : List Row) → find_row row.file row.who.host rows ≡ Some row → GoesOnAt file host rows (put_row (record row { heard = now }) rows)
+pub heard-goes-on : (now file host : ℕ) (row : Row) (rows : List Row) → find_row row.file row.who.host rows ≡ Some row
+    → GoesOnAt file host rows (put_row (record row { heard = now }) rows)
 heard-goes-on now file host row rows stands =
     put-goes-on file host (record row { heard = now }) rows (λ was e found c.
     let o = of-key file host row e in
-    let one : row ≡ was = some-same row was (sym stands ∙ subst (λ f. find_row f row.who.host rows ≡ Some was) (sym o.0) (subst (λ h. find_row file h rows ≡ Some was) (sym o.1) found)) in
-    subst (λ r. GoesOn r (record row { heard = now })) one (record { holder = refl; of_file = refl; kind = λ m h. h; began = refl; later = λ t h. h; ends = omega arith }))
+    let one : row ≡ was = some-same row was
+    (sym stands ∙ subst (λ f. find_row f row.who.host rows ≡ Some was) (sym o.0) (subst (λ h. find_row file h rows ≡ Some was) (sym o.1) found)) in
+    subst (λ r. GoesOn r (record row { heard = now })) one
+    (record { holder = refl; of_file = refl; kind = λ m h. h; began = refl; later = λ t h. h; ends = omega arith }))

@@ -17,7 +17,8 @@ use Rattle.nq_model.specs.Message.{Packet, Datagram, request}
 use Rattle.nq_model.specs.Server.{Server}
 
 -- what is known of the server, of one client and of the packets when the server hears a datagram
-pub record Hearing (ps : List Packet) (s : Server) (most sender : ℕ) (d : Datagram) (events : List Event) (who : Who) (now xid : ℕ) (attached : Bool) (ticket : Option Ticket) (leased : List Lease) (noticed : List Notice) : Type 0 where
+pub record Hearing (ps : List Packet) (s : Server) (most sender : ℕ) (d : Datagram) (events : List Event) (who : Who) (now xid : ℕ) (attached : Bool)
+    (ticket : Option Ticket) (leased : List Lease) (noticed : List Notice) : Type 0 where
   pub was_sent : (x : ℕ) (r : Request) → d ≡ request x r → Asked ps sender x r
   pub no_null : (x : ℕ) → d ≡ request x Request.Null → ⊥
   pub boots : BootsFitOf s

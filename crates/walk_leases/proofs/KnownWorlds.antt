@@ -36,7 +36,8 @@ pub record Known (w : World) (events : List Event) : Type 0 where
   pub clients : (host : ℕ) (c : Client) → slice_get w.clients host ≡ Some c → KnowsOf (host_row w.server.kept host) w.server events c w.packets
 
 -- the clock of a client shows how often it ticked
-pub at-clock : (w : World) (events : List Event) (host : ℕ) (c : Client) → slice_get w.clients host ≡ Some c → Holds w → Clocked w events → c.now ≡ ticks_of c.who.host events
+pub at-clock : (w : World) (events : List Event) (host : ℕ) (c : Client) → slice_get w.clients host ≡ Some c → Holds w → Clocked w events
+    → c.now ≡ ticks_of c.who.host events
 at-clock w events host c is held clocked = clocked.clients host c is ∙ ap (λ n. ticks_of n events) (sym (held.clients host c is).here)
 
 -- an event that does nothing
@@ -46,10 +47,13 @@ ignored-known w e events held clocked h = record {
 }
 
 -- a step of a client
-client-known : (w : World) (e : Event) (events : List Event) (host : ℕ) (t : ClientStep) → KnowsOf (host_row w.server.kept host) w.server (e ∷ events) t.client (packets_with w.packets host t.sends) → Holds w → Clocked w events → Known w events → Known (after_client w host t) (e ∷ events)
+client-known : (w : World) (e : Event) (events : List Event) (host : ℕ) (t : ClientStep)
+    → KnowsOf (host_row w.server.kept host) w.server (e ∷ events) t.client (packets_with w.packets host t.sends) → Holds w → Clocked w events
+    → Known w events → Known (after_client w host t) (e ∷ events)
 unfolding after_client
 client-known w e events host t knows held clocked h = record { clients = λ other c is. case other c (other == host) refl is } where
-  case : (other : ℕ) (c : Client) (b : Bool) → (other == host) ≡ b → slice_get (slice_set w.clients host t.client) other ≡ Some c → KnowsOf (host_row w.server.kept other) w.server (e ∷ events) c (packets_with w.packets host t.sends)
+  case : (other : ℕ) (c : Client) (b : Bool) → (other == host) ≡ b → slice_get (slice_set w.clients host t.client) other ≡ Some c
+      → KnowsOf (host_row w.server.kept other) w.server (e ∷ events) c (packets_with w.packets host t.sends)
   case other c true same is =
       let one : other ≡ host = same-number other host same in
       let new : c ≡ t.client = get-set-same w.clients host t.client c (subst (λ n. slice_get (slice_set w.clients host t.client) n ≡ Some c) one is) in
@@ -59,38 +63,59 @@ client-known w e events host t knows held clocked h = record { clients = λ othe
       let apart : other ≢ host = λ same. let yes : (other == host) ≡ true = number-same other host same in absurd (cc) in
       let there : slice_get w.clients other ≡ Some c = sym (get-set-other w.clients host other t.client apart) ∙ is in
       let a = held.clients other c there in
-      other-knows e host c w.packets t.sends (λ same. apart (sym a.here ∙ same)) (at-clock w events other c there held clocked) a.alone (h.clients other c there)
+      other-knows e host c w.packets t.sends (λ same. apart (sym a.here ∙ same)) (at-clock w events other c there held clocked) a.alone
+      (h.clients other c there)
 
-at-client-known : (w : World) (e : Event) (events : List Event) (host : ℕ) (f : Client → ClientStep) (o : Option Client) → slice_get w.clients host ≡ o → ((c : Client) → c.now ≡ ticks_of c.who.host events → IsAt host c w.packets → KnowsOf (host_row w.server.kept host) w.server events c w.packets → KnowsOf (host_row w.server.kept host) w.server (e ∷ events) (f c).client (packets_with w.packets host (f c).sends)) → Holds w → Clocked w events → Known w events → Known (at_client w host f o) (e ∷ events)
+at-client-known : (w : World) (e : Event) (events : List Event) (host : ℕ) (f : Client → ClientStep) (o : Option Client) → slice_get w.clients host ≡ o
+    → ((c : Client) → c.now ≡ ticks_of c.who.host events → IsAt host c w.packets → KnowsOf (host_row w.server.kept host) w.server events c w.packets
+    → KnowsOf (host_row w.server.kept host) w.server (e ∷ events) (f c).client (packets_with w.packets host (f c).sends)) → Holds w → Clocked w events
+    → Known w events → Known (at_client w host f o) (e ∷ events)
 at-client-known w e events host f None is goes held clocked h = ignored-known w e events held clocked h
-at-client-known w e events host f (Some c) is goes held clocked h = client-known w e events host (f c) (goes c (at-clock w events host c is held clocked) (held.clients host c is) (h.clients host c is)) held clocked h
+at-client-known w e events host f (Some c) is goes held clocked h =
+    client-known w e events host (f c) (goes c (at-clock w events host c is held clocked) (held.clients host c is) (h.clients host c is)) held clocked h
 
-hearing-known : (w : World) (e : Event) (events : List Event) (host : ℕ) (o : Option ClientStep) → KnowsIf (host_row w.server.kept host) w.server (e ∷ events) host w.packets o → Holds w → Clocked w events → Known w events → Known (after_hearing w host o) (e ∷ events)
+hearing-known : (w : World) (e : Event) (events : List Event) (host : ℕ) (o : Option ClientStep)
+    → KnowsIf (host_row w.server.kept host) w.server (e ∷ events) host w.packets o → Holds w → Clocked w events → Known w events
+    → Known (after_hearing w host o) (e ∷ events)
 hearing-known w e events host None knows held clocked h = ignored-known w e events held clocked h
 hearing-known w e events host (Some t) knows held clocked h = client-known w e events host t knows held clocked h
 
-pub to-client-known : (w : World) (e : Event) (events : List Event) (k host : ℕ) (m : Message) (o : Option Client) → slice_get w.clients host ≡ o → Told w.packets host m → Holds w → Clocked w events → Known w events → Known (deliver_to_client w k host m o) (e ∷ events)
+pub to-client-known : (w : World) (e : Event) (events : List Event) (k host : ℕ) (m : Message) (o : Option Client) → slice_get w.clients host ≡ o
+    → Told w.packets host m → Holds w → Clocked w events → Known w events → Known (deliver_to_client w k host m o) (e ∷ events)
 to-client-known w e events k host m None is sent held clocked h = ignored-known w e events held clocked h
-to-client-known w e events k host m (Some c) is sent held clocked h = hearing-known w e events host (hear c k m) (hear-knows e host c w.packets k m (at-clock w events host c is held clocked) sent (held.clients host c is) (h.clients host c is)) held clocked h
+to-client-known w e events k host m (Some c) is sent held clocked h =
+    hearing-known w e events host (hear c k m)
+    (hear-knows e host c w.packets k m (at-clock w events host c is held clocked) sent (held.clients host c is) (h.clients host c is)) held clocked h
 
-pub call-known : (w : World) (events : List Event) (host : ℕ) (op : Call) → Holds w → Clocked w events → Known w events → Known (at_client w host (λ c. client_call c op) (slice_get w.clients host)) (Event.Call host op ∷ events)
-call-known w events host op held clocked h = at-client-known w (Event.Call host op) events host (λ c. client_call c op) (slice_get w.clients host) refl (λ c clock a k. call-knows (Event.Call host op) host c w.packets op clock a k) held clocked h
+pub call-known : (w : World) (events : List Event) (host : ℕ) (op : Call) → Holds w → Clocked w events → Known w events
+    → Known (at_client w host (λ c. client_call c op) (slice_get w.clients host)) (Event.Call host op ∷ events)
+call-known w events host op held clocked h =
+    at-client-known w (Event.Call host op) events host (λ c. client_call c op) (slice_get w.clients host) refl
+    (λ c clock a k. call-knows (Event.Call host op) host c w.packets op clock a k) held clocked h
 
-pub tick-known : (w : World) (events : List Event) (host : ℕ) → Holds w → Clocked w events → Known w events → Known (at_client w host (λ c. client_tick c (c.now + 1)) (slice_get w.clients host)) (Event.ClientTick host ∷ events)
-tick-known w events host held clocked h = at-client-known w (Event.ClientTick host) events host (λ c. client_tick c (c.now + 1)) (slice_get w.clients host) refl (λ c clock a k. tick-knows (Event.ClientTick host) host c w.packets clock a k) held clocked h
+pub tick-known : (w : World) (events : List Event) (host : ℕ) → Holds w → Clocked w events → Known w events
+    → Known (at_client w host (λ c. client_tick c (c.now + 1)) (slice_get w.clients host)) (Event.ClientTick host ∷ events)
+tick-known w events host held clocked h =
+    at-client-known w (Event.ClientTick host) events host (λ c. client_tick c (c.now + 1)) (slice_get w.clients host) refl
+    (λ c clock a k. tick-knows (Event.ClientTick host) host c w.packets clock a k) held clocked h
 
-pub restart-known : (w : World) (events : List Event) (host : ℕ) → Holds w → Clocked w events → Known w events → Known (at_client w host restart (slice_get w.clients host)) (Event.Restart host ∷ events)
-restart-known w events host held clocked h = at-client-known w (Event.Restart host) events host restart (slice_get w.clients host) refl (λ c clock a k. restart-knows (Event.Restart host) host c w.packets clock a k) held clocked h
+pub restart-known : (w : World) (events : List Event) (host : ℕ) → Holds w → Clocked w events → Known w events
+    → Known (at_client w host restart (slice_get w.clients host)) (Event.Restart host ∷ events)
+restart-known w events host held clocked h =
+    at-client-known w (Event.Restart host) events host restart (slice_get w.clients host) refl
+    (λ c clock a k. restart-knows (Event.Restart host) host c w.packets clock a k) held clocked h
 
 -- ---- a step of the server
 
 -- as each client sees it
 pub record Seen (w : World) (t : ServerStep) : Type 0 where
   pub effects : (host : ℕ) (c : Client) → slice_get w.clients host ≡ Some c → Effect w.packets w.server t c.who c.ticket c.leases
-  pub unrowed : (host : ℕ) (c : Client) → slice_get w.clients host ≡ Some c → c.attached ≡ false → (file : ℕ) (row : Row) → find_row file c.who.host w.server.table.rows ≡ Some row → row.who.inc ≡ c.who.inc → ⊥
+  pub unrowed : (host : ℕ) (c : Client) → slice_get w.clients host ≡ Some c → c.attached ≡ false → (file : ℕ) (row : Row)
+      → find_row file c.who.host w.server.table.rows ≡ Some row → row.who.inc ≡ c.who.inc → ⊥
 
 -- when a client asked
-pub timely : (w : World) (events : List Event) (host : ℕ) (c : Client) → slice_get w.clients host ≡ Some c → Holds w → Clocked w events → Timely w.server events c.who c.now c.ticket c.leases
+pub timely : (w : World) (events : List Event) (host : ℕ) (c : Client) → slice_get w.clients host ≡ Some c → Holds w → Clocked w events
+    → Timely w.server events c.who c.now c.ticket c.leases
 timely w events host c is held clocked =
     let a = (held.clients host c is).alone.asking in
     record {
@@ -100,10 +125,12 @@ timely w events host c is held clocked =
       asked = λ t asked. let k = a.ticketed t asked in let p = k.sent in let q = k.past in omega arith;
     }
 
-pub server-known : (w : World) (e : Event) (events : List Event) (t : ServerStep) → Seen w t → Holds w → Clocked w events → Known w events → Known (after_server w t) (e ∷ events)
+pub server-known : (w : World) (e : Event) (events : List Event) (t : ServerStep) → Seen w t → Holds w → Clocked w events → Known w events
+    → Known (after_server w t) (e ∷ events)
 unfolding after_server
 server-known w e events t seen held clocked h = record { clients = λ host c is. after host c is (held.clients host c is).here } where
-  after : (host : ℕ) (c : Client) → slice_get w.clients host ≡ Some c → c.who.host ≡ host → KnowsOf (host_row t.server.kept host) t.server (e ∷ events) c (after_server w t).packets
+  after : (host : ℕ) (c : Client) → slice_get w.clients host ≡ Some c → c.who.host ≡ host
+      → KnowsOf (host_row t.server.kept host) t.server (e ∷ events) c (after_server w t).packets
   after host c is here =
       subst (λ n. KnowsOf (host_row t.server.kept n) t.server (e ∷ events) c (after_server w t).packets) here
       (knows-after w.packets w.server events e t c.who c.now c.xid c.attached c.ticket c.leases c.notices
@@ -119,11 +146,14 @@ held-covered w events held h host c l is holds caching runs =
     subst (λ n. IsCovered w.server w.server.phase (claim_of c.who l.file l.mode l.tag (cover_end n (l.expiry - l.term) l.term events))) a.here
     ((h.clients host c is).covered.held l.file l holds caching (omega arith))
 
-pub takeable : (w : World) (host : ℕ) (c : Client) (t : Ticket) (file : ℕ) (g : Grant) → IsAt host c w.packets → Holds w → CanTake w host c t file g → IsTakeable w.packets c.who c.ticket file g t
+pub takeable : (w : World) (host : ℕ) (c : Client) (t : Ticket) (file : ℕ) (g : Grant) → IsAt host c w.packets → Holds w → CanTake w host c t file g
+    → IsTakeable w.packets c.who c.ticket file g t
 takeable w host c t file g a held k = record {
   x = k.xid;
   a = k.answer;
-  told = subst (λ n. Told w.packets n (reply k.xid k.answer)) (sym a.here) (subst (λ m. Told w.packets host m) k.brings (to-told w.packets k.packet host (held.sent k.packet sent) k.for_host sent));
+  told =
+      subst (λ n. Told w.packets n (reply k.xid k.answer)) (sym a.here)
+      (subst (λ m. Told w.packets host m) k.brings (to-told w.packets k.packet host (held.sent k.packet sent) k.for_host sent));
   inc = same-number (inc_of k.answer) c.who.inc both.1;
   asked = k.asked;
   number = sym (same-number k.xid t.xid both.0);
@@ -202,5 +232,7 @@ unfolding start
 start-known head = record { clients = λ host c is. starts host c is } where
   starts : (host : ℕ) (c : Client) → slice_get (start head).clients host ≡ Some c → KnowsOf (host_row (start head).server.kept host) (start head).server [] c []
   starts host c is =
-      subst (λ z. KnowsOf (host_row (start head).server.kept host) (start head).server [] z []) (sym (first-client head.term 0 head.hosts host c is ∙ ap (λ n. attached_client (record { host = n; inc = 1 }) head.term 0) (omega arith)))
-      (knows-starts (host_row (start head).server.kept host) (start head).server host head.term (ap (λ l. l.inc) (first-line head host (first-there head.term 0 head.hosts host c is))))
+      subst (λ z. KnowsOf (host_row (start head).server.kept host) (start head).server [] z [])
+      (sym (first-client head.term 0 head.hosts host c is ∙ ap (λ n. attached_client (record { host = n; inc = 1 }) head.term 0) (omega arith)))
+      (knows-starts (host_row (start head).server.kept host) (start head).server host head.term
+      (ap (λ l. l.inc) (first-line head host (first-there head.term 0 head.hosts host c is))))

@@ -16,11 +16,13 @@ opens-line : (s : Server) (now until heard host : ℕ) → host_row (opens (at_t
 unfolding opens at_time
 opens-line s now until heard host = refl
 
-ends-line : (s : Server) (now host : ℕ) (rows : List Row) → host_row (quiet (with_table (at_time s now) (with_rows s.table rows))).server.kept host ≡ host_row s.kept host
+ends-line : (s : Server) (now host : ℕ) (rows : List Row)
+    → host_row (quiet (with_table (at_time s now) (with_rows s.table rows))).server.kept host ≡ host_row s.kept host
 unfolding quiet at_time with_table with_rows
 ends-line s now host rows = refl
 
-ends-writing-line : (s : Server) (now host : ℕ) (rows : List Row) (row : Row) → host_row (ends_writing (at_time s now) rows row).server.kept host ≡ host_row s.kept host
+ends-writing-line : (s : Server) (now host : ℕ) (rows : List Row) (row : Row)
+    → host_row (ends_writing (at_time s now) rows row).server.kept host ≡ host_row s.kept host
 unfolding ends_writing at_time keeping_with with_rows
 ends-writing-line s now host rows row = fence-lines s.kept (find_file row.file s.kept.files) host
 

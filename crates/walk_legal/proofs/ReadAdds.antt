@@ -23,7 +23,7 @@ use Rattle.walk_legal.proofs.ReadSteps.{Done, NewRead, OldRead, ValuedBy, IsServ
 use Rattle.walk_legal.proofs.Stores.{Rests, standing-more}
 use Rattle.nq_model.proofs.Lists.{exists-right}
 use Rattle.nq_model.specs.Client.{Client, ClientStep, Lease, UnderWay, lets_read}
-use Rattle.nq_model.specs.ClientStep.{told}
+use Rattle.nq_base.specs.Calls.{told}
 use Rattle.nq_model.specs.Journal.{Exists, Throughout, IsCall, IsAnswer, IsAnswerBy, call_of}
 use Rattle.nq_model.specs.Legal.{GivesValue, IsAnswerWith, IsCountedWith}
 use Rattle.nq_model.specs.Message.{Message, call, reply}

@@ -17,7 +17,7 @@ use Rattle.walk_legal.proofs.ReadParts.{ReadsNothing}
 use Rattle.walk_legal.proofs.Stores.{Rests, standing-more}
 use Rattle.nq_model.proofs.Lists.{exists-right, exists-append}
 use Rattle.nq_model.specs.Client.{Client, ClientStep, UnderWay}
-use Rattle.nq_model.specs.ClientStep.{told}
+use Rattle.nq_base.specs.Calls.{told}
 use Rattle.nq_model.specs.Journal.{Exists, Throughout, IsAnswerBy, IsCounted, Each}
 use Rattle.nq_model.specs.Legal.{IsReading, GivesValue, IsAnswerWith}
 use Rattle.nq_model.specs.Message.{Message, Packet, call, reply}

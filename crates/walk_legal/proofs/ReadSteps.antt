@@ -22,7 +22,8 @@ use Rattle.walk_client.proofs.ClientFacts.{Alone, fits_job}
 use Rattle.walk_client.proofs.ClientMoves.{none-some, some-same}
 use Rattle.walk_legal.proofs.ReadParts.{IsDull, is_read, ReadsNothing, MadeFor, TicketOfCall, IsLike, MadeOf, made-refused, made-optional, made-call, made-refusing, made-knows, made-pauses, made-attached, made-spends, made-read, made-leased, made-written, made-pushed}
 use Rattle.nq_model.specs.Client.{Client, ClientStep, Job, for_call, renewing, pushing, Lease, Ticket, UnderWay, begun, lease_on, lets_read, first_dirty}
-use Rattle.nq_model.specs.ClientStep.{begins_call, is_called, says_busy, client_call, client_tick, at_time, sends_again, told}
+use Rattle.nq_model.specs.ClientStep.{begins_call, is_called, says_busy, client_call, client_tick, at_time, sends_again}
+use Rattle.nq_base.specs.Calls.{told}
 use Rattle.nq_model.specs.Hear.{vacates_lease, notes_notice, evicted, cancels, cancelled, wants_of, replied, reply_counts, inc_of, hear}
 use Rattle.nq_model.specs.Message.{Message, call, reply}
 use Rattle.nq_model.specs.Send.{ending_file, sends_request, after_seq, after_number, takes_push, gives_up, send_next}

@@ -35,7 +35,8 @@ pub record Moment (host time : ℕ) (events : List Event) : Type 0 where
   pub server : server_ticks until ≡ server_time_when host time events
   pub client : ticks_of host until ≡ time
 
-moment-step : (host time : ℕ) (e : Event) (earlier : List Event) (b : Bool) → nat_le time (ticks_of host earlier) ≡ b → time ≤ ticks_of host (e ∷ earlier) → (time ≤ ticks_of host earlier → Moment host time earlier) → Moment host time (e ∷ earlier)
+moment-step : (host time : ℕ) (e : Event) (earlier : List Event) (b : Bool) → nat_le time (ticks_of host earlier) ≡ b
+    → time ≤ ticks_of host (e ∷ earlier) → (time ≤ ticks_of host earlier → Moment host time earlier) → Moment host time (e ∷ earlier)
 moment-step host time e earlier true t past rest =
     let m = rest (grind (arith, nat_tests)) in
     record { since = e ∷ m.since; until = m.until; split = ap (λ es. e ∷ es) m.split; server = m.server ∙ rw t refl; client = m.client }
@@ -49,7 +50,8 @@ moment host time [] past = record { since = []; until = []; split = refl; server
 moment host time (e ∷ earlier) past = moment-step host time e earlier (nat_le time (ticks_of host earlier)) refl past (moment host time earlier)
 
 -- while a client's clock is below the end of a term, the server's clock is below the end of its cover
-pub runs-below : (hosts longest host asked term : ℕ) (events : List Event) → IsWithinSkew hosts longest events → host < hosts → asked ≤ ticks_of host events → ticks_of host events < asked + term → term ≤ longest → server_ticks events < cover_end host asked term events
+pub runs-below : (hosts longest host asked term : ℕ) (events : List Event) → IsWithinSkew hosts longest events → host < hosts
+    → asked ≤ ticks_of host events → ticks_of host events < asked + term → term ≤ longest → server_ticks events < cover_end host asked term events
 runs-below hosts longest host asked term events within there past runs short =
     let m = moment host asked events past in
     let s : server_ticks events ≡ server_ticks m.since + server_ticks m.until = ap server_ticks m.split ∙ server-ticks-append m.since m.until in
@@ -65,10 +67,12 @@ pub within-before : (hosts longest : ℕ) (e : Event) (earlier : List Event) →
 within-before hosts longest e earlier within = λ before part after split host below few. within (e ∷ before) part after (ap (λ es. e ∷ es) split) host below few
 
 -- the moment at which a clock came to a time that is past does not change any more
-pub same-moment : (host time : ℕ) (e : Event) (earlier : List Event) → time ≤ ticks_of host earlier → server_time_when host time (e ∷ earlier) ≡ server_time_when host time earlier
+pub same-moment : (host time : ℕ) (e : Event) (earlier : List Event) → time ≤ ticks_of host earlier
+    → server_time_when host time (e ∷ earlier) ≡ server_time_when host time earlier
 same-moment host time e earlier past = let t : nat_le time (ticks_of host earlier) ≡ true = grind (arith, nat_tests) in rw t refl
 
-pub same-cover : (host asked term : ℕ) (e : Event) (earlier : List Event) → asked ≤ ticks_of host earlier → cover_end host asked term (e ∷ earlier) ≡ cover_end host asked term earlier
+pub same-cover : (host asked term : ℕ) (e : Event) (earlier : List Event) → asked ≤ ticks_of host earlier
+    → cover_end host asked term (e ∷ earlier) ≡ cover_end host asked term earlier
 same-cover host asked term e earlier past = ap (λ z. z + term + skew) (same-moment host asked e earlier past)
 
 -- no moment is later than now

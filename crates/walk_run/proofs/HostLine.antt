@@ -38,12 +38,16 @@ pub record LineFits (who : Who) (attached : Bool) (ticket : Option Ticket) (noti
   pub evicted_past : (x : ℕ) (w : Who) (file : ℕ) (tag : Tag) → Told ps who.host (call x (Request.Evicted w file tag)) → w.inc ≤ who.inc
   pub unheard : attached ≡ false → (x : ℕ) (w : Who) (file : ℕ) (tag : Tag) → Told ps who.host (call x (Request.Evicted w file tag)) → w.inc ≡ who.inc → ⊥
   -- each request of the running incarnation was decided, or is under way
-  pub settled : line.inc ≡ who.inc → (x : ℕ) (r : Request) (w : Who) (n : ℕ) → Asked ps who.host x r → asker r ≡ Some w → w.inc ≡ who.inc → sequence_of r ≡ Some n → IsSettled ticket line.seq x n
+  pub settled : line.inc ≡ who.inc → (x : ℕ) (r : Request) (w : Who) (n : ℕ) → Asked ps who.host x r → asker r ≡ Some w → w.inc ≡ who.inc
+      → sequence_of r ≡ Some n → IsSettled ticket line.seq x n
   -- a reply to the one under way comes once it was decided
-  pub answered : (x : ℕ) (a : Reply) → Told ps who.host (reply x a) → inc_of a ≡ who.inc → (t : Ticket) → ticket ≡ Some t → t.xid ≡ x → (n : ℕ) → sequence_of t.request ≡ Some n → IsDecidedBy who line n
+  pub answered : (x : ℕ) (a : Reply) → Told ps who.host (reply x a) → inc_of a ≡ who.inc → (t : Ticket) → ticket ≡ Some t → t.xid ≡ x → (n : ℕ)
+      → sequence_of t.request ≡ Some n → IsDecidedBy who line n
 
 -- a request is sent by an attached client with none under way
-pub line-sends : {who : Who} {attached : Bool} {notices : List Notice} {line : HostRow} {ps : List Packet} (xid : ℕ) (t : Ticket) → t.xid ≡ xid → attached ≡ true → asker t.request ≡ Some who → Mail who xid None ps → LineFits who attached None notices line ps → LineFits who attached (Some t) notices line (ps ++ from_host who.host (call xid t.request) ∷ [])
+pub line-sends : {who : Who} {attached : Bool} {notices : List Notice} {line : HostRow} {ps : List Packet} (xid : ℕ) (t : Ticket) → t.xid ≡ xid
+    → attached ≡ true → asker t.request ≡ Some who → Mail who xid None ps → LineFits who attached None notices line ps
+    → LineFits who attached (Some t) notices line (ps ++ from_host who.host (call xid t.request) ∷ [])
 line-sends {who = who} {attached = attached} {notices = notices} {line = line} {ps = ps} xid t numbered is_attached asks m h = record {
   past = h.past;
   current = h.current;
@@ -51,15 +55,20 @@ line-sends {who = who} {attached = attached} {notices = notices} {line = line} {
   above = λ x r w sent by later. above x r w by later (in-last ps mine (from_host who.host (call x r)) sent);
   waiting = λ e. absurd (both_ways attached e is_attached);
   unnoticed = h.unnoticed;
-  evicted_past = λ x w file tag sent. h.evicted_past x w file tag (older x w file tag (in-last ps mine (to_host who.host (call x (Request.Evicted w file tag))) sent));
+  evicted_past =
+      λ x w file tag sent. h.evicted_past x w file tag (older x w file tag (in-last ps mine (to_host who.host (call x (Request.Evicted w file tag))) sent));
   unheard = λ e. absurd (both_ways attached e is_attached);
   settled = λ kept x r w n sent by inc seq. settled kept x r w n by inc seq (in-last ps mine (from_host who.host (call x r)) sent);
-  answered = λ x a sent inc u e same n seq. let fresh = (m.replied x a (old x a sent) inc).number in let one : t ≡ u = some-same t u e in let number : t.xid ≡ x = ap (λ z. z.xid) one ∙ same in absurd (omega arith);
+  answered =
+      λ x a sent inc u e same n seq. let fresh = (m.replied x a (old x a sent) inc).number in let one : t ≡ u = some-same t u e in
+      let number : t.xid ≡ x = ap (λ z. z.xid) one ∙ same in absurd (omega arith);
 } where
   mine : Packet
   mine = from_host who.host (call xid t.request)
 
-  older : (x : ℕ) (w : Who) (file : ℕ) (tag : Tag) → In ps (to_host who.host (call x (Request.Evicted w file tag))) ⊎ (mine ≡ to_host who.host (call x (Request.Evicted w file tag))) → In ps (to_host who.host (call x (Request.Evicted w file tag)))
+  older : (x : ℕ) (w : Who) (file : ℕ) (tag : Tag)
+      → In ps (to_host who.host (call x (Request.Evicted w file tag))) ⊎ (mine ≡ to_host who.host (call x (Request.Evicted w file tag)))
+      → In ps (to_host who.host (call x (Request.Evicted w file tag)))
   older x w file tag (inl there) = there
   older x w file tag (inr bad) = absurd (not-both who.host who.host (call xid t.request) (call x (Request.Evicted w file tag)) bad)
 
@@ -70,7 +79,8 @@ line-sends {who = who} {attached = attached} {notices = notices} {line = line} {
       step (inl there) = there
       step (inr bad) = absurd (not-both who.host who.host (call xid t.request) (reply x a) bad)
 
-  above : (x : ℕ) (r : Request) (w : Who) → asker r ≡ Some w → line.inc < w.inc → In ps (from_host who.host (call x r)) ⊎ (mine ≡ from_host who.host (call x r)) → r ≡ Request.Attach w
+  above : (x : ℕ) (r : Request) (w : Who) → asker r ≡ Some w → line.inc < w.inc
+      → In ps (from_host who.host (call x r)) ⊎ (mine ≡ from_host who.host (call x r)) → r ≡ Request.Attach w
   above x r w by later (inl there) = h.above x r w there by later
   above x r w by later (inr new) =
       let c = call-same xid x t.request r (message-same who.host who.host (call xid t.request) (call x r) new).1 in
@@ -79,7 +89,8 @@ line-sends {who = who} {attached = attached} {notices = notices} {line = line} {
       let kept = h.current is_attached in
       absurd (omega arith)
 
-  settled : line.inc ≡ who.inc → (x : ℕ) (r : Request) (w : Who) (n : ℕ) → asker r ≡ Some w → w.inc ≡ who.inc → sequence_of r ≡ Some n → In ps (from_host who.host (call x r)) ⊎ (mine ≡ from_host who.host (call x r)) → IsSettled (Some t) line.seq x n
+  settled : line.inc ≡ who.inc → (x : ℕ) (r : Request) (w : Who) (n : ℕ) → asker r ≡ Some w → w.inc ≡ who.inc → sequence_of r ≡ Some n
+      → In ps (from_host who.host (call x r)) ⊎ (mine ≡ from_host who.host (call x r)) → IsSettled (Some t) line.seq x n
   settled kept x r w n by inc seq (inl there) = case (h.settled kept x r w n there by inc seq)
     where
       case : IsSettled None line.seq x n → IsSettled (Some t) line.seq x n
@@ -90,7 +101,9 @@ line-sends {who = who} {attached = attached} {notices = notices} {line = line} {
       inr (t, refl, numbered ∙ c.0)
 
 -- a message is sent that is no request to be decided, by an attached client
-pub line-adds : {who : Who} {attached : Bool} {ticket : Option Ticket} {notices : List Notice} {line : HostRow} {ps : List Packet} (xid : ℕ) (request : Request) → attached ≡ true → asker request ≡ Some who → sequence_of request ≡ None → LineFits who attached ticket notices line ps → LineFits who attached ticket notices line (ps ++ from_host who.host (call xid request) ∷ [])
+pub line-adds : {who : Who} {attached : Bool} {ticket : Option Ticket} {notices : List Notice} {line : HostRow} {ps : List Packet} (xid : ℕ)
+    (request : Request) → attached ≡ true → asker request ≡ Some who → sequence_of request ≡ None → LineFits who attached ticket notices line ps
+    → LineFits who attached ticket notices line (ps ++ from_host who.host (call xid request) ∷ [])
 line-adds {who = who} {attached = attached} {ticket = ticket} {notices = notices} {line = line} {ps = ps} xid request is_attached asks no_seq h = record {
   past = h.past;
   current = h.current;
@@ -98,7 +111,8 @@ line-adds {who = who} {attached = attached} {ticket = ticket} {notices = notices
   above = λ x r w sent by later. above x r w by later (in-last ps mine (from_host who.host (call x r)) sent);
   waiting = λ e. absurd (both_ways attached e is_attached);
   unnoticed = h.unnoticed;
-  evicted_past = λ x w file tag sent. h.evicted_past x w file tag (older x w file tag (in-last ps mine (to_host who.host (call x (Request.Evicted w file tag))) sent));
+  evicted_past =
+      λ x w file tag sent. h.evicted_past x w file tag (older x w file tag (in-last ps mine (to_host who.host (call x (Request.Evicted w file tag))) sent));
   unheard = λ e. absurd (both_ways attached e is_attached);
   settled = λ kept x r w n sent by inc seq. settled kept x r w n by inc seq (in-last ps mine (from_host who.host (call x r)) sent);
   answered = λ x a sent. h.answered x a (old x a sent);
@@ -106,7 +120,9 @@ line-adds {who = who} {attached = attached} {ticket = ticket} {notices = notices
   mine : Packet
   mine = from_host who.host (call xid request)
 
-  older : (x : ℕ) (w : Who) (file : ℕ) (tag : Tag) → In ps (to_host who.host (call x (Request.Evicted w file tag))) ⊎ (mine ≡ to_host who.host (call x (Request.Evicted w file tag))) → In ps (to_host who.host (call x (Request.Evicted w file tag)))
+  older : (x : ℕ) (w : Who) (file : ℕ) (tag : Tag)
+      → In ps (to_host who.host (call x (Request.Evicted w file tag))) ⊎ (mine ≡ to_host who.host (call x (Request.Evicted w file tag)))
+      → In ps (to_host who.host (call x (Request.Evicted w file tag)))
   older x w file tag (inl there) = there
   older x w file tag (inr bad) = absurd (not-both who.host who.host (call xid request) (call x (Request.Evicted w file tag)) bad)
 
@@ -117,7 +133,8 @@ line-adds {who = who} {attached = attached} {ticket = ticket} {notices = notices
       step (inl there) = there
       step (inr bad) = absurd (not-both who.host who.host (call xid request) (reply x a) bad)
 
-  above : (x : ℕ) (r : Request) (w : Who) → asker r ≡ Some w → line.inc < w.inc → In ps (from_host who.host (call x r)) ⊎ (mine ≡ from_host who.host (call x r)) → r ≡ Request.Attach w
+  above : (x : ℕ) (r : Request) (w : Who) → asker r ≡ Some w → line.inc < w.inc
+      → In ps (from_host who.host (call x r)) ⊎ (mine ≡ from_host who.host (call x r)) → r ≡ Request.Attach w
   above x r w by later (inl there) = h.above x r w there by later
   above x r w by later (inr new) =
       let c = call-same xid x request r (message-same who.host who.host (call xid request) (call x r) new).1 in
@@ -126,14 +143,16 @@ line-adds {who = who} {attached = attached} {ticket = ticket} {notices = notices
       let kept = h.current is_attached in
       absurd (omega arith)
 
-  settled : line.inc ≡ who.inc → (x : ℕ) (r : Request) (w : Who) (n : ℕ) → asker r ≡ Some w → w.inc ≡ who.inc → sequence_of r ≡ Some n → In ps (from_host who.host (call x r)) ⊎ (mine ≡ from_host who.host (call x r)) → IsSettled ticket line.seq x n
+  settled : line.inc ≡ who.inc → (x : ℕ) (r : Request) (w : Who) (n : ℕ) → asker r ≡ Some w → w.inc ≡ who.inc → sequence_of r ≡ Some n
+      → In ps (from_host who.host (call x r)) ⊎ (mine ≡ from_host who.host (call x r)) → IsSettled ticket line.seq x n
   settled kept x r w n by inc seq (inl there) = h.settled kept x r w n there by inc seq
   settled kept x r w n by inc seq (inr new) =
       let c = call-same xid x request r (message-same who.host who.host (call xid request) (call x r) new).1 in
       none-some n (sym no_seq ∙ ap sequence_of c.1 ∙ seq)
 
 -- a packet that was sent is sent again
-pub line-again : {who : Who} {attached : Bool} {ticket : Option Ticket} {notices : List Notice} {line : HostRow} {ps : List Packet} (p : Packet) → In ps p → LineFits who attached ticket notices line ps → LineFits who attached ticket notices line (ps ++ p ∷ [])
+pub line-again : {who : Who} {attached : Bool} {ticket : Option Ticket} {notices : List Notice} {line : HostRow} {ps : List Packet} (p : Packet)
+    → In ps p → LineFits who attached ticket notices line ps → LineFits who attached ticket notices line (ps ++ p ∷ [])
 line-again {who = who} {ps = ps} p there h = record {
   past = h.past;
   current = h.current;
@@ -141,8 +160,12 @@ line-again {who = who} {ps = ps} p there h = record {
   above = λ x r w sent. h.above x r w (old (from_host who.host (call x r)) (in-last ps p (from_host who.host (call x r)) sent));
   waiting = λ e x r w sent. h.waiting e x r w (old (from_host who.host (call x r)) (in-last ps p (from_host who.host (call x r)) sent));
   unnoticed = h.unnoticed;
-  evicted_past = λ x w file tag sent. h.evicted_past x w file tag (old (to_host who.host (call x (Request.Evicted w file tag))) (in-last ps p (to_host who.host (call x (Request.Evicted w file tag))) sent));
-  unheard = λ e x w file tag sent. h.unheard e x w file tag (old (to_host who.host (call x (Request.Evicted w file tag))) (in-last ps p (to_host who.host (call x (Request.Evicted w file tag))) sent));
+  evicted_past =
+      λ x w file tag sent. h.evicted_past x w file tag
+      (old (to_host who.host (call x (Request.Evicted w file tag))) (in-last ps p (to_host who.host (call x (Request.Evicted w file tag))) sent));
+  unheard =
+      λ e x w file tag sent. h.unheard e x w file tag
+      (old (to_host who.host (call x (Request.Evicted w file tag))) (in-last ps p (to_host who.host (call x (Request.Evicted w file tag))) sent));
   settled = λ kept x r w n sent. h.settled kept x r w n (old (from_host who.host (call x r)) (in-last ps p (from_host who.host (call x r)) sent));
   answered = λ x a sent. h.answered x a (old (to_host who.host (reply x a)) (in-last ps p (to_host who.host (reply x a)) sent));
 } where
@@ -151,7 +174,11 @@ line-again {who = who} {ps = ps} p there h = record {
   old q (inr e) = subst (λ z. In ps z) e there
 
 -- the request under way is another of the same number and content, or none where none is to be decided
-pub line-ticket : {who : Who} {attached : Bool} {ticket : Option Ticket} {notices : List Notice} {line : HostRow} {ps : List Packet} (less : Option Ticket) → ((t : Ticket) → less ≡ Some t → (u : Ticket) × (ticket ≡ Some u) × (u.xid ≡ t.xid) × (u.request ≡ t.request)) → ((x n : ℕ) → line.inc ≡ who.inc → IsSettled ticket line.seq x n → (r : Request) (w : Who) → Asked ps who.host x r → asker r ≡ Some w → w.inc ≡ who.inc → sequence_of r ≡ Some n → IsSettled less line.seq x n) → LineFits who attached ticket notices line ps → LineFits who attached less notices line ps
+pub line-ticket : {who : Who} {attached : Bool} {ticket : Option Ticket} {notices : List Notice} {line : HostRow} {ps : List Packet}
+    (less : Option Ticket) → ((t : Ticket) → less ≡ Some t → (u : Ticket) × (ticket ≡ Some u) × (u.xid ≡ t.xid) × (u.request ≡ t.request))
+    → ((x n : ℕ) → line.inc ≡ who.inc → IsSettled ticket line.seq x n → (r : Request) (w : Who) → Asked ps who.host x r → asker r ≡ Some w
+    → w.inc ≡ who.inc → sequence_of r ≡ Some n → IsSettled less line.seq x n) → LineFits who attached ticket notices line ps
+    → LineFits who attached less notices line ps
 line-ticket less few keeps h = record {
   past = h.past;
   current = h.current;

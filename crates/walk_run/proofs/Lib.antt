@@ -15,3 +15,4 @@ pub mod OpenAt
 pub mod RunCases
 pub mod Sequences
 pub mod Steps
+pub mod GivenRuns

@@ -25,8 +25,10 @@ map-last f [] y = refl
 map-last f (x ∷ xs) y = ap (λ zs. f x ∷ zs) (map-last f xs y)
 
 -- one more message
-pub packets-last : (ps : List Packet) (host : ℕ) (sends : List Message) (m : Message) → packets_with ps host (sends ++ m ∷ []) ≡ packets_with ps host sends ++ from_host host m ∷ []
-packets-last ps host sends m = ap (λ qs. ps ++ qs) (map-last (from_host host) sends m) ∙ sym (append_assoc ps (map (from_host host) sends) (from_host host m ∷ []))
+pub packets-last : (ps : List Packet) (host : ℕ) (sends : List Message) (m : Message)
+    → packets_with ps host (sends ++ m ∷ []) ≡ packets_with ps host sends ++ from_host host m ∷ []
+packets-last ps host sends m =
+    ap (λ qs. ps ++ qs) (map-last (from_host host) sends m) ∙ sym (append_assoc ps (map (from_host host) sends) (from_host host m ∷ []))
 
 -- a client sends nothing to a host
 pub none-to-host : (host other : ℕ) (ms : List Message) (m : Message) → In (map (from_host host) ms) (to_host other m) → ⊥
@@ -43,7 +45,8 @@ old-told ps host other sends m told = case (in-append ps (map (from_host host) s
     case (inr new) = absurd (none-to-host host other sends m new)
 
 -- a request among what a client sent
-pub sent-calls : (host other : ℕ) (sends : List Message) (x : ℕ) (r : Request) → In (map (from_host host) sends) (from_host other (call x r)) → In sends (call x r)
+pub sent-calls : (host other : ℕ) (sends : List Message) (x : ℕ) (r : Request) → In (map (from_host host) sends) (from_host other (call x r))
+    → In sends (call x r)
 sent-calls host other [] x r i = i
 sent-calls host other (m ∷ ms) x r (inl e) = inl (message-same host other m (call x r) e).1
 sent-calls host other (m ∷ ms) x r (inr i) = inr (sent-calls host other ms x r i)
@@ -55,7 +58,8 @@ sent-host host other (n ∷ ms) m (inl e) = (message-same host other n m e).0
 sent-host host other (n ∷ ms) m (inr i) = sent-host host other ms m i
 
 -- what another host asked was asked before a client's step
-pub other-asked : (ps : List Packet) (host other : ℕ) (sends : List Message) (x : ℕ) (r : Request) → (other ≡ host → ⊥) → Asked (packets_with ps host sends) other x r → Asked ps other x r
+pub other-asked : (ps : List Packet) (host other : ℕ) (sends : List Message) (x : ℕ) (r : Request) → (other ≡ host → ⊥)
+    → Asked (packets_with ps host sends) other x r → Asked ps other x r
 other-asked ps host other sends x r apart asked = case (in-append ps (map (from_host host) sends) (from_host other (call x r)) asked)
   where
     case : In ps (from_host other (call x r)) ⊎ In (map (from_host host) sends) (from_host other (call x r)) → In ps (from_host other (call x r))
@@ -70,12 +74,14 @@ no-fewer : (ticket : Option Ticket) → IsFewer None ticket
 no-fewer ticket t e = none-some t e
 
 pub same-fewer : (t : Ticket) (now : ℕ) → IsFewer (Some (record t { last = now })) (Some t)
-same-fewer t now u e = let one : record t { last = now } ≡ u = some-same (record t { last = now }) u e in (t, refl, ap (λ z. z.xid) one, ap (λ z. z.request) one)
+same-fewer t now u e =
+    let one : record t { last = now } ≡ u = some-same (record t { last = now }) u e in (t, refl, ap (λ z. z.xid) one, ap (λ z. z.request) one)
 
 pub cancelled-fewer : (file : ℕ) (ticket : Option Ticket) → IsFewer (cancelled file ticket) ticket
 cancelled-fewer file ticket t e = (t, (keeps-or-cancels file ticket t e).0, refl, refl)
 
-asks-mail : (ps : List Packet) (k : Core) (job : Job) (request : Request) → k.ticket ≡ None → asker request ≡ Some k.who → MailIn ps k → MailIn ps (after_request k job request)
+asks-mail : (ps : List Packet) (k : Core) (job : Job) (request : Request) → k.ticket ≡ None → asker request ≡ Some k.who → MailIn ps k
+    → MailIn ps (after_request k job request)
 asks-mail ps k job request free asks m =
     let t : Ticket = record { xid = k.xid; first = k.now; last = k.now; request = request; job = job } in
     subst (λ qs. Mail k.who (k.xid + 1) (Some t) qs) (sym (packets-last ps k.who.host k.sends (call k.xid request)))
@@ -83,12 +89,14 @@ asks-mail ps k job request free asks m =
 
 vacates-mail : (ps : List Packet) (k : Core) (file : ℕ) (tag : Tag) → MailIn ps k → MailIn ps (after_vacated k file tag)
 vacates-mail ps k file tag m =
-    subst (λ qs. Mail k.who (k.xid + 1) k.ticket qs) (sym (packets-last ps k.who.host k.sends (call k.xid (Request.Vacated k.who file tag)))) (mail-adds (Request.Vacated k.who file tag) refl m)
+    subst (λ qs. Mail k.who (k.xid + 1) k.ticket qs) (sym (packets-last ps k.who.host k.sends (call k.xid (Request.Vacated k.who file tag))))
+    (mail-adds (Request.Vacated k.who file tag) refl m)
 
 again-mail : (ps : List Packet) (k : Core) (t : Ticket) → k.ticket ≡ Some t → MailIn ps k → MailIn ps (after_again k t)
 again-mail ps k t is m =
     subst (λ qs. Mail k.who k.xid (Some (record t { last = k.now })) qs) (sym (packets-last ps k.who.host k.sends (call t.xid t.request)))
-    (fewer (Some (record t { last = k.now })) (same-fewer t k.now) (mail-again t refl (subst (λ o. Mail k.who k.xid o (packets_with ps k.who.host k.sends)) is m)))
+    (fewer (Some (record t { last = k.now })) (same-fewer t k.now)
+    (mail-again t refl (subst (λ o. Mail k.who k.xid o (packets_with ps k.who.host k.sends)) is m)))
 
 -- each small change of a client keeps its mail
 pub mail-closed : (ps : List Packet) (Heard : ℕ → Tag → Type 0) (Given : ℕ → Grant → ℕ → Type 0) → Closed Heard Given (MailIn ps)
@@ -108,7 +116,8 @@ pub spent-mail : (ps : List Packet) (who : Who) (xid : ℕ) (ticket : Option Tic
 spent-mail ps who xid ticket m = fewer None (no-fewer ticket) m
 
 -- a step of the server keeps the mail of each client
-pub server-mail : {who : Who} {xid : ℕ} {ticket : Option Ticket} {ps : List Packet} (sends : List Packet) → AllSaid ps sends → Mail who xid ticket ps → Mail who xid ticket (ps ++ sends)
+pub server-mail : {who : Who} {xid : ℕ} {ticket : Option Ticket} {ps : List Packet} (sends : List Packet) → AllSaid ps sends → Mail who xid ticket ps
+    → Mail who xid ticket (ps ++ sends)
 server-mail {who = who} {xid = xid} {ticket = ticket} {ps = ps} sends said m = record {
   asked = λ x r w sent by. m.asked x r w (old x r (in-append ps sends (from_host who.host (call x r)) sent)) by;
   replied = λ x a sent i. told x a i (in-append ps sends (to_host who.host (reply x a)) sent);
@@ -133,7 +142,9 @@ server-mail {who = who} {xid = xid} {ticket = ticket} {ps = ps} sends said m = r
       let inc : k.who.inc ≡ who.inc = sym k.inc ∙ ap inc_of (sym p.1) ∙ i in
       record {
         number = n.number inc;
-        wants = λ u f g grant granted file on. let same : u.request ≡ k.asks = n.same inc u f g in subst (λ r. wants_of file r ≡ true) (sym same) (k.wants grant (ap grant_in (sym p.1) ∙ granted) file (ap requested_file (sym same) ∙ on));
+        wants =
+            λ u f g grant granted file on. let same : u.request ≡ k.asks = n.same inc u f g in
+            subst (λ r. wants_of file r ≡ true) (sym same) (k.wants grant (ap grant_in (sym p.1) ∙ granted) file (ap requested_file (sym same) ∙ on));
       }
   fresh x a i (said_error host y e is) = let t = told-same who.host host (reply x a) (error y e) is in absurd (cc)
   fresh x a i (said_notice y row is) = let t = told-same who.host row.who.host (reply x a) (call y (Request.Evicted row.who row.file row.tag)) is in absurd (cc)
@@ -158,12 +169,15 @@ server-mail {who = who} {xid = xid} {ticket = ticket} {ps = ps} sends said m = r
   told x a i (inr new) = fresh x a i (said (to_host who.host (reply x a)) new)
 
 -- packets from another host keep the mail of a client
-pub other-mail : {who : Who} {xid : ℕ} {ticket : Option Ticket} {ps : List Packet} (host : ℕ) (sends : List Message) → (who.host ≡ host → ⊥) → Mail who xid ticket ps → Mail who xid ticket (packets_with ps host sends)
+pub other-mail : {who : Who} {xid : ℕ} {ticket : Option Ticket} {ps : List Packet} (host : ℕ) (sends : List Message) → (who.host ≡ host → ⊥)
+    → Mail who xid ticket ps → Mail who xid ticket (packets_with ps host sends)
 other-mail {who = who} {xid = xid} {ticket = ticket} {ps = ps} host sends apart m = record {
   asked = λ x r w sent by. m.asked x r w (old x r (in-append ps (map (from_host host) sends) (from_host who.host (call x r)) sent)) by;
   replied = λ x a sent i. m.replied x a (told x a (in-append ps (map (from_host host) sends) (to_host who.host (reply x a)) sent)) i;
   past = λ x a sent. m.past x a (told x a (in-append ps (map (from_host host) sends) (to_host who.host (reply x a)) sent));
-  own = λ t e. let k = m.own t e in record { number = k.number; asks = k.asks; sent = in-left ps (map (from_host host) sends) (from_host who.host (call t.xid t.request)) k.sent };
+  own =
+      λ t e. let k = m.own t e in record
+      { number = k.number; asks = k.asks; sent = in-left ps (map (from_host host) sends) (from_host who.host (call t.xid t.request)) k.sent };
 } where
   theirs : (ms : List Message) (x : ℕ) (r : Request) → In (map (from_host host) ms) (from_host who.host (call x r)) → ⊥
   theirs [] x r h = h
@@ -175,10 +189,12 @@ other-mail {who = who} {xid = xid} {ticket = ticket} {ps = ps} host sends apart 
   no-reply (n ∷ ms) x a (inl e) = not-both host who.host n (reply x a) e
   no-reply (n ∷ ms) x a (inr h) = no-reply ms x a h
 
-  old : (x : ℕ) (r : Request) → In ps (from_host who.host (call x r)) ⊎ In (map (from_host host) sends) (from_host who.host (call x r)) → In ps (from_host who.host (call x r))
+  old : (x : ℕ) (r : Request) → In ps (from_host who.host (call x r)) ⊎ In (map (from_host host) sends) (from_host who.host (call x r))
+      → In ps (from_host who.host (call x r))
   old x r (inl there) = there
   old x r (inr new) = absurd (theirs sends x r new)
 
-  told : (x : ℕ) (a : Reply) → In ps (to_host who.host (reply x a)) ⊎ In (map (from_host host) sends) (to_host who.host (reply x a)) → In ps (to_host who.host (reply x a))
+  told : (x : ℕ) (a : Reply) → In ps (to_host who.host (reply x a)) ⊎ In (map (from_host host) sends) (to_host who.host (reply x a))
+      → In ps (to_host who.host (reply x a))
   told x a (inl there) = there
   told x a (inr new) = absurd (no-reply sends x a new)

@@ -13,7 +13,8 @@ use Rattle.walk_server.proofs.Rows.{same-number}
 
 -- ---- those that pass a test
 
-filter-step : {X : Type 0} (test : X → Bool) (y x : X) (xs : List X) (b : Bool) → test y ≡ b → (In (filter test xs) x → In xs x × (test x ≡ true)) → In (if b then y ∷ filter test xs else filter test xs) x → ((y ≡ x) ⊎ In xs x) × (test x ≡ true)
+filter-step : {X : Type 0} (test : X → Bool) (y x : X) (xs : List X) (b : Bool) → test y ≡ b → (In (filter test xs) x → In xs x × (test x ≡ true))
+    → In (if b then y ∷ filter test xs else filter test xs) x → ((y ≡ x) ⊎ In xs x) × (test x ≡ true)
 filter-step test y x xs true e rest (inl same) = (inl same, subst (λ z. test z ≡ true) same e)
 filter-step test y x xs true e rest (inr i) = let k = rest i in (inr k.0, k.1)
 filter-step test y x xs false e rest i = let k = rest i in (inr k.0, k.1)
@@ -26,7 +27,8 @@ in-filter test (y ∷ xs) x h = filter-step test y x xs (test y) refl (in-filter
 pub in-filtered : {X : Type 0} (test : X → Bool) (xs : List X) (x : X) → In (filter test xs) x → In xs x
 in-filtered test xs x h = (in-filter test xs x h).0
 
-stays-step : {X : Type 0} (test : X → Bool) (y x : X) (xs : List X) (b : Bool) → test y ≡ b → test x ≡ true → (In xs x → In (filter test xs) x) → (y ≡ x) ⊎ In xs x → In (if b then y ∷ filter test xs else filter test xs) x
+stays-step : {X : Type 0} (test : X → Bool) (y x : X) (xs : List X) (b : Bool) → test y ≡ b → test x ≡ true → (In xs x → In (filter test xs) x)
+    → (y ≡ x) ⊎ In xs x → In (if b then y ∷ filter test xs else filter test xs) x
 stays-step test y x xs true e passes rest (inl same) = inl same
 stays-step test y x xs true e passes rest (inr i) = inr (rest i)
 stays-step test y x xs false e passes rest (inl same) = let yes : test y ≡ true = subst (λ z. test z ≡ true) (sym same) passes in absurd (cc)
@@ -38,7 +40,8 @@ filter-in test (y ∷ xs) x passes h = stays-step test y x xs (test y) refl pass
 
 -- ---- the first that passes a test
 
-find-step : {X : Type 0} (test : X → Bool) (y x : X) (xs : List X) (b : Bool) → (find test xs ≡ Some x → In xs x) → (if b then Some y else find test xs) ≡ Some x → (y ≡ x) ⊎ In xs x
+find-step : {X : Type 0} (test : X → Bool) (y x : X) (xs : List X) (b : Bool) → (find test xs ≡ Some x → In xs x)
+    → (if b then Some y else find test xs) ≡ Some x → (y ≡ x) ⊎ In xs x
 find-step test y x xs true rest e = inl (some-same y x e)
 find-step test y x xs false rest e = inr (rest e)
 
@@ -46,7 +49,8 @@ pub find-in : {X : Type 0} (test : X → Bool) (xs : List X) (x : X) → find te
 find-in test [] x e = none-some x e
 find-in test (y ∷ xs) x e = find-step test y x xs (test y) (find-in test xs x) e
 
-absent-step : {X : Type 0} (test : X → Bool) (y x : X) (xs : List X) (b : Bool) → test y ≡ b → (find test xs ≡ None → In xs x → test x ≡ false) → (if b then Some y else find test xs) ≡ None → (y ≡ x) ⊎ In xs x → test x ≡ false
+absent-step : {X : Type 0} (test : X → Bool) (y x : X) (xs : List X) (b : Bool) → test y ≡ b → (find test xs ≡ None → In xs x → test x ≡ false)
+    → (if b then Some y else find test xs) ≡ None → (y ≡ x) ⊎ In xs x → test x ≡ false
 absent-step test y x xs true e rest none i = none-some y (sym none)
 absent-step test y x xs false e rest none (inl same) = subst (λ z. test z ≡ false) same e
 absent-step test y x xs false e rest none (inr i) = rest none i

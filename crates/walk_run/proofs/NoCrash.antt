@@ -7,7 +7,8 @@ use Rattle.nq_model.specs.World.{Head}
 
 -- a schedule within bounds was so before its last event
 pub bounds-before : (most : ℕ) (head : Head) (e : Event) (earlier : List Event) → KeepsBounds most head (e ∷ earlier) → KeepsBounds most head earlier
-bounds-before most head e earlier b = record { hosts = b.hosts; first_long = b.first_long; first_short = b.first_short; boots = λ k d below. b.boots (suc k) d (omega arith) }
+bounds-before most head e earlier b =
+    record { hosts = b.hosts; first_long = b.first_long; first_short = b.first_short; boots = λ k d below. b.boots (suc k) d (omega arith) }
 
 -- one event after the other
 pub one-first : (most : ℕ) (e : Event) (events : List Event) → BootsWithin most e → All (BootsWithin most) events → All (BootsWithin most) (e ∷ events)
@@ -26,7 +27,8 @@ no-crash-within most (Event.Crash longest ∷ events) h = absurd (cc)
 no-crash-within most (e ∷ events) h = one-first most e events tt (no-crash-within most events h)
 
 -- and what came earlier may have boots
-pub no-crash-after : (most : ℕ) (events earlier : List Event) → no_crash events ≡ true → All (BootsWithin most) earlier → All (BootsWithin most) (events ++ earlier)
+pub no-crash-after : (most : ℕ) (events earlier : List Event) → no_crash events ≡ true → All (BootsWithin most) earlier
+    → All (BootsWithin most) (events ++ earlier)
 no-crash-after most [] earlier h rest = rest
 no-crash-after most (Event.Crash longest ∷ events) earlier h rest = absurd (cc)
 no-crash-after most (e ∷ events) earlier h rest = one-first most e (events ++ earlier) tt (no-crash-after most events earlier h rest)

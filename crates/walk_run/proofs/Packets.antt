@@ -94,7 +94,8 @@ pub record IsAsked (who : Who) (xid : ℕ) (ticket : Option Ticket) (x : ℕ) (r
 -- only if one was wanted
 pub record IsReplied (xid : ℕ) (ticket : Option Ticket) (x : ℕ) (a : Reply) : Type 0 where
   pub number : x < xid
-  pub wants : (t : Ticket) → ticket ≡ Some t → t.xid ≡ x → (g : Grant) → grant_in a ≡ Some g → (file : ℕ) → requested_file t.request ≡ Some file → wants_of file t.request ≡ true
+  pub wants : (t : Ticket) → ticket ≡ Some t → t.xid ≡ x → (g : Grant) → grant_in a ≡ Some g → (file : ℕ) → requested_file t.request ≡ Some file
+      → wants_of file t.request ≡ true
 
 -- the request under way was sent
 pub record IsOwn (who : Who) (xid : ℕ) (ps : List Packet) (t : Ticket) : Type 0 where
@@ -113,27 +114,55 @@ pub record Mail (who : Who) (xid : ℕ) (ticket : Option Ticket) (ps : List Pack
 abbrev pub IsFewer : Option Ticket → Option Ticket → Type 0
 IsFewer less more = (t : Ticket) → less ≡ Some t → (u : Ticket) × (more ≡ Some u) × (u.xid ≡ t.xid) × (u.request ≡ t.request)
 
-pub fewer : {who : Who} {xid : ℕ} {ticket : Option Ticket} {ps : List Packet} (less : Option Ticket) → IsFewer less ticket → Mail who xid ticket ps → Mail who xid less ps
+pub fewer : {who : Who} {xid : ℕ} {ticket : Option Ticket} {ps : List Packet} (less : Option Ticket) → IsFewer less ticket → Mail who xid ticket ps
+    → Mail who xid less ps
 fewer {who = who} {xid = xid} {ps = ps} less few m = record {
-  asked = λ x r w sent by. let k = m.asked x r w sent by in record { host = k.host; inc = k.inc; number = k.number; same = λ i t e n. let f = few t e in sym f.3 ∙ k.same i f.0 f.1 (f.2 ∙ n) };
-  replied = λ x a sent i. let k = m.replied x a sent i in record { number = k.number; wants = λ t e n g grants file on. let f = few t e in subst (λ r. wants_of file r ≡ true) f.3 (k.wants f.0 f.1 (f.2 ∙ n) g grants file (ap requested_file f.3 ∙ on)) };
+  asked =
+      λ x r w sent by. let k = m.asked x r w sent by in
+      record { host = k.host; inc = k.inc; number = k.number; same = λ i t e n. let f = few t e in sym f.3 ∙ k.same i f.0 f.1 (f.2 ∙ n) };
+  replied =
+      λ x a sent i. let k = m.replied x a sent i in
+      record {
+        number = k.number;
+        wants = λ t e n g grants file on. let f = few t e in
+            subst (λ r. wants_of file r ≡ true) f.3 (k.wants f.0 f.1 (f.2 ∙ n) g grants file (ap requested_file f.3 ∙ on));
+      };
   past = m.past;
-  own = λ t e. let f = few t e in let k = m.own f.0 f.1 in record { number = subst (λ n. n < xid) f.2 k.number; asks = ap asker (sym f.3) ∙ k.asks; sent = subst (λ r. Asked ps who.host t.xid r) f.3 (subst (λ n. Asked ps who.host n f.0.request) f.2 k.sent) };
+  own =
+      λ t e. let f = few t e in let k = m.own f.0 f.1 in
+      record {
+        number = subst (λ n. n < xid) f.2 k.number;
+        asks = ap asker (sym f.3)
+            ∙ k.asks;
+        sent = subst (λ r. Asked ps who.host t.xid r) f.3 (subst (λ n. Asked ps who.host n f.0.request) f.2 k.sent);
+      };
 }
 
 -- a request is sent, and is under way
-pub mail-sends : {who : Who} {xid : ℕ} {ps : List Packet} (t : Ticket) → t.xid ≡ xid → asker t.request ≡ Some who → Mail who xid None ps → Mail who (xid + 1) (Some t) (ps ++ from_host who.host (call xid t.request) ∷ [])
+pub mail-sends : {who : Who} {xid : ℕ} {ps : List Packet} (t : Ticket) → t.xid ≡ xid → asker t.request ≡ Some who → Mail who xid None ps
+    → Mail who (xid + 1) (Some t) (ps ++ from_host who.host (call xid t.request) ∷ [])
 mail-sends {who = who} {xid = xid} {ps = ps} t numbered asks m = record {
   asked = λ x r w sent by. case x r w by (in-last ps (from_host who.host (call xid t.request)) (from_host who.host (call x r)) sent);
   replied = λ x a sent i. told x a i (in-last ps (from_host who.host (call xid t.request)) (to_host who.host (reply x a)) sent);
   past = λ x a sent. m.past x a (gone x a (in-last ps (from_host who.host (call xid t.request)) (to_host who.host (reply x a)) sent));
-  own = λ u e. let one : t ≡ u = some-same t u e in subst (λ z. IsOwn who (xid + 1) (ps ++ from_host who.host (call xid t.request) ∷ []) z) one (record { number = omega arith; asks = asks; sent = in-right ps (from_host who.host (call xid t.request) ∷ []) (from_host who.host (call t.xid t.request)) (inl (ap (λ n. from_host who.host (call n t.request)) (sym numbered))) });
+  own =
+      λ u e. let one : t ≡ u = some-same t u e in
+      subst (λ z. IsOwn who (xid + 1) (ps ++ from_host who.host (call xid t.request) ∷ []) z) one
+      (record {
+        number = omega arith;
+        asks = asks;
+        sent = in-right ps (from_host who.host (call xid t.request) ∷ [])
+            (from_host who.host (call t.xid t.request)) (inl (ap (λ n. from_host who.host (call n t.request)) (sym numbered)));
+      });
 } where
-  gone : (x : ℕ) (a : Reply) → In ps (to_host who.host (reply x a)) ⊎ (from_host who.host (call xid t.request) ≡ to_host who.host (reply x a)) → In ps (to_host who.host (reply x a))
+  gone : (x : ℕ) (a : Reply) → In ps (to_host who.host (reply x a)) ⊎ (from_host who.host (call xid t.request) ≡ to_host who.host (reply x a))
+      → In ps (to_host who.host (reply x a))
   gone x a (inl old) = old
   gone x a (inr bad) = absurd (not-both who.host who.host (call xid t.request) (reply x a) bad)
 
-  case : (x : ℕ) (r : Request) (w : Who) → asker r ≡ Some w → In ps (from_host who.host (call x r)) ⊎ (from_host who.host (call xid t.request) ≡ from_host who.host (call x r)) → IsAsked who (xid + 1) (Some t) x r w
+  case : (x : ℕ) (r : Request) (w : Who) → asker r ≡ Some w
+      → In ps (from_host who.host (call x r)) ⊎ (from_host who.host (call xid t.request) ≡ from_host who.host (call x r))
+      → IsAsked who (xid + 1) (Some t) x r w
   case x r w by (inl old) = let k = m.asked x r w old by in record {
     host = k.host;
     inc = k.inc;
@@ -150,27 +179,40 @@ mail-sends {who = who} {xid = xid} {ps = ps} t numbered asks m = record {
         same = λ i u e n. ap (λ z. z.request) (sym (some-same t u e)) ∙ m.1;
       }
 
-  told : (x : ℕ) (a : Reply) → inc_of a ≡ who.inc → In ps (to_host who.host (reply x a)) ⊎ (from_host who.host (call xid t.request) ≡ to_host who.host (reply x a)) → IsReplied (xid + 1) (Some t) x a
+  told : (x : ℕ) (a : Reply) → inc_of a ≡ who.inc
+      → In ps (to_host who.host (reply x a)) ⊎ (from_host who.host (call xid t.request) ≡ to_host who.host (reply x a)) → IsReplied (xid + 1) (Some t) x a
   told x a i (inl old) = let k = m.replied x a old i in record {
     number = let below = k.number in omega arith;
-    wants = λ u e n g grants file on. let below = k.number in let one : t ≡ u = some-same t u e in let first : t.xid ≡ x = ap (λ z. z.xid) one ∙ n in absurd (omega arith);
+    wants =
+        λ u e n g grants file on. let below = k.number in let one : t ≡ u = some-same t u e in let first : t.xid ≡ x = ap (λ z. z.xid) one ∙ n in
+        absurd (omega arith);
   }
   told x a i (inr bad) = absurd (not-both who.host who.host (call xid t.request) (reply x a) bad)
 
 -- a message is sent that is not the request under way, with the next number
-pub mail-adds : {who : Who} {xid : ℕ} {ticket : Option Ticket} {ps : List Packet} (request : Request) → asker request ≡ Some who → Mail who xid ticket ps → Mail who (xid + 1) ticket (ps ++ from_host who.host (call xid request) ∷ [])
+pub mail-adds : {who : Who} {xid : ℕ} {ticket : Option Ticket} {ps : List Packet} (request : Request) → asker request ≡ Some who
+    → Mail who xid ticket ps → Mail who (xid + 1) ticket (ps ++ from_host who.host (call xid request) ∷ [])
 mail-adds {who = who} {xid = xid} {ticket = ticket} {ps = ps} request asks m = record {
   asked = λ x r w sent by. case x r w by (in-last ps (from_host who.host (call xid request)) (from_host who.host (call x r)) sent);
   replied = λ x a sent i. told x a i (in-last ps (from_host who.host (call xid request)) (to_host who.host (reply x a)) sent);
   past = λ x a sent. m.past x a (gone x a (in-last ps (from_host who.host (call xid request)) (to_host who.host (reply x a)) sent));
-  own = λ u e. let k = m.own u e in record { number = let below = k.number in omega arith; asks = k.asks; sent = in-left ps (from_host who.host (call xid request) ∷ []) (from_host who.host (call u.xid u.request)) k.sent };
+  own =
+      λ u e. let k = m.own u e in record {
+        number = let below = k.number in
+            omega arith;
+        asks = k.asks;
+        sent = in-left ps (from_host who.host (call xid request) ∷ []) (from_host who.host (call u.xid u.request)) k.sent;
+      };
 } where
-  gone : (x : ℕ) (a : Reply) → In ps (to_host who.host (reply x a)) ⊎ (from_host who.host (call xid request) ≡ to_host who.host (reply x a)) → In ps (to_host who.host (reply x a))
+  gone : (x : ℕ) (a : Reply) → In ps (to_host who.host (reply x a)) ⊎ (from_host who.host (call xid request) ≡ to_host who.host (reply x a))
+      → In ps (to_host who.host (reply x a))
   gone x a (inl old) = old
   gone x a (inr bad) = absurd (not-both who.host who.host (call xid request) (reply x a) bad)
 
-  case : (x : ℕ) (r : Request) (w : Who) → asker r ≡ Some w → In ps (from_host who.host (call x r)) ⊎ (from_host who.host (call xid request) ≡ from_host who.host (call x r)) → IsAsked who (xid + 1) ticket x r w
-  case x r w by (inl old) = let k = m.asked x r w old by in record { host = k.host; inc = k.inc; number = λ i. let below = k.number i in omega arith; same = k.same }
+  case : (x : ℕ) (r : Request) (w : Who) → asker r ≡ Some w
+      → In ps (from_host who.host (call x r)) ⊎ (from_host who.host (call xid request) ≡ from_host who.host (call x r)) → IsAsked who (xid + 1) ticket x r w
+  case x r w by (inl old) =
+      let k = m.asked x r w old by in record { host = k.host; inc = k.inc; number = λ i. let below = k.number i in omega arith; same = k.same }
   case x r w by (inr new) =
       let c = call-same xid x request r (message-same who.host who.host (call xid request) (call x r) new).1 in
       let same_who : who ≡ w = some-same who w (sym asks ∙ ap asker c.1 ∙ by) in
@@ -181,26 +223,37 @@ mail-adds {who = who} {xid = xid} {ticket = ticket} {ps = ps} request asks m = r
         same = λ i u e n. let below = (m.own u e).number in let g = c.0 in absurd (omega arith);
       }
 
-  told : (x : ℕ) (a : Reply) → inc_of a ≡ who.inc → In ps (to_host who.host (reply x a)) ⊎ (from_host who.host (call xid request) ≡ to_host who.host (reply x a)) → IsReplied (xid + 1) ticket x a
+  told : (x : ℕ) (a : Reply) → inc_of a ≡ who.inc
+      → In ps (to_host who.host (reply x a)) ⊎ (from_host who.host (call xid request) ≡ to_host who.host (reply x a)) → IsReplied (xid + 1) ticket x a
   told x a i (inl old) = let k = m.replied x a old i in record { number = let below = k.number in omega arith; wants = k.wants }
   told x a i (inr bad) = absurd (not-both who.host who.host (call xid request) (reply x a) bad)
 
 -- the request under way is sent again
-pub mail-again : {who : Who} {xid : ℕ} {ticket : Option Ticket} {ps : List Packet} (t : Ticket) → ticket ≡ Some t → Mail who xid ticket ps → Mail who xid ticket (ps ++ from_host who.host (call t.xid t.request) ∷ [])
+pub mail-again : {who : Who} {xid : ℕ} {ticket : Option Ticket} {ps : List Packet} (t : Ticket) → ticket ≡ Some t → Mail who xid ticket ps
+    → Mail who xid ticket (ps ++ from_host who.host (call t.xid t.request) ∷ [])
 mail-again {who = who} {xid = xid} {ticket = ticket} {ps = ps} t is m = record {
   asked = λ x r w sent by. m.asked x r w (case x r (in-last ps (from_host who.host (call t.xid t.request)) (from_host who.host (call x r)) sent)) by;
   replied = λ x a sent i. m.replied x a (told x a (in-last ps (from_host who.host (call t.xid t.request)) (to_host who.host (reply x a)) sent)) i;
   past = λ x a sent. m.past x a (gone x a (in-last ps (from_host who.host (call t.xid t.request)) (to_host who.host (reply x a)) sent));
-  own = λ u e. let k = m.own u e in record { number = k.number; asks = k.asks; sent = in-left ps (from_host who.host (call t.xid t.request) ∷ []) (from_host who.host (call u.xid u.request)) k.sent };
+  own =
+      λ u e. let k = m.own u e in record {
+        number = k.number;
+        asks = k.asks;
+        sent = in-left ps (from_host who.host (call t.xid t.request) ∷ []) (from_host who.host (call u.xid u.request))
+            k.sent;
+      };
 } where
-  gone : (x : ℕ) (a : Reply) → In ps (to_host who.host (reply x a)) ⊎ (from_host who.host (call t.xid t.request) ≡ to_host who.host (reply x a)) → In ps (to_host who.host (reply x a))
+  gone : (x : ℕ) (a : Reply) → In ps (to_host who.host (reply x a)) ⊎ (from_host who.host (call t.xid t.request) ≡ to_host who.host (reply x a))
+      → In ps (to_host who.host (reply x a))
   gone x a (inl old) = old
   gone x a (inr bad) = absurd (not-both who.host who.host (call t.xid t.request) (reply x a) bad)
 
-  case : (x : ℕ) (r : Request) → In ps (from_host who.host (call x r)) ⊎ (from_host who.host (call t.xid t.request) ≡ from_host who.host (call x r)) → In ps (from_host who.host (call x r))
+  case : (x : ℕ) (r : Request) → In ps (from_host who.host (call x r)) ⊎ (from_host who.host (call t.xid t.request) ≡ from_host who.host (call x r))
+      → In ps (from_host who.host (call x r))
   case x r (inl old) = old
   case x r (inr new) = subst (λ p. In ps p) new (m.own t is).sent
 
-  told : (x : ℕ) (a : Reply) → In ps (to_host who.host (reply x a)) ⊎ (from_host who.host (call t.xid t.request) ≡ to_host who.host (reply x a)) → In ps (to_host who.host (reply x a))
+  told : (x : ℕ) (a : Reply) → In ps (to_host who.host (reply x a)) ⊎ (from_host who.host (call t.xid t.request) ≡ to_host who.host (reply x a))
+      → In ps (to_host who.host (reply x a))
   told x a (inl old) = old
   told x a (inr bad) = absurd (not-both who.host who.host (call t.xid t.request) (reply x a) bad)

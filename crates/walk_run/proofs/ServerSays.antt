@@ -28,7 +28,8 @@ use Rattle.nq_model.specs.Table.{Table}
 -- notices are no replies
 pub notices-no-reply : (xid : ℕ) (rows : List Row) (host x : ℕ) (a : Reply) → In (notices xid rows) (to_host host (reply x a)) → ⊥
 notices-no-reply xid [] host x a h = h
-notices-no-reply xid (row ∷ rows) host x a (inl e) = let t = told-same row.who.host host (call xid (Request.Evicted row.who row.file row.tag)) (reply x a) e in absurd (cc)
+notices-no-reply xid (row ∷ rows) host x a (inl e) =
+    let t = told-same row.who.host host (call xid (Request.Evicted row.who row.file row.tag)) (reply x a) e in absurd (cc)
 notices-no-reply xid (row ∷ rows) host x a (inr h) = notices-no-reply ((xid + 1) % xid_end) rows host x a h
 
 -- a reply to a request that was sent
@@ -135,43 +136,62 @@ error-said ps sender garbage_vacated m e = none-some m e
 error-said ps sender (garbage xid) m e = said_error sender xid RpcError.garbage_arguments (ap (to_host sender) (sym (some-same _ m e)))
 error-said ps sender (request xid r) m e = none-some m e
 
-module _ (ps : List Packet) (s : Server) (sender next : ℕ) (d : Datagram) (was_sent : (xid : ℕ) (r : Request) → d ≡ request xid r → Asked ps sender xid r) (no_null : (xid : ℕ) → d ≡ request xid Request.Null → ⊥) where
+module _ (ps : List Packet) (s : Server) (sender next : ℕ) (d : Datagram)
+    (was_sent : (xid : ℕ) (r : Request) → d ≡ request xid r → Asked ps sender xid r) (no_null : (xid : ℕ) → d ≡ request xid Request.Null → ⊥) where
   -- a reply to a request of this datagram, which goes to its sender
-  answered : (xid : ℕ) (who : Who) (r : Request) (a : Reply) → d ≡ request xid r → asker r ≡ Some who → who.host ≡ sender → inc_of a ≡ who.inc → ((g : Grant) → grant_in a ≡ Some g → (file : ℕ) → requested_file r ≡ Some file → wants_of file r ≡ true) → IsSaid ps (to_host who.host (reply xid a))
-  answered xid who r a e by from inc wants = said_reply who.host xid a refl (record { asks = r; who = who; sent = subst (λ h. Asked ps h xid r) (sym from) (was_sent xid r e); by = by; inc = inc; wants = wants })
+  answered : (xid : ℕ) (who : Who) (r : Request) (a : Reply) → d ≡ request xid r → asker r ≡ Some who → who.host ≡ sender → inc_of a ≡ who.inc
+      → ((g : Grant) → grant_in a ≡ Some g → (file : ℕ) → requested_file r ≡ Some file → wants_of file r ≡ true)
+      → IsSaid ps (to_host who.host (reply xid a))
+  answered xid who r a e by from inc wants =
+      said_reply who.host xid a refl (record
+      { asks = r; who = who; sent = subst (λ h. Asked ps h xid r) (sym from) (was_sent xid r e); by = by; inc = inc; wants = wants })
 
-  committed : (xid : ℕ) (who : Who) (seq : ℕ) (r : Request) (c : Decision) → d ≡ request xid r → asker r ≡ Some who → sequence_of r ≡ Some seq → who.host ≡ sender → AllSaid ps c.sends → AllSaid ps (commits who seq xid r c).sends
+  committed : (xid : ℕ) (who : Who) (seq : ℕ) (r : Request) (c : Decision) → d ≡ request xid r → asker r ≡ Some who → sequence_of r ≡ Some seq
+      → who.host ≡ sender → AllSaid ps c.sends → AllSaid ps (commits who seq xid r c).sends
   unfolding commits
   committed xid who seq r c e by sq from notes =
       both-said ps c.sends (to_host who.host (reply xid (verdict_reply who.inc c.verdict c.value r)) ∷ []) notes
-      (one-said ps (to_host who.host (reply xid (verdict_reply who.inc c.verdict c.value r))) (answered xid who r (verdict_reply who.inc c.verdict c.value r) e by from (verdict-inc who.inc c.verdict c.value r seq sq) (λ g grants file on. none-some g (sym (verdict-grant who.inc c.verdict c.value r) ∙ grants))))
+      (one-said ps (to_host who.host (reply xid (verdict_reply who.inc c.verdict c.value r)))
+      (answered xid who r (verdict_reply who.inc c.verdict c.value r) e by from (verdict-inc who.inc c.verdict c.value r seq sq)
+      (λ g grants file on. none-some g (sym (verdict-grant who.inc c.verdict c.value r) ∙ grants))))
 
   says-one : (host : ℕ) (m : Message) → IsSaid ps (to_host host m) → AllSaid ps (says s host m).sends
   unfolding says
   says-one host m said = one-said ps (to_host host m) said
 
-  later : (xid : ℕ) (who : Who) (r : Request) (table : Table) (rows : List Row) → d ≡ request xid r → asker r ≡ Some who → who.host ≡ sender → AllSaid ps (tells_later s who xid table rows).sends
+  later : (xid : ℕ) (who : Who) (r : Request) (table : Table) (rows : List Row) → d ≡ request xid r → asker r ≡ Some who → who.host ≡ sender
+      → AllSaid ps (tells_later s who xid table rows).sends
   unfolding tells_later
   later xid who r table rows e by from =
       both-said ps (notices s.notice rows) (to_host who.host (reply xid (Reply.Refused who.inc Refusal.TryLater)) ∷ []) (notices-said ps s.notice rows)
-      (one-said ps (to_host who.host (reply xid (Reply.Refused who.inc Refusal.TryLater))) (answered xid who r (Reply.Refused who.inc Refusal.TryLater) e by from refl (λ g grants file on. none-some g grants)))
+      (one-said ps (to_host who.host (reply xid (Reply.Refused who.inc Refusal.TryLater)))
+      (answered xid who r (Reply.Refused who.inc Refusal.TryLater) e by from refl (λ g grants file on. none-some g grants)))
 
   -- a block is read, or a lease is given, for one who may have wanted a lease
-  serving-said : (xid : ℕ) (who : Who) (q : ℕ) (f : File) (block : ℕ) (body : List ℕ) (table : Table) (grant : Option Grant) (want : Option Want) → d ≡ request xid (Request.Read who q f.id block want) → who.host ≡ sender → ((g : Grant) → grant ≡ Some g → wants_of f.id (Request.Read who q f.id block want) ≡ true) → AllSaid ps (serves s who xid next q f block body table grant).sends
+  serving-said : (xid : ℕ) (who : Who) (q : ℕ) (f : File) (block : ℕ) (body : List ℕ) (table : Table) (grant : Option Grant) (want : Option Want)
+      → d ≡ request xid (Request.Read who q f.id block want) → who.host ≡ sender
+      → ((g : Grant) → grant ≡ Some g → wants_of f.id (Request.Read who q f.id block want) ≡ true)
+      → AllSaid ps (serves s who xid next q f block body table grant).sends
   unfolding serves
   serving-said xid who q f block body table grant want e from wants =
       one-said ps (to_host who.host (reply xid (Reply.Read who.inc f.rev body grant)))
-      (answered xid who (Request.Read who q f.id block want) (Reply.Read who.inc f.rev body grant) e refl from refl (λ g grants file on. let same : f.id ≡ file = some-same f.id file on in subst (λ n. wants_of n (Request.Read who q f.id block want) ≡ true) same (wants g grants)))
+      (answered xid who (Request.Read who q f.id block want) (Reply.Read who.inc f.rev body grant) e refl from refl
+      (λ g grants file on. let same : f.id ≡ file = some-same f.id file on in
+      subst (λ n. wants_of n (Request.Read who q f.id block want) ≡ true) same (wants g grants)))
 
-  leasing-said : (xid : ℕ) (who : Who) (f : File) (table : Table) (grant : Option Grant) (want : Want) → d ≡ request xid (Request.GetLease who f.id want) → who.host ≡ sender → AllSaid ps (leases s who xid f.id table grant).sends
+  leasing-said : (xid : ℕ) (who : Who) (f : File) (table : Table) (grant : Option Grant) (want : Want)
+      → d ≡ request xid (Request.GetLease who f.id want) → who.host ≡ sender → AllSaid ps (leases s who xid f.id table grant).sends
   unfolding leases
   leasing-said xid who f table grant want e from =
       one-said ps (to_host who.host (reply xid (Reply.GetLease who.inc grant)))
-      (answered xid who (Request.GetLease who f.id want) (Reply.GetLease who.inc grant) e refl from refl (λ g grants file on. number-same f.id file (some-same f.id file on)))
+      (answered xid who (Request.GetLease who f.id want) (Reply.GetLease who.inc grant) e refl from refl
+      (λ g grants file on. number-same f.id file (some-same f.id file on)))
 
   attaching-said : (xid : ℕ) (who : Who) → d ≡ request xid (Request.Attach who) → who.host ≡ sender → AllSaid ps (attaches s who xid).sends
   unfolding attaches
-  attaching-said xid who e from = one-said ps (to_host who.host (reply xid (Reply.Attach who.inc))) (answered xid who (Request.Attach who) (Reply.Attach who.inc) e refl from refl (λ g grants file on. none-some g grants))
+  attaching-said xid who e from =
+      one-said ps (to_host who.host (reply xid (Reply.Attach who.inc)))
+      (answered xid who (Request.Attach who) (Reply.Attach who.inc) e refl from refl (λ g grants file on. none-some g grants))
 
   vacating-said : (who : Who) (file : ℕ) (tag : Tag) → AllSaid ps (vacates s who file tag).sends
   unfolding vacates quiet
@@ -201,7 +221,8 @@ module _ (ps : List Packet) (s : Server) (sender next : ℕ) (d : Datagram) (was
   unfolding stores
   stores-said who f row block first last body = none-said ps
 
-  recovering-said : (until : ℕ) (last : Option Table) (who : Who) (f : File) (block first final : ℕ) (body : List ℕ) → AllSaid ps (stores_recovering s until last who f block first final body).sends
+  recovering-said : (until : ℕ) (last : Option Table) (who : Who) (f : File) (block first final : ℕ) (body : List ℕ)
+      → AllSaid ps (stores_recovering s until last who f block first final body).sends
   unfolding stores_recovering
   recovering-said until last who f block first final body = none-said ps
 
@@ -224,23 +245,41 @@ module _ (ps : List Packet) (s : Server) (sender next : ℕ) (d : Datagram) (was
     dropping = drops-said;
     erring = λ m e. says-one sender m (error-said ps sender d m e);
     answers_null = λ xid e. absurd (no_null xid e);
-    replying = λ xid who r a e by from plain. says-one who.host (reply xid a) (answered xid who r a e by from.host (plain-inc s who r a plain) (λ g grants file on. none-some g (sym (plain-grant s who r a plain) ∙ grants)));
+    replying =
+        λ xid who r a e by from plain. says-one who.host (reply xid a)
+        (answered xid who r a e by from.host (plain-inc s who r a plain) (λ g grants file on. none-some g (sym (plain-grant s who r a plain) ∙ grants)));
     attaching = λ xid who e from above. attaching-said xid who e from.host;
     vacating = λ xid who file tag e now. vacating-said who file tag;
     putting_off = λ xid who r f clash e by on asking c. later xid who r _ _ e by asking.current.from.host;
     putting_off_waiting = λ xid who r f clash want e by on w asking c own room. later xid who r _ _ e by asking.current.from.host;
     putting_off_by_own = λ xid who r f want own e by on w asking c o ev. later xid who r _ _ e by asking.current.from.host;
-    reading = λ xid who q block f body e asking there c. serving-said xid who q f block body _ None None e asking.current.from.host (λ g grants. none-some g grants);
-    reading_full = λ xid who q block want f body e asking there c own room. serving-said xid who q f block body _ None (Some want) e asking.current.from.host (λ g grants. none-some g grants);
-    reading_granted = λ xid who q block want f body row term e asking there c granted. serving-said xid who q f block body _ _ (Some want) e asking.current.from.host (λ g grants. and_from _ _ (number-same f.id f.id refl) refl);
+    reading =
+        λ xid who q block f body e asking there c. serving-said xid who q f block body _ None None e asking.current.from.host
+        (λ g grants. none-some g grants);
+    reading_full =
+        λ xid who q block want f body e asking there c own room. serving-said xid who q f block body _ None (Some want) e asking.current.from.host
+        (λ g grants. none-some g grants);
+    reading_granted =
+        λ xid who q block want f body row term e asking there c granted. serving-said xid who q f block body _ _ (Some want) e asking.current.from.host
+        (λ g grants. and_from _ _ (number-same f.id f.id refl) refl);
     leasing_full = λ xid who want f e asking c own room. leasing-said xid who f _ None want e asking.current.from.host;
     leasing = λ xid who want f row term e asking c granted. leasing-said xid who f _ _ want e asking.current.from.host;
     declining = λ xid who seq r v e by sq fresh declined. committed xid who seq r (decides s v) e by sq fresh.current.from.host (declines-said v);
-    putting_off_change = λ xid who seq r f clash e by sq changes base changing c. committed xid who seq r _ e by sq changing.fresh.current.from.host (puts-off-said who f.id _);
-    creating = λ xid who seq blocks name e fresh serves can. committed xid who seq _ (creates s name blocks) e refl refl fresh.current.from.host (creates-said name blocks);
-    writing_through = λ xid who seq block first last body f e changing below c. committed xid who seq _ _ e refl refl changing.fresh.current.from.host (through-said who f block first body);
-    storing = λ xid who seq block first last base body f row e changing below can. committed xid who seq _ _ e refl refl changing.fresh.current.from.host (stores-said who f row block first last body);
-    storing_recovering = λ xid who seq block first final base body f until heard last e fresh p found below boot rev. committed xid who seq _ _ e refl refl fresh.current.from.host (recovering-said until last who f block first final body);
+    putting_off_change =
+        λ xid who seq r f clash e by sq changes base changing c. committed xid who seq r _ e by sq changing.fresh.current.from.host
+        (puts-off-said who f.id _);
+    creating =
+        λ xid who seq blocks name e fresh serves can. committed xid who seq _ (creates s name blocks) e refl refl fresh.current.from.host
+        (creates-said name blocks);
+    writing_through =
+        λ xid who seq block first last body f e changing below c. committed xid who seq _ _ e refl refl changing.fresh.current.from.host
+        (through-said who f block first body);
+    storing =
+        λ xid who seq block first last base body f row e changing below can. committed xid who seq _ _ e refl refl changing.fresh.current.from.host
+        (stores-said who f row block first last body);
+    storing_recovering =
+        λ xid who seq block first final base body f until heard last e fresh p found below boot rev. committed xid who seq _ _ e refl refl
+        fresh.current.from.host (recovering-said until last who f block first final body);
     resizing = λ xid who seq q blocks f e changing can c. committed xid who seq _ _ e refl refl changing.fresh.current.from.host (resizes-said who q f blocks);
     removing = λ xid who seq q f e changing c. committed xid who seq _ _ e refl refl changing.fresh.current.from.host (removes-said who q f);
   })

@@ -26,7 +26,8 @@ pub data ClientActs (w : World) (host : ℕ) (c : Client) (t : ClientStep) : Typ
 
 -- how the server steps
 pub data ServerActs (w : World) (t : ServerStep) : Type 0 where
-  received : (k : ℕ) (p : Packet) → slice_get w.packets k ≡ Some p → p.to ≡ Party.Server → t ≡ receive w.server (sending_host p.sender) (length w.packets) (datagram_of p.message) → ServerActs w t
+  received : (k : ℕ) (p : Packet) → slice_get w.packets k ≡ Some p → p.to ≡ Party.Server
+      → t ≡ receive w.server (sending_host p.sender) (length w.packets) (datagram_of p.message) → ServerActs w t
   ticks : t ≡ tick w.server (w.server.now + 1) → ServerActs w t
   crashes : (longest : ℕ) → t ≡ crash w.server longest → ServerActs w t
 
@@ -36,15 +37,18 @@ pub data Changes (w v : World) : Type 0 where
   by_client : (host : ℕ) (c : Client) (t : ClientStep) → slice_get w.clients host ≡ Some c → ClientActs w host c t → v ≡ after_client w host t → Changes w v
   by_server : (t : ServerStep) → ServerActs w t → v ≡ after_server w t → Changes w v
 
-at-client-changes : (w : World) (host : ℕ) (f : Client → ClientStep) (o : Option Client) → slice_get w.clients host ≡ o → ((c : Client) → ClientActs w host c (f c)) → Changes w (at_client w host f o)
+at-client-changes : (w : World) (host : ℕ) (f : Client → ClientStep) (o : Option Client) → slice_get w.clients host ≡ o
+    → ((c : Client) → ClientActs w host c (f c)) → Changes w (at_client w host f o)
 at-client-changes w host f None is acts = nothing refl
 at-client-changes w host f (Some c) is acts = by_client host c (f c) is (acts c) refl
 
-hearing-changes : (w : World) (k host : ℕ) (p : Packet) (c : Client) (o : Option ClientStep) → slice_get w.packets k ≡ Some p → p.to ≡ Party.Client host → slice_get w.clients host ≡ Some c → hear c k p.message ≡ o → Changes w (after_hearing w host o)
+hearing-changes : (w : World) (k host : ℕ) (p : Packet) (c : Client) (o : Option ClientStep) → slice_get w.packets k ≡ Some p → p.to ≡ Party.Client host
+    → slice_get w.clients host ≡ Some c → hear c k p.message ≡ o → Changes w (after_hearing w host o)
 hearing-changes w k host p c None sent to is hears = nothing refl
 hearing-changes w k host p c (Some t) sent to is hears = by_client host c t is (heard k p sent to hears) refl
 
-to-client-changes : (w : World) (k host : ℕ) (p : Packet) (o : Option Client) → slice_get w.packets k ≡ Some p → p.to ≡ Party.Client host → slice_get w.clients host ≡ o → Changes w (deliver_to_client w k host p.message o)
+to-client-changes : (w : World) (k host : ℕ) (p : Packet) (o : Option Client) → slice_get w.packets k ≡ Some p → p.to ≡ Party.Client host
+    → slice_get w.clients host ≡ o → Changes w (deliver_to_client w k host p.message o)
 to-client-changes w k host p None sent to is = nothing refl
 to-client-changes w k host p (Some c) sent to is = hearing-changes w k host p c (hear c k p.message) sent to is refl
 
@@ -65,9 +69,12 @@ step-changes w (Event.Restart host) = at-client-changes w host restart (slice_ge
 step-changes w (Event.Crash longest) = by_server _ (crashes longest refl) refl
 
 -- a fact of each run
-pub run-goes : (most : ℕ) (head : Head) (G : List Event → Type 0) → (KeepsBounds most head [] → G []) → ((e : Event) (events : List Event) → During most head e events → Changes (run head events) (run head (e ∷ events)) → G events → G (e ∷ events)) → (events : List Event) → KeepsBounds most head events → IsWithinSkew head.hosts most events → G events
+pub run-goes : (most : ℕ) (head : Head) (G : List Event → Type 0) → (KeepsBounds most head [] → G [])
+    → ((e : Event) (events : List Event) → During most head e events → Changes (run head events) (run head (e ∷ events)) → G events → G (e ∷ events))
+    → (events : List Event) → KeepsBounds most head events → IsWithinSkew head.hosts most events → G events
 run-goes most head G starts goes [] bounds within = starts bounds
 run-goes most head G starts goes (e ∷ events) bounds within =
     let bounded : KeepsBounds most head events = bounds-before most head e events bounds in
     let skewed : IsWithinSkew head.hosts most events = within-before head.hosts most e events within in
-    goes e events (record { bounds = bounded; within = skewed; bounds_after = bounds; within_after = within }) (step-changes (run head events) e) (run-goes most head G starts goes events bounded skewed)
+    goes e events (record { bounds = bounded; within = skewed; bounds_after = bounds; within_after = within }) (step-changes (run head events) e)
+    (run-goes most head G starts goes events bounded skewed)

@@ -82,10 +82,35 @@ going-closed who ps Heard Given =
     record {
       uses = λ k file g. record { same = g.same; mail = m.uses k file g.mail; calls = g.calls };
       drops = λ k file g. record { same = g.same; mail = m.drops k file g.mail; calls = g.calls };
-      vacates = λ k file tag can g. record { same = g.same; mail = m.vacates k file tag can g.mail; calls = one-more k.sends (call k.xid (Request.Vacated k.who file tag)) (record { xid = k.xid; asks = Request.Vacated k.who file tag; who = k.who; is = refl; by = refl }) g.calls };
-      asks = λ k job request no_seq can g. record { same = g.same; mail = m.asks k job request no_seq can g.mail; calls = one-more k.sends (call k.xid request) (record { xid = k.xid; asks = request; who = k.who; is = refl; by = can.asks }) g.calls };
-      decides = λ k job request seq can g. record { same = g.same; mail = m.decides k job request seq can g.mail; calls = one-more k.sends (call k.xid request) (record { xid = k.xid; asks = request; who = k.who; is = refl; by = can.asks }) g.calls };
-      again = λ k t is g. record { same = g.same; mail = m.again k t is g.mail; calls = one-more k.sends (call t.xid t.request) (record { xid = t.xid; asks = t.request; who = k.who; is = refl; by = (g.mail.own t is).asks }) g.calls };
+      vacates =
+          λ k file tag can g. record {
+            same = g.same;
+            mail = m.vacates k file tag can g.mail;
+            calls = one-more k.sends
+                (call k.xid (Request.Vacated k.who file tag))
+                (record { xid = k.xid; asks = Request.Vacated k.who file tag; who = k.who; is = refl; by = refl }) g.calls;
+          };
+      asks =
+          λ k job request no_seq can g. record {
+            same = g.same;
+            mail = m.asks k job request no_seq can g.mail;
+            calls = one-more k.sends (call k.xid request)
+                (record { xid = k.xid; asks = request; who = k.who; is = refl; by = can.asks }) g.calls;
+          };
+      decides =
+          λ k job request seq can g. record {
+            same = g.same;
+            mail = m.decides k job request seq can g.mail;
+            calls = one-more k.sends (call k.xid request)
+                (record { xid = k.xid; asks = request; who = k.who; is = refl; by = can.asks }) g.calls;
+          };
+      again =
+          λ k t is g. record {
+            same = g.same;
+            mail = m.again k t is g.mail;
+            calls = one-more k.sends (call t.xid t.request)
+                (record { xid = t.xid; asks = t.request; who = k.who; is = refl; by = (g.mail.own t is).asks }) g.calls;
+          };
       holds = λ k file gr sent given free unnoticed g. record { same = g.same; mail = m.holds k file gr sent given free unnoticed g.mail; calls = g.calls };
       cancels = λ k file g. record { same = g.same; mail = m.cancels k file g.mail; calls = g.calls };
       notes = λ k file tag heard g. record { same = g.same; mail = m.notes k file tag heard g.mail; calls = g.calls };
@@ -138,11 +163,13 @@ client-holds w host t m h = record {
   clients = λ other c e. case other c (other == host) refl e;
   sent = λ p i. from p (in-append w.packets (map (from_host host) t.sends) p i);
 } where
-  case : (other : ℕ) (c : Client) (b : Bool) → (other == host) ≡ b → slice_get (slice_set w.clients host t.client) other ≡ Some c → IsAt other c (packets_with w.packets host t.sends)
+  case : (other : ℕ) (c : Client) (b : Bool) → (other == host) ≡ b → slice_get (slice_set w.clients host t.client) other ≡ Some c
+      → IsAt other c (packets_with w.packets host t.sends)
   case other c true same e =
       let one : other ≡ host = same-number other host same in
       let is : c ≡ t.client = get-set-same w.clients host t.client c (subst (λ n. slice_get (slice_set w.clients host t.client) n ≡ Some c) one e) in
-      subst (λ n. IsAt n c (packets_with w.packets host t.sends)) (sym one) (subst (λ z. IsAt host z (packets_with w.packets host t.sends)) (sym is) (record { here = m.here; alone = m.alone; mail = m.mail }))
+      subst (λ n. IsAt n c (packets_with w.packets host t.sends)) (sym one)
+      (subst (λ z. IsAt host z (packets_with w.packets host t.sends)) (sym is) (record { here = m.here; alone = m.alone; mail = m.mail }))
   case other c false differs e =
       let apart : other ≢ host = λ same. let is : (other == host) ≡ true = number-same other host same in absurd (cc) in
       let a = h.clients other c (sym (get-set-other w.clients host other t.client apart) ∙ e) in
@@ -162,14 +189,17 @@ abbrev nothing-given : ℕ → Grant → ℕ → Type 0
 nothing-given file g sent = ⊥
 
 called : (host : ℕ) (c : Client) (ps : List Packet) (op : Call) → IsAt host c ps → Moved host ps (client_call c op)
-called host c ps op a = moved host c.who ps (client_call c op) a.here (call-keeps (going-closed c.who ps nothing-heard nothing-given) c op a.alone (begun-going host c ps a))
+called host c ps op a =
+    moved host c.who ps (client_call c op) a.here (call-keeps (going-closed c.who ps nothing-heard nothing-given) c op a.alone (begun-going host c ps a))
 
 pub timed-going : (host : ℕ) (c : Client) (ps : List Packet) (now : ℕ) → IsAt host c ps → Going c.who ps (core_of (begun (at_time c now)))
 unfolding at_time
 timed-going host c ps now a = record { same = refl; mail = subst (λ qs. Mail c.who c.xid c.ticket qs) (sym (append-nil ps)) a.mail; calls = λ m i. absurd i }
 
 ticked : (host : ℕ) (c : Client) (ps : List Packet) → IsAt host c ps → Moved host ps (client_tick c (c.now + 1))
-ticked host c ps a = moved host c.who ps (client_tick c (c.now + 1)) a.here (tick-keeps (going-closed c.who ps nothing-heard nothing-given) c (c.now + 1) (omega arith) a.alone (timed-going host c ps (c.now + 1) a))
+ticked host c ps a =
+    moved host c.who ps (client_tick c (c.now + 1)) a.here
+    (tick-keeps (going-closed c.who ps nothing-heard nothing-given) c (c.now + 1) (omega arith) a.alone (timed-going host c ps (c.now + 1) a))
 
 -- a restart: the next incarnation is new to all mail
 restarted : (host : ℕ) (c : Client) (ps : List Packet) → IsAt host c ps → Moved host ps (restart c)
@@ -192,7 +222,8 @@ restarted host c ps a = record {
   mine : Packet
   mine = from_host c.who.host (call 1 (Request.Attach who))
 
-  asked : (x : ℕ) (r : Request) (w : Who) → asker r ≡ Some w → In ps (from_host c.who.host (call x r)) ⊎ (mine ≡ from_host c.who.host (call x r)) → IsAsked who 2 (Some ticket) x r w
+  asked : (x : ℕ) (r : Request) (w : Who) → asker r ≡ Some w → In ps (from_host c.who.host (call x r)) ⊎ (mine ≡ from_host c.who.host (call x r))
+      → IsAsked who 2 (Some ticket) x r w
   asked x r w by (inl old) = let k = a.mail.asked x r w old by in record {
     host = k.host;
     inc = let below = k.inc in omega arith;
@@ -218,7 +249,9 @@ restarted host c ps a = record {
     asked = λ x r w sent by. asked x r w by (in-last ps mine (from_host c.who.host (call x r)) sent);
     replied = λ x b sent i. let below = told x b (in-last ps mine (to_host c.who.host (reply x b)) sent) in absurd (omega arith);
     past = λ x b sent. let below = told x b (in-last ps mine (to_host c.who.host (reply x b)) sent) in omega arith;
-    own = λ t e. subst (λ z. IsOwn who 2 (ps ++ mine ∷ []) z) (some-same ticket t e) (record { number = omega arith; asks = refl; sent = in-right ps (mine ∷ []) mine (inl refl) });
+    own =
+        λ t e. subst (λ z. IsOwn who 2 (ps ++ mine ∷ []) z) (some-same ticket t e)
+        (record { number = omega arith; asks = refl; sent = in-right ps (mine ∷ []) mine (inl refl) });
   }
 
   case : (m : Message) → (call 1 (Request.Attach who) ≡ m) ⊎ ⊥ → IsCall m
@@ -237,11 +270,14 @@ abbrev MovedIf : (host : ℕ) → List Packet → Option ClientStep → Type 0
 MovedIf host ps None = Unit {0}
 MovedIf host ps (Some t) = Moved host ps t
 
-heard-reply : (host : ℕ) (c : Client) (ps : List Packet) (number xid : ℕ) (r : Reply) (o : Option Ticket) → c.ticket ≡ o → IsAt host c ps → Told ps host (reply xid r) → MovedIf host ps (hear_reply c number xid r o)
+heard-reply : (host : ℕ) (c : Client) (ps : List Packet) (number xid : ℕ) (r : Reply) (o : Option Ticket) → c.ticket ≡ o → IsAt host c ps
+    → Told ps host (reply xid r) → MovedIf host ps (hear_reply c number xid r o)
 heard-reply host c ps number xid r None is a sent = tt
 heard-reply host c ps number xid r (Some ticket) is a sent =
     choice (MovedIf host ps) (is_reply_to c xid r ticket) (Some (goes_on (replied (begun c) number ticket r))) None
-    (λ e. let k = and_parts _ _ e in let l = and_parts _ _ k.0 in moved host c.who ps (goes_on (replied (begun c) number ticket r)) a.here (reply-keeps (going-closed c.who ps nothing-heard (given-by ticket)) c number ticket r (replying k.1 (same-number _ _ l.0) (same-number _ _ l.1))))
+    (λ e. let k = and_parts _ _ e in let l = and_parts _ _ k.0 in
+    moved host c.who ps (goes_on (replied (begun c) number ticket r)) a.here
+    (reply-keeps (going-closed c.who ps nothing-heard (given-by ticket)) c number ticket r (replying k.1 (same-number _ _ l.0) (same-number _ _ l.1))))
     (λ e. tt)
   where
     before : Going c.who ps (core_of (begun c))
@@ -257,14 +293,21 @@ heard-reply host c ps number xid r (Some ticket) is a sent =
       alone = a.alone;
       spent = λ other. record { same = refl; mail = spent; calls = before.calls };
       attached = λ job. record { same = refl; mail = spent; calls = before.calls };
-      brings = λ file on g grants. (on, (a.mail.replied xid r (subst (λ h. Told ps h (reply xid r)) (sym a.here) sent) inc).wants ticket is (sym same) g grants file on);
+      brings =
+          λ file on g grants. (
+            on,
+            (a.mail.replied xid r (subst (λ h. Told ps h (reply xid r)) (sym a.here) sent) inc).wants ticket is (sym same) g
+                grants file on,
+          );
       only = λ file g at given. given;
     }
 
 heard-notice : (host : ℕ) (c : Client) (ps : List Packet) (who : Who) (file : ℕ) (tag : Tag) → IsAt host c ps → MovedIf host ps (hear_notice c who file tag)
 heard-notice host c ps who file tag a =
-    choice (MovedIf host ps) (same_who who c.who && not (holds_later tag (lease_on file c.leases))) (Some (goes_on (evicted (cancels (begun c) file) file tag))) None
-    (λ e. moved host c.who ps (goes_on (evicted (cancels (begun c) file) file tag)) a.here (notice-keeps (going-closed c.who ps something-heard nothing-given) c file tag tt (λ g sent bad. bad) a.alone (begun-going host c ps a)))
+    choice (MovedIf host ps) (same_who who c.who && not (holds_later tag (lease_on file c.leases)))
+    (Some (goes_on (evicted (cancels (begun c) file) file tag))) None
+    (λ e. moved host c.who ps (goes_on (evicted (cancels (begun c) file) file tag)) a.here
+    (notice-keeps (going-closed c.who ps something-heard nothing-given) c file tag tt (λ g sent bad. bad) a.alone (begun-going host c ps a)))
     (λ e. tt)
 
 heard-call : (host : ℕ) (c : Client) (ps : List Packet) (r : Request) → IsAt host c ps → MovedIf host ps (hear_call c r)
@@ -280,7 +323,8 @@ hearing-holds : (w : World) (host : ℕ) (o : Option ClientStep) → MovedIf hos
 hearing-holds w host None m h = h
 hearing-holds w host (Some t) m h = client-holds w host t m h
 
-to-client-holds : (w : World) (k host : ℕ) (m : Message) (o : Option Client) → slice_get w.clients host ≡ o → Told w.packets host m → Holds w → Holds (deliver_to_client w k host m o)
+to-client-holds : (w : World) (k host : ℕ) (m : Message) (o : Option Client) → slice_get w.clients host ≡ o → Told w.packets host m → Holds w
+    → Holds (deliver_to_client w k host m o)
 to-client-holds w k host m None is sent h = h
 to-client-holds w k host m (Some c) is sent h = hearing-holds w host (hear c k m) (heard host c w.packets k m (h.clients host c is) sent) h
 
@@ -302,7 +346,8 @@ server-holds w t said h = record {
   from p (inr new) = is-sent p (said p new)
 
 -- a packet to the server is a call of the host that sent it
-pub to-server : (ps : List Packet) (p : Packet) → IsSent p → p.to ≡ Party.Server → In ps p → (xid : ℕ) (r : Request) → datagram_of p.message ≡ request xid r → Asked ps (sending_host p.sender) xid r × (is_some (asker r) ≡ true)
+pub to-server : (ps : List Packet) (p : Packet) → IsSent p → p.to ≡ Party.Server → In ps p → (xid : ℕ) (r : Request)
+    → datagram_of p.message ≡ request xid r → Asked ps (sending_host p.sender) xid r × (is_some (asker r) ≡ true)
 to-server ps p (by_host host x s w e by) to i xid r d =
     let m : call x s ≡ call xid r = ap (λ q. q.message) (sym e) ∙ request-sent p.message xid r d in
     let c = call-same x xid s r m in
@@ -310,7 +355,8 @@ to-server ps p (by_host host x s w e by) to i xid r d =
     (subst (λ z. In ps z) (e ∙ ap (from_host host) m ∙ ap (λ h. from_host h (call xid r)) (sym at)) i, ap is_some (ap asker (sym c.1) ∙ by))
 to-server ps p (by_server host m e) to i xid r d = let other : Party.Client host ≡ Party.Server = ap (λ q. q.to) (sym e) ∙ to in absurd (cc)
 
-pub received-said : (w : World) (p : Packet) → In w.packets p → p.to ≡ Party.Server → Holds w → AllSaid w.packets (receive w.server (sending_host p.sender) (length w.packets) (datagram_of p.message)).sends
+pub received-said : (w : World) (p : Packet) → In w.packets p → p.to ≡ Party.Server → Holds w
+    → AllSaid w.packets (receive w.server (sending_host p.sender) (length w.packets) (datagram_of p.message)).sends
 received-said w p i to h =
     all-said w.packets w.server (sending_host p.sender) (length w.packets) (datagram_of p.message)
     (λ xid r d. (to-server w.packets p (h.sent p i) to i xid r d).0)
@@ -327,14 +373,17 @@ to-told ps p host (by_server h m e) to i =
     client-same a b f = cc
 
 delivered-holds : (w : World) (k : ℕ) (p : Packet) (to : Party) → p.to ≡ to → In w.packets p → Holds w → Holds (deliver_to w k p to)
-delivered-holds w k p Party.Server to i h = server-holds w (receive w.server (sending_host p.sender) (length w.packets) (datagram_of p.message)) (received-said w p i to h) h
-delivered-holds w k p (Party.Client host) to i h = to-client-holds w k host p.message (slice_get w.clients host) refl (to-told w.packets p host (h.sent p i) to i) h
+delivered-holds w k p Party.Server to i h =
+    server-holds w (receive w.server (sending_host p.sender) (length w.packets) (datagram_of p.message)) (received-said w p i to h) h
+delivered-holds w k p (Party.Client host) to i h =
+    to-client-holds w k host p.message (slice_get w.clients host) refl (to-told w.packets p host (h.sent p i) to i) h
 
 deliver-holds : (w : World) (k : ℕ) (o : Option Packet) → slice_get w.packets k ≡ o → Holds w → Holds (deliver w k o)
 deliver-holds w k None is h = h
 deliver-holds w k (Some p) is h = delivered-holds w k p p.to refl (in-get w.packets k p is) h
 
-at-client-holds : (w : World) (host : ℕ) (f : Client → ClientStep) (o : Option Client) → slice_get w.clients host ≡ o → ((c : Client) → IsAt host c w.packets → Moved host w.packets (f c)) → Holds w → Holds (at_client w host f o)
+at-client-holds : (w : World) (host : ℕ) (f : Client → ClientStep) (o : Option Client) → slice_get w.clients host ≡ o
+    → ((c : Client) → IsAt host c w.packets → Moved host w.packets (f c)) → Holds w → Holds (at_client w host f o)
 at-client-holds w host f None is goes h = h
 at-client-holds w host f (Some c) is goes h = client-holds w host (f c) (goes c (h.clients host c is)) h
 
@@ -367,16 +416,19 @@ pub step-holds : (w : World) (e : Event) → Holds w → Holds (step w e)
 step-holds w (Event.Call host op) h = at-client-holds w host (λ c. client_call c op) (slice_get w.clients host) refl (λ c a. called host c w.packets op a) h
 step-holds w (Event.Deliver k) h = deliver-holds w k (slice_get w.packets k) refl h
 step-holds w Event.ServerTick h = server-holds w (tick w.server (w.server.now + 1)) (tick-said w.packets w.server (w.server.now + 1)) h
-step-holds w (Event.ClientTick host) h = at-client-holds w host (λ c. client_tick c (c.now + 1)) (slice_get w.clients host) refl (λ c a. ticked host c w.packets a) h
+step-holds w (Event.ClientTick host) h =
+    at-client-holds w host (λ c. client_tick c (c.now + 1)) (slice_get w.clients host) refl (λ c a. ticked host c w.packets a) h
 step-holds w (Event.Restart host) h = at-client-holds w host restart (slice_get w.clients host) refl (λ c a. restarted host c w.packets a) h
 step-holds w (Event.Crash longest) h = server-holds w (crash w.server longest) (crash-said w.packets w.server longest) h
 
 -- ---- the start
 
-pub first-client : (term first count host : ℕ) (c : Client) → slice_get (first_clients term first count) host ≡ Some c → c ≡ attached_client (record { host = first + host; inc = 1 }) term 0
+pub first-client : (term first count host : ℕ) (c : Client) → slice_get (first_clients term first count) host ≡ Some c
+    → c ≡ attached_client (record { host = first + host; inc = 1 }) term 0
 first-client term first zero host c e = none-some c e
 first-client term first (suc count) zero c e = some-same c _ (sym e) ∙ ap (λ n. attached_client (record { host = n; inc = 1 }) term 0) (omega arith)
-first-client term first (suc count) (suc host) c e = first-client term (first + 1) count host c e ∙ ap (λ n. attached_client (record { host = n; inc = 1 }) term 0) (omega arith)
+first-client term first (suc count) (suc host) c e =
+    first-client term (first + 1) count host c e ∙ ap (λ n. attached_client (record { host = n; inc = 1 }) term 0) (omega arith)
 
 starts-at : (host term : ℕ) → IsAt host (attached_client (record { host = host; inc = 1 }) term 0) []
 unfolding attached_client fresh_client
@@ -392,7 +444,10 @@ starts-at host term = record {
 start-holds : (head : Head) → Holds (start head)
 unfolding start
 start-holds head = record {
-  clients = λ host c e. subst (λ z. IsAt host z []) (sym (first-client head.term 0 head.hosts host c e ∙ ap (λ n. attached_client (record { host = n; inc = 1 }) head.term 0) (omega arith))) (starts-at host head.term);
+  clients =
+      λ host c e. subst (λ z. IsAt host z [])
+      (sym (first-client head.term 0 head.hosts host c e ∙ ap (λ n. attached_client (record { host = n; inc = 1 }) head.term 0) (omega arith)))
+      (starts-at host head.term);
   sent = λ p i. absurd i;
 }
 

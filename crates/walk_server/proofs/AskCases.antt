@@ -42,27 +42,36 @@ told_later table clash = record { table = table; asked = Asked.TryLater (record 
 -- why a row is granted for a term: the asker's own non-caching row goes on, or he has none and shares the file, or he
 -- has none and gets a caching one, or his own caching row is renewed
 pub data IsGranted (table : Table) (q : Question) (want : Want) (row : Row) (term : ℕ) : Type 0 where
-  shares_again : (own : Row) → own_in table q ≡ Some own → own.evicting ≡ false → caches own.mode ≡ false → row ≡ shared_again table own → term ≡ own.until - q.time → IsGranted table q want row term
-  begins_sharing : own_in table q ≡ None → has_room table ≡ true → is_shared table q ≡ true → row ≡ sharing_row table q (term_of q want) → term ≡ term_of q want → IsGranted table q want row term
-  begins_caching : own_in table q ≡ None → has_room table ≡ true → is_shared table q ≡ false → row ≡ caching_row table q want.mode (term_of q want) → term ≡ term_of q want → IsGranted table q want row term
-  renews_row : (own : Row) → own_in table q ≡ Some own → own.evicting ≡ false → caches own.mode ≡ true → row ≡ renewed_row table q own want.mode (term_of q want) → term ≡ term_of q want → IsGranted table q want row term
+  shares_again : (own : Row) → own_in table q ≡ Some own → own.evicting ≡ false → caches own.mode ≡ false → row ≡ shared_again table own
+      → term ≡ own.until - q.time → IsGranted table q want row term
+  begins_sharing : own_in table q ≡ None → has_room table ≡ true → is_shared table q ≡ true → row ≡ sharing_row table q (term_of q want)
+      → term ≡ term_of q want → IsGranted table q want row term
+  begins_caching : own_in table q ≡ None → has_room table ≡ true → is_shared table q ≡ false → row ≡ caching_row table q want.mode (term_of q want)
+      → term ≡ term_of q want → IsGranted table q want row term
+  renews_row : (own : Row) → own_in table q ≡ Some own → own.evicting ≡ false → caches own.mode ≡ true
+      → row ≡ renewed_row table q own want.mode (term_of q want) → term ≡ term_of q want → IsGranted table q want row term
 
 -- the outcomes
 pub record AskCases (table : Table) (q : Question) (R : Reply → Type 0) : Type 0 where
   -- another's row conflicts, and no row is put for the asker
   pub later : (clash : Row) → clash_in table q ≡ Some clash → R (told_later (with_marked table q) clash)
   -- another's row conflicts, and the asker gets a row that waits
-  pub later_waiting : (clash : Row) (want : Want) → clash_in table q ≡ Some clash → q.want ≡ Some want → own_in table q ≡ None → has_room (with_marked table q) ≡ true → R (told_later (with_waiter table q want) clash)
+  pub later_waiting : (clash : Row) (want : Want) → clash_in table q ≡ Some clash → q.want ≡ Some want → own_in table q ≡ None
+      → has_room (with_marked table q) ≡ true → R (told_later (with_waiter table q want) clash)
   -- no lease is wanted
   pub freely : clash_in table q ≡ None → q.want ≡ None → R (free table)
   -- the asker's own row is to be given up first
-  pub later_by_own : (want : Want) (own : Row) → clash_in table q ≡ None → q.want ≡ Some want → own_in table q ≡ Some own → own.evicting ≡ true → R (put_off_by_own table own)
+  pub later_by_own : (want : Want) (own : Row) → clash_in table q ≡ None → q.want ≡ Some want → own_in table q ≡ Some own → own.evicting ≡ true
+      → R (put_off_by_own table own)
   -- a row is granted
-  pub granting : (want : Want) (row : Row) (term : ℕ) → clash_in table q ≡ None → q.want ≡ Some want → IsGranted table q want row term → R (granted table q row term)
+  pub granting : (want : Want) (row : Row) (term : ℕ) → clash_in table q ≡ None → q.want ≡ Some want → IsGranted table q want row term
+      → R (granted table q row term)
   -- there is no room for a row
   pub full : (want : Want) → clash_in table q ≡ None → q.want ≡ Some want → own_in table q ≡ None → has_room table ≡ false → R (no_lease table)
 
-past-clash : (table : Table) (q : Question) (R : Reply → Type 0) → AskCases table q R → (clash : Row) → clash_in table q ≡ Some clash → (want : Option Want) → q.want ≡ want → (own : Option Row) → own_in table q ≡ own → R (told_later (with_waiting (with_marked table q) q want own) clash)
+past-clash : (table : Table) (q : Question) (R : Reply → Type 0) → AskCases table q R → (clash : Row) → clash_in table q ≡ Some clash
+    → (want : Option Want) → q.want ≡ want → (own : Option Row) → own_in table q ≡ own
+    → R (told_later (with_waiting (with_marked table q) q want own) clash)
 past-clash table q R cases clash e None f own g = cases.later clash e
 past-clash table q R cases clash e (Some want) f (Some own) g = cases.later clash e
 past-clash table q R cases clash e (Some want) f None g =
@@ -74,7 +83,8 @@ past-clash table q R cases clash e (Some want) f None g =
     (λ room. cases.later_waiting clash want e f g room)
     (λ room. cases.later clash e)
 
-begins : (table : Table) (q : Question) (R : Reply → Type 0) → AskCases table q R → clash_in table q ≡ None → (want : Want) → q.want ≡ Some want → own_in table q ≡ None → R (begin table q want)
+begins : (table : Table) (q : Question) (R : Reply → Type 0) → AskCases table q R → clash_in table q ≡ None → (want : Want) → q.want ≡ Some want
+    → own_in table q ≡ None → R (begin table q want)
 begins table q R cases e want f g =
     choice
     R
@@ -93,7 +103,8 @@ begins table q R cases e want f g =
     (λ alone. cases.granting want (caching_row table q want.mode (term_of q want)) (term_of q want) e f (begins_caching g room alone refl refl)))
     (λ room. cases.full want e f g room)
 
-goes-on : (table : Table) (q : Question) (R : Reply → Type 0) → AskCases table q R → clash_in table q ≡ None → (want : Want) → q.want ≡ Some want → (own : Row) → own_in table q ≡ Some own → R (ask_for table q want (Some own))
+goes-on : (table : Table) (q : Question) (R : Reply → Type 0) → AskCases table q R → clash_in table q ≡ None → (want : Want) → q.want ≡ Some want
+    → (own : Row) → own_in table q ≡ Some own → R (ask_for table q want (Some own))
 goes-on table q R cases e want f own g =
     choice
     R
@@ -110,12 +121,14 @@ goes-on table q R cases e want f own g =
     (λ caching. cases.granting want (renewed_row table q own want.mode (term_of q want)) (term_of q want) e f (renews_row own g stays caching refl refl))
     (λ sharing. cases.granting want (shared_again table own) (own.until - q.time) e f (shares_again own g stays sharing refl refl)))
 
-past-none : (table : Table) (q : Question) (R : Reply → Type 0) → AskCases table q R → clash_in table q ≡ None → (want : Option Want) → q.want ≡ want → (own : Option Row) → own_in table q ≡ own → R (ask_freely table q want own)
+past-none : (table : Table) (q : Question) (R : Reply → Type 0) → AskCases table q R → clash_in table q ≡ None → (want : Option Want) → q.want ≡ want
+    → (own : Option Row) → own_in table q ≡ own → R (ask_freely table q want own)
 past-none table q R cases e None f own g = cases.freely e f
 past-none table q R cases e (Some want) f None g = begins table q R cases e want f g
 past-none table q R cases e (Some want) f (Some own) g = goes-on table q R cases e want f own g
 
-asks-past : (table : Table) (q : Question) (R : Reply → Type 0) → AskCases table q R → (clash : Option Row) → clash_in table q ≡ clash → R (ask_past table q clash (own_in table q))
+asks-past : (table : Table) (q : Question) (R : Reply → Type 0) → AskCases table q R → (clash : Option Row) → clash_in table q ≡ clash
+    → R (ask_past table q clash (own_in table q))
 unfolding put_off
 asks-past table q R cases (Some clash) e = past-clash table q R cases clash e q.want refl (own_in table q) refl
 asks-past table q R cases None e = past-none table q R cases e q.want refl (own_in table q) refl

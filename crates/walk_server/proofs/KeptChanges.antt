@@ -36,7 +36,8 @@ unfolding with_row
 no-line kept host k line past = ap (λ hosts. unwrap_or (slice_get hosts k) fresh_row) (set_past kept.hosts host line past)
 
 -- how a change of one line shows in what is kept of a host
-pub line-as : (kept : Kept) (host k : ℕ) (line : HostRow) (P : HostRow → Type 0) → P (host_row kept k) → (k ≡ host → P line) → P (host_row (with_row kept host line) k)
+pub line-as : (kept : Kept) (host k : ℕ) (line : HostRow) (P : HostRow → Type 0) → P (host_row kept k) → (k ≡ host → P line)
+    → P (host_row (with_row kept host line) k)
 line-as kept host k line P was own = by (cases_eq k host) (within-or-past kept.hosts)
   where
     within-or-past : (hosts : List HostRow) → (host < length hosts) ⊎ (length hosts ≤ host)
@@ -48,12 +49,15 @@ line-as kept host k line P was own = by (cases_eq k host) (within-or-past kept.h
     by (inr d) place = subst P (sym (other-line kept host k line d)) was
 
 -- a line of the same incarnation leaves all incarnations
-pub same-incs : (kept : Kept) (host : ℕ) (line : HostRow) (k : ℕ) → line.inc ≡ (host_row kept host).inc → (host_row (with_row kept host line) k).inc ≡ (host_row kept k).inc
+pub same-incs : (kept : Kept) (host : ℕ) (line : HostRow) (k : ℕ) → line.inc ≡ (host_row kept host).inc
+    → (host_row (with_row kept host line) k).inc ≡ (host_row kept k).inc
 same-incs kept host line k same = line-as kept host k line (λ l. l.inc ≡ (host_row kept k).inc) refl (λ e. same ∙ ap (λ i. (host_row kept i).inc) (sym e))
 
 -- a line of a later incarnation lets no incarnation fall
-pub later-incs : (kept : Kept) (host : ℕ) (line : HostRow) (k : ℕ) → (host_row kept host).inc ≤ line.inc → (host_row kept k).inc ≤ (host_row (with_row kept host line) k).inc
-later-incs kept host line k later = line-as kept host k line (λ l. (host_row kept k).inc ≤ l.inc) (omega arith) (λ e. subst (λ i. (host_row kept i).inc ≤ line.inc) (sym e) later)
+pub later-incs : (kept : Kept) (host : ℕ) (line : HostRow) (k : ℕ) → (host_row kept host).inc ≤ line.inc
+    → (host_row kept k).inc ≤ (host_row (with_row kept host line) k).inc
+later-incs kept host line k later =
+    line-as kept host k line (λ l. (host_row kept k).inc ≤ l.inc) (omega arith) (λ e. subst (λ i. (host_row kept i).inc ≤ line.inc) (sym e) later)
 
 pub length-with-row : (kept : Kept) (host : ℕ) (line : HostRow) → length (with_row kept host line).hosts ≡ length kept.hosts
 unfolding with_row
@@ -66,18 +70,22 @@ swap-id file f id = by (f.id == file.id) refl
     by true e = ap (λ i. i == id) (sym (same-number _ _ e))
     by false e = refl
 
-pub find-replaced : (id : ℕ) (file : File) (files : List File) → find_file id (replace_file file files) ≡ option_map (λ f. if f.id == file.id then file else f) (find_file id files)
+pub find-replaced : (id : ℕ) (file : File) (files : List File)
+    → find_file id (replace_file file files) ≡ option_map (λ f. if f.id == file.id then file else f) (find_file id files)
 find-replaced id file files = find-map (λ f. f.id == id) (λ f. if f.id == file.id then file else f) files (λ f. swap-id file f id)
 
 -- what is found after a file was replaced: it, in place of the one of its id, or what was found before
-pub found-replaced : (id : ℕ) (file f : File) (files : List File) → find_file id (replace_file file files) ≡ Some f → ((id ≡ file.id) × (f ≡ file)) ⊎ ((id ≢ file.id) × (find_file id files ≡ Some f))
+pub found-replaced : (id : ℕ) (file f : File) (files : List File) → find_file id (replace_file file files) ≡ Some f
+    → ((id ≡ file.id) × (f ≡ file)) ⊎ ((id ≢ file.id) × (find_file id files ≡ Some f))
 found-replaced id file f files h = by (find_file id files) refl (sym (find-replaced id file files) ∙ h)
   where
-    replaced : (g : File) → find_file id files ≡ Some g → (b : Bool) → (g.id == file.id) ≡ b → (if b then file else g) ≡ f → ((id ≡ file.id) × (f ≡ file)) ⊎ ((id ≢ file.id) × (find_file id files ≡ Some f))
+    replaced : (g : File) → find_file id files ≡ Some g → (b : Bool) → (g.id == file.id) ≡ b → (if b then file else g) ≡ f
+        → ((id ≡ file.id) × (f ≡ file)) ⊎ ((id ≢ file.id) × (find_file id files ≡ Some f))
     replaced g e true k m = inl (sym (same-number _ _ (find-passes (λ x. x.id == id) g files e)) ∙ same-number _ _ k, sym m)
     replaced g e false k m = inr ((λ same. is-other _ _ k (same-number _ _ (find-passes (λ x. x.id == id) g files e) ∙ same)), e ∙ ap Some m)
 
-    by : (o : Option File) → find_file id files ≡ o → option_map (λ g. if g.id == file.id then file else g) o ≡ Some f → ((id ≡ file.id) × (f ≡ file)) ⊎ ((id ≢ file.id) × (find_file id files ≡ Some f))
+    by : (o : Option File) → find_file id files ≡ o → option_map (λ g. if g.id == file.id then file else g) o ≡ Some f
+        → ((id ≡ file.id) × (f ≡ file)) ⊎ ((id ≢ file.id) × (find_file id files ≡ Some f))
     by None e m = absurd (cc)
     by (Some g) e m = let same : (if g.id == file.id then file else g) ≡ f = cc in replaced g e (g.id == file.id) refl same
 
@@ -125,14 +133,16 @@ find-added id file f files e = find-append (λ x. x.id == id) files (file ∷ []
 pub find-new-added : (file : File) (files : List File) → find_file file.id files ≡ None → find_file file.id (files ++ file ∷ []) ≡ Some file
 find-new-added file files e = find-append (λ x. x.id == file.id) files (file ∷ []) ∙ rw (e, number-same file.id file.id refl) refl
 
-pub found-added : (id : ℕ) (file f : File) (files : List File) → find_file id (files ++ file ∷ []) ≡ Some f → (find_file id files ≡ Some f) ⊎ ((id ≡ file.id) × (f ≡ file))
+pub found-added : (id : ℕ) (file f : File) (files : List File) → find_file id (files ++ file ∷ []) ≡ Some f
+    → (find_file id files ≡ Some f) ⊎ ((id ≡ file.id) × (f ≡ file))
 found-added id file f files h = by (find_file id files) refl (sym (find-append (λ x. x.id == id) files (file ∷ [])) ∙ h)
   where
     new : (b : Bool) → (file.id == id) ≡ b → (if b then Some file else None) ≡ Some f → (find_file id files ≡ Some f) ⊎ ((id ≡ file.id) × (f ≡ file))
     new true e m = inr (sym (same-number _ _ e), cc)
     new false e m = absurd (cc)
 
-    by : (o : Option File) → find_file id files ≡ o → option_or o (find_file id (file ∷ [])) ≡ Some f → (find_file id files ≡ Some f) ⊎ ((id ≡ file.id) × (f ≡ file))
+    by : (o : Option File) → find_file id files ≡ o → option_or o (find_file id (file ∷ [])) ≡ Some f
+        → (find_file id files ≡ Some f) ⊎ ((id ≡ file.id) × (f ≡ file))
     by None e m = new (file.id == id) refl m
     by (Some g) e m = inl (e ∙ m)
 

@@ -15,11 +15,16 @@ abbrev pub same_key : (file host f h : ℕ) → Bool
 same_key file host f h = file == f && host == h
 
 -- rows after one was put in its place: it is found under its key, and the others are found as before
-pub insert-step : (file host : ℕ) (row r : Row) (rows : List Row) (b : Bool) → find_row file host (insert_row row rows) ≡ (if is_row_of file host row then Some row else find_row file host rows) → (is_row_of file host row ≡ true → is_row_of file host r ≡ false) → find_row file host (if b then row ∷ r ∷ rows else r ∷ insert_row row rows) ≡ (if is_row_of file host row then Some row else find_row file host (r ∷ rows))
+pub insert-step : (file host : ℕ) (row r : Row) (rows : List Row) (b : Bool)
+    → find_row file host (insert_row row rows) ≡ (if is_row_of file host row then Some row else find_row file host rows)
+    → (is_row_of file host row ≡ true → is_row_of file host r ≡ false)
+    → find_row file host (if b then row ∷ r ∷ rows else r ∷ insert_row row rows) ≡
+    (if is_row_of file host row then Some row else find_row file host (r ∷ rows))
 insert-step file host row r rows true rest other = refl
 insert-step file host row r rows false rest other = later (is_row_of file host row) (is_row_of file host r) refl refl
   where
-    later : (b c : Bool) → is_row_of file host row ≡ b → is_row_of file host r ≡ c → find_row file host (r ∷ insert_row row rows) ≡ (if is_row_of file host row then Some row else find_row file host (r ∷ rows))
+    later : (b c : Bool) → is_row_of file host row ≡ b → is_row_of file host r ≡ c
+        → find_row file host (r ∷ insert_row row rows) ≡ (if is_row_of file host row then Some row else find_row file host (r ∷ rows))
     later true true e f = let bad : is_row_of file host r ≡ false = other e in cc
     later true false e f = rw (f, rest, e) refl
     later false true e f = rw (f, e) refl

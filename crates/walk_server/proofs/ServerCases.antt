@@ -37,7 +37,8 @@ is-attach-of : (r : Request) (who : Who) → is_attach r ≡ true → asker r �
 is-attach-of (Request.Attach w) who h by = cc
 is-attach-of other who h by = cc
 
-lets-store : (s : Server) (who : Who) (f : File) (base : PushBase) (row : Row) → find_row f.id who.host s.table.rows ≡ Some row → lets_push s who f base row ≡ true → CanStore s who f base row
+lets-store : (s : Server) (who : Who) (f : File) (base : PushBase) (row : Row) → find_row f.id who.host s.table.rows ≡ Some row
+    → lets_push s who f base row ≡ true → CanStore s who f base row
 lets-store s who f base row found h =
     let a = and_parts _ _ h in
     let b = and_parts _ _ a.0 in
@@ -46,7 +47,9 @@ lets-store s who f base row found h =
 
 module _ (s : Server) (sender next : ℕ) (d : Datagram) (Q : ServerStep → Type 0) (cases : ServerCases s sender next d Q) where
   -- the change is made, unless a row of another host conflicts
-  unless-conflict : (xid : ℕ) (who : Who) (seq : ℕ) (r : Request) (f : File) (change : Decision) → d ≡ request xid r → asker r ≡ Some who → sequence_of r ≡ Some seq → file_changed_by r ≡ Some f.id → base_in r ≡ None → IsChanging s sender who seq f → (clash_with s f.id who.host ≡ None → Q (commits who seq xid r change)) → Q (commits who seq xid r (unless_conflict s who f change))
+  unless-conflict : (xid : ℕ) (who : Who) (seq : ℕ) (r : Request) (f : File) (change : Decision) → d ≡ request xid r → asker r ≡ Some who
+      → sequence_of r ≡ Some seq → file_changed_by r ≡ Some f.id → base_in r ≡ None → IsChanging s sender who seq f
+      → (clash_with s f.id who.host ≡ None → Q (commits who seq xid r change)) → Q (commits who seq xid r (unless_conflict s who f change))
   unfolding free
   unless-conflict xid who seq r f change e by sq changes base changing when =
       asks
@@ -62,11 +65,13 @@ module _ (s : Server) (sender next : ℕ) (d : Datagram) (Q : ServerStep → Typ
         full = λ want c w own room. absurd (cc);
       })
 
-  creates-fresh : (xid : ℕ) (who : Who) (seq : ℕ) (name : List ℕ) (blocks : ℕ) → d ≡ request xid (Request.Create who seq name blocks) → IsFresh s sender who seq → s.phase ≡ serving → Q (commits who seq xid (Request.Create who seq name blocks) (decide_create s name blocks))
+  creates-fresh : (xid : ℕ) (who : Who) (seq : ℕ) (name : List ℕ) (blocks : ℕ) → d ≡ request xid (Request.Create who seq name blocks)
+      → IsFresh s sender who seq → s.phase ≡ serving → Q (commits who seq xid (Request.Create who seq name blocks) (decide_create s name blocks))
   creates-fresh xid who seq name blocks e fresh serves =
       let r : Request = Request.Create who seq name blocks in
       let R = λ (c : Decision). Q (commits who seq xid r c) in
-      let roomless : Bool = nat_le most_files (length s.kept.files) || nat_lt most_blocks (blocks_in_all s.kept.files + blocks) || nat_le most_ids s.kept.next in
+      let roomless : Bool = nat_le most_files (length s.kept.files) || nat_lt most_blocks (blocks_in_all s.kept.files + blocks) || nat_le most_ids
+      s.kept.next in
       choice
       R
       (blocks == 0 || nat_lt most_blocks_of_file blocks)
@@ -99,8 +104,13 @@ module _ (s : Server) (sender next : ℕ) (d : Datagram) (Q : ServerStep → Typ
         id_room = is-not-at-most _ _ a.1;
       }))))
 
-  pushes : (xid : ℕ) (who : Who) (seq block first last : ℕ) (base : PushBase) (body : List ℕ) (f : File) → d ≡ request xid (Request.Write who seq f.id block first last (Some base) body) → IsChanging s sender who seq f → block < blocks_of f → (row : Option Row) → find_row f.id who.host s.table.rows ≡ row → Q (commits who seq xid (Request.Write who seq f.id block first last (Some base) body) (decide_push s who f block first last base body row))
-  pushes xid who seq block first last base body f e changing below None found = cases.declining xid who seq _ Verdict.Fenced e refl refl changing.fresh (no_row seq f.id block first last base body f changing.serves refl changing.found found refl)
+  pushes : (xid : ℕ) (who : Who) (seq block first last : ℕ) (base : PushBase) (body : List ℕ) (f : File)
+      → d ≡ request xid (Request.Write who seq f.id block first last (Some base) body) → IsChanging s sender who seq f → block < blocks_of f
+      → (row : Option Row) → find_row f.id who.host s.table.rows ≡ row
+      → Q (commits who seq xid (Request.Write who seq f.id block first last (Some base) body) (decide_push s who f block first last base body row))
+  pushes xid who seq block first last base body f e changing below None found =
+      cases.declining xid who seq _ Verdict.Fenced e refl refl changing.fresh
+      (no_row seq f.id block first last base body f changing.serves refl changing.found found refl)
   pushes xid who seq block first last base body f e changing below (Some row) found =
       choice
       (λ c. Q (commits who seq xid (Request.Write who seq f.id block first last (Some base) body) c))
@@ -108,35 +118,52 @@ module _ (s : Server) (sender next : ℕ) (d : Datagram) (Q : ServerStep → Typ
       (stores s who f row block first last body)
       (decides s Verdict.Fenced)
       (λ lets. cases.storing xid who seq block first last base body f row e changing below (lets-store s who f base row found lets))
-      (λ bars. cases.declining xid who seq _ Verdict.Fenced e refl refl changing.fresh (not_under seq f.id block first last base body f row changing.serves refl changing.found found bars refl))
+      (λ bars. cases.declining xid who seq _ Verdict.Fenced e refl refl changing.fresh
+      (not_under seq f.id block first last base body f row changing.serves refl changing.found found bars refl))
 
-  writes-within : (xid : ℕ) (who : Who) (seq block first last : ℕ) (push : Option PushBase) (body : List ℕ) (f : File) → d ≡ request xid (Request.Write who seq f.id block first last push body) → IsChanging s sender who seq f → block < blocks_of f → Q (commits who seq xid (Request.Write who seq f.id block first last push body) (decide_write_in s who f block first last push body))
+  writes-within : (xid : ℕ) (who : Who) (seq block first last : ℕ) (push : Option PushBase) (body : List ℕ) (f : File)
+      → d ≡ request xid (Request.Write who seq f.id block first last push body) → IsChanging s sender who seq f → block < blocks_of f
+      → Q (commits who seq xid (Request.Write who seq f.id block first last push body) (decide_write_in s who f block first last push body))
   writes-within xid who seq block first last None body f e changing below =
-      unless-conflict xid who seq (Request.Write who seq f.id block first last None body) f (writes_through s who f block first body) e refl refl refl refl changing (λ free. cases.writing_through xid who seq block first last body f e changing below free)
+      unless-conflict xid who seq (Request.Write who seq f.id block first last None body) f (writes_through s who f block first body) e refl refl refl
+      refl changing (λ free. cases.writing_through xid who seq block first last body f e changing below free)
   writes-within xid who seq block first last (Some base) body f e changing below =
       pushes xid who seq block first last base body f e changing below (find_row f.id who.host s.table.rows) refl
 
-  writes-kept : (xid : ℕ) (who : Who) (seq block first last : ℕ) (push : Option PushBase) (body : List ℕ) (f : File) → IsFresh s sender who seq → s.phase ≡ serving → d ≡ request xid (Request.Write who seq f.id block first last push body) → find_file f.id s.kept.files ≡ Some f → Q (commits who seq xid (Request.Write who seq f.id block first last push body) (decide_write s who (Some f) block first last push body))
+  writes-kept : (xid : ℕ) (who : Who) (seq block first last : ℕ) (push : Option PushBase) (body : List ℕ) (f : File) → IsFresh s sender who seq
+      → s.phase ≡ serving → d ≡ request xid (Request.Write who seq f.id block first last push body) → find_file f.id s.kept.files ≡ Some f
+      → Q (commits who seq xid (Request.Write who seq f.id block first last push body) (decide_write s who (Some f) block first last push body))
   writes-kept xid who seq block first last push body f fresh serves e found =
       choice
       (λ c. Q (commits who seq xid (Request.Write who seq f.id block first last push body) c))
       (nat_le (blocks_of f) block)
       (decides s Verdict.Invalid)
       (decide_write_in s who f block first last push body)
-      (λ out. cases.declining xid who seq _ Verdict.Invalid e refl refl fresh (outside seq f.id block first last push body f refl found (is-at-most _ _ out) refl))
-      (λ within. writes-within xid who seq block first last push body f e (record { fresh = fresh; serves = serves; found = found }) (is-not-at-most _ _ within))
+      (λ out. cases.declining xid who seq _ Verdict.Invalid e refl refl fresh
+      (outside seq f.id block first last push body f refl found (is-at-most _ _ out) refl))
+      (λ within. writes-within xid who seq block first last push body f e (record { fresh = fresh; serves = serves; found = found })
+      (is-not-at-most _ _ within))
 
-  writes-fresh : (xid : ℕ) (who : Who) (seq file block first last : ℕ) (push : Option PushBase) (body : List ℕ) → IsFresh s sender who seq → s.phase ≡ serving → d ≡ request xid (Request.Write who seq file block first last push body) → (found : Option File) → find_file file s.kept.files ≡ found → Q (commits who seq xid (Request.Write who seq file block first last push body) (decide_write s who found block first last push body))
-  writes-fresh xid who seq file block first last push body fresh serves e None found = cases.declining xid who seq _ Verdict.Stale e refl refl fresh (not_kept file refl found refl)
+  writes-fresh : (xid : ℕ) (who : Who) (seq file block first last : ℕ) (push : Option PushBase) (body : List ℕ) → IsFresh s sender who seq
+      → s.phase ≡ serving → d ≡ request xid (Request.Write who seq file block first last push body) → (found : Option File)
+      → find_file file s.kept.files ≡ found
+      → Q (commits who seq xid (Request.Write who seq file block first last push body) (decide_write s who found block first last push body))
+  writes-fresh xid who seq file block first last push body fresh serves e None found =
+      cases.declining xid who seq _ Verdict.Stale e refl refl fresh (not_kept file refl found refl)
   writes-fresh xid who seq file block first last push body fresh serves e (Some f) found =
       subst
-      (λ i. d ≡ request xid (Request.Write who seq i block first last push body) → find_file i s.kept.files ≡ Some f → Q (commits who seq xid (Request.Write who seq i block first last push body) (decide_write s who (Some f) block first last push body)))
+      (λ i. d ≡ request xid (Request.Write who seq i block first last push body) → find_file i s.kept.files ≡ Some f
+      → Q (commits who seq xid (Request.Write who seq i block first last push body) (decide_write s who (Some f) block first last push body)))
       (found-file file s.kept.files f found)
       (writes-kept xid who seq block first last push body f fresh serves)
       e
       found
 
-  pushes-recovering : (xid : ℕ) (who : Who) (seq block first final : ℕ) (base : PushBase) (body : List ℕ) (until heard : ℕ) (last : Option Table) (f : File) → IsFresh s sender who seq → s.phase ≡ recovering until heard last → d ≡ request xid (Request.Write who seq f.id block first final (Some base) body) → find_file f.id s.kept.files ≡ Some f → Q (commits who seq xid (Request.Write who seq f.id block first final (Some base) body) (decide_push_recovering s until last who (Some f) block first final base body))
+  pushes-recovering : (xid : ℕ) (who : Who) (seq block first final : ℕ) (base : PushBase) (body : List ℕ) (until heard : ℕ) (last : Option Table)
+      (f : File) → IsFresh s sender who seq → s.phase ≡ recovering until heard last
+      → d ≡ request xid (Request.Write who seq f.id block first final (Some base) body) → find_file f.id s.kept.files ≡ Some f
+      → Q (commits who seq xid (Request.Write who seq f.id block first final (Some base) body)
+      (decide_push_recovering s until last who (Some f) block first final base body))
   pushes-recovering xid who seq block first final base body until heard last f fresh recovers e found =
       let R = λ (c : Decision). Q (commits who seq xid (Request.Write who seq f.id block first final (Some base) body) c) in
       choice
@@ -144,7 +171,8 @@ module _ (s : Server) (sender next : ℕ) (d : Datagram) (Q : ServerStep → Typ
       (nat_le (blocks_of f) block)
       (decides s Verdict.Invalid)
       (if base.boot == s.kept.opened && base.base == f.rev then stores_recovering s until last who f block first final body else decides s Verdict.Fenced)
-      (λ out. cases.declining xid who seq _ Verdict.Invalid e refl refl fresh (outside seq f.id block first final (Some base) body f refl found (is-at-most _ _ out) refl))
+      (λ out. cases.declining xid who seq _ Verdict.Invalid e refl refl fresh
+      (outside seq f.id block first final (Some base) body f refl found (is-at-most _ _ out) refl))
       (λ within.
       choice
       R
@@ -153,25 +181,42 @@ module _ (s : Server) (sender next : ℕ) (d : Datagram) (Q : ServerStep → Typ
       (decides s Verdict.Fenced)
       (λ rests.
       let a = and_parts _ _ rests in
-      cases.storing_recovering xid who seq block first final base body f until heard last e fresh recovers found (is-not-at-most _ _ within) (same-number _ _ a.0) (same-number _ _ a.1))
-      (λ bars. cases.declining xid who seq _ Verdict.Fenced e refl refl fresh (not_over seq f.id block first final base body f (record { until = until; heard = heard; last = last; phase = recovers }) refl found bars refl)))
+      cases.storing_recovering xid who seq block first final base body f until heard last e fresh recovers found (is-not-at-most _ _ within)
+      (same-number _ _ a.0) (same-number _ _ a.1))
+      (λ bars. cases.declining xid who seq _ Verdict.Fenced e refl refl fresh
+      (not_over seq f.id block first final base body f (record { until = until; heard = heard; last = last; phase = recovers }) refl found bars refl)))
 
-  pushes-recovering-found : (xid : ℕ) (who : Who) (seq file block first final : ℕ) (base : PushBase) (body : List ℕ) (until heard : ℕ) (last : Option Table) → IsFresh s sender who seq → s.phase ≡ recovering until heard last → d ≡ request xid (Request.Write who seq file block first final (Some base) body) → (found : Option File) → find_file file s.kept.files ≡ found → Q (commits who seq xid (Request.Write who seq file block first final (Some base) body) (decide_push_recovering s until last who found block first final base body))
-  pushes-recovering-found xid who seq file block first final base body until heard last fresh recovers e None found = cases.declining xid who seq _ Verdict.Stale e refl refl fresh (not_kept file refl found refl)
+  pushes-recovering-found : (xid : ℕ) (who : Who) (seq file block first final : ℕ) (base : PushBase) (body : List ℕ) (until heard : ℕ)
+      (last : Option Table) → IsFresh s sender who seq → s.phase ≡ recovering until heard last
+      → d ≡ request xid (Request.Write who seq file block first final (Some base) body) → (found : Option File) → find_file file s.kept.files ≡ found
+      → Q (commits who seq xid (Request.Write who seq file block first final (Some base) body)
+      (decide_push_recovering s until last who found block first final base body))
+  pushes-recovering-found xid who seq file block first final base body until heard last fresh recovers e None found = cases.declining xid who seq _
+      Verdict.Stale e refl refl fresh (not_kept file refl found refl)
   pushes-recovering-found xid who seq file block first final base body until heard last fresh recovers e (Some f) found =
       subst
-      (λ i. d ≡ request xid (Request.Write who seq i block first final (Some base) body) → find_file i s.kept.files ≡ Some f → Q (commits who seq xid (Request.Write who seq i block first final (Some base) body) (decide_push_recovering s until last who (Some f) block first final base body)))
+      (λ i. d ≡ request xid (Request.Write who seq i block first final (Some base) body) → find_file i s.kept.files ≡ Some f
+      → Q (commits who seq xid (Request.Write who seq i block first final (Some base) body)
+      (decide_push_recovering s until last who (Some f) block first final base body)))
       (found-file file s.kept.files f found)
       (pushes-recovering xid who seq block first final base body until heard last f fresh recovers)
       e
       found
 
-  writes-recovering : (xid : ℕ) (who : Who) (seq file block first final : ℕ) (push : Option PushBase) (body : List ℕ) (until heard : ℕ) (last : Option Table) → IsFresh s sender who seq → s.phase ≡ recovering until heard last → d ≡ request xid (Request.Write who seq file block first final push body) → Q (commits who seq xid (Request.Write who seq file block first final push body) (decide_write_recovering s until last who file block first final push body))
-  writes-recovering xid who seq file block first final None body until heard last fresh recovers e = cases.declining xid who seq _ Verdict.TryLater e refl refl fresh (not_while_recovering (record { until = until; heard = heard; last = last; phase = recovers }) refl refl)
+  writes-recovering : (xid : ℕ) (who : Who) (seq file block first final : ℕ) (push : Option PushBase) (body : List ℕ) (until heard : ℕ)
+      (last : Option Table) → IsFresh s sender who seq → s.phase ≡ recovering until heard last
+      → d ≡ request xid (Request.Write who seq file block first final push body)
+      → Q (commits who seq xid (Request.Write who seq file block first final push body)
+      (decide_write_recovering s until last who file block first final push body))
+  writes-recovering xid who seq file block first final None body until heard last fresh recovers e =
+      cases.declining xid who seq _ Verdict.TryLater e refl refl fresh
+      (not_while_recovering (record { until = until; heard = heard; last = last; phase = recovers }) refl refl)
   writes-recovering xid who seq file block first final (Some base) body until heard last fresh recovers e =
       pushes-recovering-found xid who seq file block first final base body until heard last fresh recovers e (find_file file s.kept.files) refl
 
-  resizes-kept : (xid : ℕ) (who : Who) (seq q blocks : ℕ) (f : File) → IsFresh s sender who seq → s.phase ≡ serving → d ≡ request xid (Request.Resize who seq q f.id blocks) → find_file f.id s.kept.files ≡ Some f → Q (commits who seq xid (Request.Resize who seq q f.id blocks) (decide_resize s who q (Some f) blocks))
+  resizes-kept : (xid : ℕ) (who : Who) (seq q blocks : ℕ) (f : File) → IsFresh s sender who seq → s.phase ≡ serving
+      → d ≡ request xid (Request.Resize who seq q f.id blocks) → find_file f.id s.kept.files ≡ Some f
+      → Q (commits who seq xid (Request.Resize who seq q f.id blocks) (decide_resize s who q (Some f) blocks))
   resizes-kept xid who seq q blocks f fresh serves e found =
       let r : Request = Request.Resize who seq q f.id blocks in
       let R = λ (c : Decision). Q (commits who seq xid r c) in
@@ -191,56 +236,75 @@ module _ (s : Server) (sender next : ℕ) (d : Datagram) (Q : ServerStep → Typ
       (λ no. cases.declining xid who seq r Verdict.NoSpace e refl refl fresh (no_room_to_grow seq q f.id blocks f serves refl found refl))
       (λ room.
       let changing : IsChanging s sender who seq f = record { fresh = fresh; serves = serves; found = found } in
-      let can : CanResize s f blocks = record { some = (fits blocks most_blocks_of_file good).0; few = (fits blocks most_blocks_of_file good).1; room = is-not-below _ _ room } in
-      unless-conflict xid who seq r f (resizes s who q f blocks) e refl refl refl refl changing (λ free. cases.resizing xid who seq q blocks f e changing can free)))
+      let can : CanResize s f blocks = record
+      { some = (fits blocks most_blocks_of_file good).0; few = (fits blocks most_blocks_of_file good).1; room = is-not-below _ _ room } in
+      unless-conflict xid who seq r f (resizes s who q f blocks) e refl refl refl refl changing
+      (λ free. cases.resizing xid who seq q blocks f e changing can free)))
 
-  resizes-fresh : (xid : ℕ) (who : Who) (seq q file blocks : ℕ) → IsFresh s sender who seq → s.phase ≡ serving → d ≡ request xid (Request.Resize who seq q file blocks) → (found : Option File) → find_file file s.kept.files ≡ found → Q (commits who seq xid (Request.Resize who seq q file blocks) (decide_resize s who q found blocks))
-  resizes-fresh xid who seq q file blocks fresh serves e None found = cases.declining xid who seq _ Verdict.Stale e refl refl fresh (not_kept file refl found refl)
+  resizes-fresh : (xid : ℕ) (who : Who) (seq q file blocks : ℕ) → IsFresh s sender who seq → s.phase ≡ serving
+      → d ≡ request xid (Request.Resize who seq q file blocks) → (found : Option File) → find_file file s.kept.files ≡ found
+      → Q (commits who seq xid (Request.Resize who seq q file blocks) (decide_resize s who q found blocks))
+  resizes-fresh xid who seq q file blocks fresh serves e None found =
+      cases.declining xid who seq _ Verdict.Stale e refl refl fresh (not_kept file refl found refl)
   resizes-fresh xid who seq q file blocks fresh serves e (Some f) found =
       subst
-      (λ i. d ≡ request xid (Request.Resize who seq q i blocks) → find_file i s.kept.files ≡ Some f → Q (commits who seq xid (Request.Resize who seq q i blocks) (decide_resize s who q (Some f) blocks)))
+      (λ i. d ≡ request xid (Request.Resize who seq q i blocks) → find_file i s.kept.files ≡ Some f
+      → Q (commits who seq xid (Request.Resize who seq q i blocks) (decide_resize s who q (Some f) blocks)))
       (found-file file s.kept.files f found)
       (resizes-kept xid who seq q blocks f fresh serves)
       e
       found
 
-  removes-kept : (xid : ℕ) (who : Who) (seq q : ℕ) (f : File) → IsFresh s sender who seq → s.phase ≡ serving → d ≡ request xid (Request.Remove who seq q f.id) → find_file f.id s.kept.files ≡ Some f → Q (commits who seq xid (Request.Remove who seq q f.id) (decide_remove s who q (Some f)))
+  removes-kept : (xid : ℕ) (who : Who) (seq q : ℕ) (f : File) → IsFresh s sender who seq → s.phase ≡ serving
+      → d ≡ request xid (Request.Remove who seq q f.id) → find_file f.id s.kept.files ≡ Some f
+      → Q (commits who seq xid (Request.Remove who seq q f.id) (decide_remove s who q (Some f)))
   removes-kept xid who seq q f fresh serves e found =
       let changing : IsChanging s sender who seq f = record { fresh = fresh; serves = serves; found = found } in
-      unless-conflict xid who seq (Request.Remove who seq q f.id) f (removes s who q f) e refl refl refl refl changing (λ free. cases.removing xid who seq q f e changing free)
+      unless-conflict xid who seq (Request.Remove who seq q f.id) f (removes s who q f) e refl refl refl refl changing
+      (λ free. cases.removing xid who seq q f e changing free)
 
-  removes-fresh : (xid : ℕ) (who : Who) (seq q file : ℕ) → IsFresh s sender who seq → s.phase ≡ serving → d ≡ request xid (Request.Remove who seq q file) → (found : Option File) → find_file file s.kept.files ≡ found → Q (commits who seq xid (Request.Remove who seq q file) (decide_remove s who q found))
+  removes-fresh : (xid : ℕ) (who : Who) (seq q file : ℕ) → IsFresh s sender who seq → s.phase ≡ serving
+      → d ≡ request xid (Request.Remove who seq q file) → (found : Option File) → find_file file s.kept.files ≡ found
+      → Q (commits who seq xid (Request.Remove who seq q file) (decide_remove s who q found))
   removes-fresh xid who seq q file fresh serves e None found = cases.declining xid who seq _ Verdict.Stale e refl refl fresh (not_kept file refl found refl)
   removes-fresh xid who seq q file fresh serves e (Some f) found =
       subst
-      (λ i. d ≡ request xid (Request.Remove who seq q i) → find_file i s.kept.files ≡ Some f → Q (commits who seq xid (Request.Remove who seq q i) (decide_remove s who q (Some f))))
+      (λ i. d ≡ request xid (Request.Remove who seq q i) → find_file i s.kept.files ≡ Some f
+      → Q (commits who seq xid (Request.Remove who seq q i) (decide_remove s who q (Some f))))
       (found-file file s.kept.files f found)
       (removes-kept xid who seq q f fresh serves)
       e
       found
 
   -- a fresh request, by the phase
-  decides-fresh : (xid : ℕ) (who : Who) (seq : ℕ) (r : Request) → d ≡ request xid r → asker r ≡ Some who → sequence_of r ≡ Some seq → IsFresh s sender who seq → (phase : Phase) → s.phase ≡ phase → Q (commits who seq xid r (decide_in s phase who r))
+  decides-fresh : (xid : ℕ) (who : Who) (seq : ℕ) (r : Request) → d ≡ request xid r → asker r ≡ Some who → sequence_of r ≡ Some seq
+      → IsFresh s sender who seq → (phase : Phase) → s.phase ≡ phase → Q (commits who seq xid r (decide_in s phase who r))
   decides-fresh xid who seq (Request.Create w n name blocks) e by sq fresh serving p =
       let same : Request.Create who seq name blocks ≡ Request.Create w n name blocks = cc in
       subst (λ r. d ≡ request xid r → Q (commits who seq xid r (decide_create s name blocks))) same (λ e. creates-fresh xid who seq name blocks e fresh p) e
   decides-fresh xid who seq (Request.Write w n file block first last push body) e by sq fresh serving p =
       let same : Request.Write who seq file block first last push body ≡ Request.Write w n file block first last push body = cc in
-      subst (λ r. d ≡ request xid r → Q (commits who seq xid r (decide_write s who (find_file file s.kept.files) block first last push body))) same (λ e. writes-fresh xid who seq file block first last push body fresh p e (find_file file s.kept.files) refl) e
+      subst (λ r. d ≡ request xid r → Q (commits who seq xid r (decide_write s who (find_file file s.kept.files) block first last push body))) same
+      (λ e. writes-fresh xid who seq file block first last push body fresh p e (find_file file s.kept.files) refl) e
   decides-fresh xid who seq (Request.Resize w n q file blocks) e by sq fresh serving p =
       let same : Request.Resize who seq q file blocks ≡ Request.Resize w n q file blocks = cc in
-      subst (λ r. d ≡ request xid r → Q (commits who seq xid r (decide_resize s who q (find_file file s.kept.files) blocks))) same (λ e. resizes-fresh xid who seq q file blocks fresh p e (find_file file s.kept.files) refl) e
+      subst (λ r. d ≡ request xid r → Q (commits who seq xid r (decide_resize s who q (find_file file s.kept.files) blocks))) same
+      (λ e. resizes-fresh xid who seq q file blocks fresh p e (find_file file s.kept.files) refl) e
   decides-fresh xid who seq (Request.Remove w n q file) e by sq fresh serving p =
       let same : Request.Remove who seq q file ≡ Request.Remove w n q file = cc in
-      subst (λ r. d ≡ request xid r → Q (commits who seq xid r (decide_remove s who q (find_file file s.kept.files)))) same (λ e. removes-fresh xid who seq q file fresh p e (find_file file s.kept.files) refl) e
+      subst (λ r. d ≡ request xid r → Q (commits who seq xid r (decide_remove s who q (find_file file s.kept.files)))) same
+      (λ e. removes-fresh xid who seq q file fresh p e (find_file file s.kept.files) refl) e
   decides-fresh xid who seq other e by sq fresh serving p = absurd (cc)
   decides-fresh xid who seq (Request.Write w n file block first final push body) e by sq fresh (recovering until heard last) p =
       let same : Request.Write who seq file block first final push body ≡ Request.Write w n file block first final push body = cc in
-      subst (λ r. d ≡ request xid r → Q (commits who seq xid r (decide_write_recovering s until last who file block first final push body))) same (writes-recovering xid who seq file block first final push body until heard last fresh p) e
+      subst (λ r. d ≡ request xid r → Q (commits who seq xid r (decide_write_recovering s until last who file block first final push body))) same
+      (writes-recovering xid who seq file block first final push body until heard last fresh p) e
   decides-fresh xid who seq other e by sq fresh (recovering until heard last) p =
-      cases.declining xid who seq _ Verdict.TryLater e by sq fresh (not_while_recovering (record { until = until; heard = heard; last = last; phase = p }) refl refl)
+      cases.declining xid who seq _ Verdict.TryLater e by sq fresh
+      (not_while_recovering (record { until = until; heard = heard; last = last; phase = p }) refl refl)
 
-  decides-once : (xid : ℕ) (who : Who) (seq : ℕ) (r : Request) → d ≡ request xid r → asker r ≡ Some who → sequence_of r ≡ Some seq → IsCurrent s sender who → Q (decided_once s who seq xid r (line_of s who))
+  decides-once : (xid : ℕ) (who : Who) (seq : ℕ) (r : Request) → d ≡ request xid r → asker r ≡ Some who → sequence_of r ≡ Some seq
+      → IsCurrent s sender who → Q (decided_once s who seq xid r (line_of s who))
   decides-once xid who seq r e by sq current =
       choice
       Q
@@ -261,7 +325,8 @@ module _ (s : Server) (sender next : ℕ) (d : Datagram) (Q : ServerStep → Typ
       (λ past. cases.dropping out_of_bounds)))
 
   -- what the lease table tells a reader
-  reads-without : (xid : ℕ) (who : Who) (q block : ℕ) (f : File) (body : List ℕ) → d ≡ request xid (Request.Read who q f.id block None) → IsAsking s sender who f → slice_get f.bodies block ≡ Some body → Q (read_of s who xid next q f block body None (ask s.table (to_read s who f None)))
+  reads-without : (xid : ℕ) (who : Who) (q block : ℕ) (f : File) (body : List ℕ) → d ≡ request xid (Request.Read who q f.id block None)
+      → IsAsking s sender who f → slice_get f.bodies block ≡ Some body → Q (read_of s who xid next q f block body None (ask s.table (to_read s who f None)))
   unfolding free
   reads-without xid who q block f body e asking there =
       asks
@@ -277,7 +342,9 @@ module _ (s : Server) (sender next : ℕ) (d : Datagram) (Q : ServerStep → Typ
         full = λ want c w own room. absurd (cc);
       })
 
-  reads-wanting : (xid : ℕ) (who : Who) (q block : ℕ) (want : Want) (f : File) (body : List ℕ) → d ≡ request xid (Request.Read who q f.id block (Some want)) → IsAsking s sender who f → slice_get f.bodies block ≡ Some body → Q (read_of s who xid next q f block body (Some want) (ask s.table (to_read s who f (Some want))))
+  reads-wanting : (xid : ℕ) (who : Who) (q block : ℕ) (want : Want) (f : File) (body : List ℕ)
+      → d ≡ request xid (Request.Read who q f.id block (Some want)) → IsAsking s sender who f → slice_get f.bodies block ≡ Some body
+      → Q (read_of s who xid next q f block body (Some want) (ask s.table (to_read s who f (Some want))))
   unfolding put_off_by_own granted no_lease
   reads-wanting xid who q block want f body e asking there =
       let r : Request = Request.Read who q f.id block (Some want) in
@@ -290,7 +357,8 @@ module _ (s : Server) (sender next : ℕ) (d : Datagram) (Q : ServerStep → Typ
         later = λ clash c. cases.putting_off xid who r f clash e refl refl asking c;
         later_waiting = λ clash w c is own room.
             let same : want ≡ w = cc in
-            subst (λ w. Q (tells_later s who xid (with_waiter s.table question w) (in_the_way s f.id who.host (access_of (Some want))))) same (cases.putting_off_waiting xid who r f clash want e refl refl refl asking c own room);
+            subst (λ w. Q (tells_later s who xid (with_waiter s.table question w) (in_the_way s f.id who.host (access_of (Some want))))) same
+            (cases.putting_off_waiting xid who r f clash want e refl refl refl asking c own room);
         freely = λ c w. absurd (cc);
         later_by_own = λ w own c is o evicting. cases.putting_off_by_own xid who r f want own e refl refl refl asking c o evicting;
         granting = λ w row term c is g.
@@ -299,13 +367,18 @@ module _ (s : Server) (sender next : ℕ) (d : Datagram) (Q : ServerStep → Typ
         full = λ w c is own room. cases.reading_full xid who q block want f body e asking there c own room;
       })
 
-  reads-block : (xid : ℕ) (who : Who) (q block : ℕ) (want : Option Want) (f : File) → d ≡ request xid (Request.Read who q f.id block want) → IsAsking s sender who f → (body : Option (List ℕ)) → slice_get f.bodies block ≡ body → Q (read_block s who xid next q f block want body)
-  reads-block xid who q block want f e asking None there = cases.replying xid who _ _ e refl asking.current.from (no_block q f.id block want f asking.current.inc asking.serves refl asking.found there refl)
+  reads-block : (xid : ℕ) (who : Who) (q block : ℕ) (want : Option Want) (f : File) → d ≡ request xid (Request.Read who q f.id block want)
+      → IsAsking s sender who f → (body : Option (List ℕ)) → slice_get f.bodies block ≡ body → Q (read_block s who xid next q f block want body)
+  reads-block xid who q block want f e asking None there =
+      cases.replying xid who _ _ e refl asking.current.from (no_block q f.id block want f asking.current.inc asking.serves refl asking.found there refl)
   reads-block xid who q block None f e asking (Some body) there = reads-without xid who q block f body e asking there
   reads-block xid who q block (Some want) f e asking (Some body) there = reads-wanting xid who q block want f body e asking there
 
-  reads-file : (xid : ℕ) (who : Who) (q file block : ℕ) (want : Option Want) → d ≡ request xid (Request.Read who q file block want) → IsCurrent s sender who → s.phase ≡ serving → (found : Option File) → find_file file s.kept.files ≡ found → Q (read s who xid next q block want found)
-  reads-file xid who q file block want e current serves None found = cases.replying xid who _ _ e refl current.from (no_file file current.inc serves refl found refl)
+  reads-file : (xid : ℕ) (who : Who) (q file block : ℕ) (want : Option Want) → d ≡ request xid (Request.Read who q file block want)
+      → IsCurrent s sender who → s.phase ≡ serving → (found : Option File) → find_file file s.kept.files ≡ found
+      → Q (read s who xid next q block want found)
+  reads-file xid who q file block want e current serves None found =
+      cases.replying xid who _ _ e refl current.from (no_file file current.inc serves refl found refl)
   reads-file xid who q file block want e current serves (Some f) found =
       subst
       (λ i. d ≡ request xid (Request.Read who q i block want) → find_file i s.kept.files ≡ Some f → Q (read s who xid next q block want (Some f)))
@@ -315,7 +388,8 @@ module _ (s : Server) (sender next : ℕ) (d : Datagram) (Q : ServerStep → Typ
       found
 
   -- what it tells one who wants a lease
-  leases-kept : (xid : ℕ) (who : Who) (want : Want) (f : File) → d ≡ request xid (Request.GetLease who f.id want) → IsAsking s sender who f → Q (lease_of s who xid f want (ask s.table (to_read s who f (Some want))))
+  leases-kept : (xid : ℕ) (who : Who) (want : Want) (f : File) → d ≡ request xid (Request.GetLease who f.id want) → IsAsking s sender who f
+      → Q (lease_of s who xid f want (ask s.table (to_read s who f (Some want))))
   unfolding put_off_by_own granted no_lease
   leases-kept xid who want f e asking =
       let r : Request = Request.GetLease who f.id want in
@@ -328,7 +402,8 @@ module _ (s : Server) (sender next : ℕ) (d : Datagram) (Q : ServerStep → Typ
         later = λ clash c. cases.putting_off xid who r f clash e refl refl asking c;
         later_waiting = λ clash w c is own room.
             let same : want ≡ w = cc in
-            subst (λ w. Q (tells_later s who xid (with_waiter s.table question w) (in_the_way s f.id who.host (access_of (Some want))))) same (cases.putting_off_waiting xid who r f clash want e refl refl refl asking c own room);
+            subst (λ w. Q (tells_later s who xid (with_waiter s.table question w) (in_the_way s f.id who.host (access_of (Some want))))) same
+            (cases.putting_off_waiting xid who r f clash want e refl refl refl asking c own room);
         freely = λ c w. absurd (cc);
         later_by_own = λ w own c is o evicting. cases.putting_off_by_own xid who r f want own e refl refl refl asking c o evicting;
         granting = λ w row term c is g.
@@ -337,7 +412,8 @@ module _ (s : Server) (sender next : ℕ) (d : Datagram) (Q : ServerStep → Typ
         full = λ w c is own room. cases.leasing_full xid who want f e asking c own room;
       })
 
-  leases-file : (xid : ℕ) (who : Who) (file : ℕ) (want : Want) → d ≡ request xid (Request.GetLease who file want) → IsCurrent s sender who → s.phase ≡ serving → (found : Option File) → find_file file s.kept.files ≡ found → Q (get_lease s who xid want found)
+  leases-file : (xid : ℕ) (who : Who) (file : ℕ) (want : Want) → d ≡ request xid (Request.GetLease who file want) → IsCurrent s sender who
+      → s.phase ≡ serving → (found : Option File) → find_file file s.kept.files ≡ found → Q (get_lease s who xid want found)
   leases-file xid who file want e current serves None found = cases.replying xid who _ _ e refl current.from (no_file file current.inc serves refl found refl)
   leases-file xid who file want e current serves (Some f) found =
       subst
@@ -347,15 +423,20 @@ module _ (s : Server) (sender next : ℕ) (d : Datagram) (Q : ServerStep → Typ
       e
       found
 
-  looks-up : (xid : ℕ) (who : Who) (name : List ℕ) → d ≡ request xid (Request.Lookup who name) → IsCurrent s sender who → s.phase ≡ serving → (found : Option File) → find_name name s.kept.files ≡ found → Q (look_up s who xid found)
+  looks-up : (xid : ℕ) (who : Who) (name : List ℕ) → d ≡ request xid (Request.Lookup who name) → IsCurrent s sender who → s.phase ≡ serving
+      → (found : Option File) → find_name name s.kept.files ≡ found → Q (look_up s who xid found)
   looks-up xid who name e current serves None found = cases.replying xid who _ _ e refl current.from (no_entry name current.inc serves refl found refl)
   looks-up xid who name e current serves (Some f) found = cases.replying xid who _ _ e refl current.from (entry name f current.inc serves refl found refl)
 
-  gets-attributes : (xid : ℕ) (who : Who) (file : ℕ) → d ≡ request xid (Request.GetAttr who file) → IsCurrent s sender who → s.phase ≡ serving → (found : Option File) → find_file file s.kept.files ≡ found → Q (get_attr s who xid found)
-  gets-attributes xid who file e current serves None found = cases.replying xid who _ _ e refl current.from (no_attributes file current.inc serves refl found refl)
-  gets-attributes xid who file e current serves (Some f) found = cases.replying xid who _ _ e refl current.from (attributes file f current.inc serves refl found refl)
+  gets-attributes : (xid : ℕ) (who : Who) (file : ℕ) → d ≡ request xid (Request.GetAttr who file) → IsCurrent s sender who → s.phase ≡ serving
+      → (found : Option File) → find_file file s.kept.files ≡ found → Q (get_attr s who xid found)
+  gets-attributes xid who file e current serves None found =
+      cases.replying xid who _ _ e refl current.from (no_attributes file current.inc serves refl found refl)
+  gets-attributes xid who file e current serves (Some f) found =
+      cases.replying xid who _ _ e refl current.from (attributes file f current.inc serves refl found refl)
 
-  looks : (xid : ℕ) (who : Who) (r : Request) → d ≡ request xid r → asker r ≡ Some who → only_asks r ≡ true → IsCurrent s sender who → (phase : Phase) → s.phase ≡ phase → Q (look s phase who xid next r)
+  looks : (xid : ℕ) (who : Who) (r : Request) → d ≡ request xid r → asker r ≡ Some who → only_asks r ≡ true → IsCurrent s sender who → (phase : Phase)
+      → s.phase ≡ phase → Q (look s phase who xid next r)
   looks xid who (Request.Lookup w name) e by only current serving p =
       let same : d ≡ request xid (Request.Lookup who name) = cc in
       looks-up xid who name same current p (find_name name s.kept.files) refl
@@ -373,7 +454,8 @@ module _ (s : Server) (sender next : ℕ) (d : Datagram) (Q : ServerStep → Typ
       cases.replying xid who r _ e by current.from (not_yet current.inc (record { until = until; heard = heard; last = last; phase = p }) only refl)
 
   -- a request of the kept incarnation
-  performs : (xid : ℕ) (who : Who) (r : Request) → d ≡ request xid r → asker r ≡ Some who → is_attach r ≡ false → IsCurrent s sender who → Q (perform s who xid next (line_of s who) r)
+  performs : (xid : ℕ) (who : Who) (r : Request) → d ≡ request xid r → asker r ≡ Some who → is_attach r ≡ false → IsCurrent s sender who
+      → Q (perform s who xid next (line_of s who) r)
   performs xid who Request.Null e by attach current = cases.stays
   performs xid who (Request.Attach w) e by attach current = absurd (cc)
   performs xid who (Request.Lookup w name) e by attach current = looks xid who _ e by refl current s.phase refl
@@ -390,7 +472,8 @@ module _ (s : Server) (sender next : ℕ) (d : Datagram) (Q : ServerStep → Typ
   performs xid who (Request.Remove w seq q file) e by attach current = decides-once xid who seq _ e by refl current
 
   -- a request of an incarnation that is not attached
-  is-stranger : (xid : ℕ) (who : Who) (r : Request) → d ≡ request xid r → asker r ≡ Some who → is_attach r ≡ false → IsFrom sender who → (line_of s who).inc < who.inc → Q (not_attached s who xid r)
+  is-stranger : (xid : ℕ) (who : Who) (r : Request) → d ≡ request xid r → asker r ≡ Some who → is_attach r ≡ false → IsFrom sender who
+      → (line_of s who).inc < who.inc → Q (not_attached s who xid r)
   is-stranger xid who (Request.Vacated w file tag) e by attach from later = cases.stays
   is-stranger xid who other e by attach from later = cases.replying xid who _ _ e by from (unattached later attach refl)
 

@@ -35,27 +35,40 @@ pub record ServerMoves (s : Server) (d : Datagram) (Q : Kept → Phase → Table
   -- nothing changes
   pub stays : Q s.kept s.phase s.table
   -- besides, a request was decided: the line of its host has the same incarnation
-  pub decided : (kept : Kept) (phase : Phase) (table : Table) (who : Who) (line : HostRow) → who.inc ≡ (host_row kept who.host).inc → line.inc ≡ who.inc → Q kept phase table → Q (with_row kept who.host line) phase table
+  pub decided : (kept : Kept) (phase : Phase) (table : Table) (who : Who) (line : HostRow) → who.inc ≡ (host_row kept who.host).inc → line.inc ≡ who.inc
+      → Q kept phase table → Q (with_row kept who.host line) phase table
   -- a later incarnation begins
-  pub attaching : (who : Who) → (line_of s who).inc < who.inc → Q (with_row s.kept who.host (first_line who)) s.phase (with_rows s.table (drop_host who.host s.table.rows))
+  pub attaching : (who : Who) → (line_of s who).inc < who.inc
+      → Q (with_row s.kept who.host (first_line who)) s.phase (with_rows s.table (drop_host who.host s.table.rows))
   -- a lease was given up
-  pub vacating : (who : Who) (file : ℕ) (tag : Tag) → IsKeptInc s who → Q s.kept s.phase (with_rows s.table (vacated_rows who file tag s.table.rows (find_row file who.host s.table.rows)))
+  pub vacating : (who : Who) (file : ℕ) (tag : Tag) → IsKeptInc s who
+      → Q s.kept s.phase (with_rows s.table (vacated_rows who file tag s.table.rows (find_row file who.host s.table.rows)))
   -- rows of others are marked
   pub marking : (file host : ℕ) (access : Access) → s.phase ≡ serving → Q s.kept s.phase (with_rows s.table (marked file host access s.table.rows))
   -- and the asker gets a row that waits
-  pub marking_waiting : (xid : ℕ) (r : Request) (who : Who) (f : File) (want : Want) → d ≡ request xid r → wanted_by r ≡ Some want → IsAsking s who.host who f → own_in s.table (to_read s who f (Some want)) ≡ None → has_room (with_marked s.table (to_read s who f (Some want))) ≡ true → Q s.kept s.phase (with_waiter s.table (to_read s who f (Some want)) want)
+  pub marking_waiting : (xid : ℕ) (r : Request) (who : Who) (f : File) (want : Want) → d ≡ request xid r → wanted_by r ≡ Some want
+      → IsAsking s who.host who f → own_in s.table (to_read s who f (Some want)) ≡ None
+      → has_room (with_marked s.table (to_read s who f (Some want))) ≡ true → Q s.kept s.phase (with_waiter s.table (to_read s who f (Some want)) want)
   -- a row is granted
-  pub granting : (xid : ℕ) (r : Request) (who : Who) (f : File) (want : Want) (row : Row) (term : ℕ) → d ≡ request xid r → wanted_by r ≡ Some want → IsAsking s who.host who f → clash_in s.table (to_read s who f (Some want)) ≡ None → IsGranted s.table (to_read s who f (Some want)) want row term → Q s.kept s.phase (after_draw s.table (put_row row s.table.rows))
+  pub granting : (xid : ℕ) (r : Request) (who : Who) (f : File) (want : Want) (row : Row) (term : ℕ) → d ≡ request xid r → wanted_by r ≡ Some want
+      → IsAsking s who.host who f → clash_in s.table (to_read s who f (Some want)) ≡ None
+      → IsGranted s.table (to_read s who f (Some want)) want row term → Q s.kept s.phase (after_draw s.table (put_row row s.table.rows))
   -- a file is made
   pub creating : (name : List ℕ) (blocks : ℕ) → s.phase ≡ serving → CanCreate s name blocks → Q (with_new_file s.kept name blocks) s.phase s.table
   -- a file is changed, where no row of another host stands in the way
-  pub changing : (who : Who) (f file : File) → s.phase ≡ serving → IsKeptInc s who → find_file f.id s.kept.files ≡ Some f → file.id ≡ f.id → clash_with s f.id who.host ≡ None → Q (with_files s.kept (replace_file file s.kept.files)) s.phase s.table
+  pub changing : (who : Who) (f file : File) → s.phase ≡ serving → IsKeptInc s who → find_file f.id s.kept.files ≡ Some f → file.id ≡ f.id
+      → clash_with s f.id who.host ≡ None → Q (with_files s.kept (replace_file file s.kept.files)) s.phase s.table
   -- delayed writes are stored, while their row goes on
-  pub storing : (who : Who) (f file : File) (base : PushBase) (row : Row) → s.phase ≡ serving → IsKeptInc s who → find_file f.id s.kept.files ≡ Some f → file.id ≡ f.id → CanStore s who f base row → Q (with_files s.kept (replace_file file s.kept.files)) s.phase (with_rows s.table (put_row (record row { heard = s.now }) s.table.rows))
+  pub storing : (who : Who) (f file : File) (base : PushBase) (row : Row) → s.phase ≡ serving → IsKeptInc s who → find_file f.id s.kept.files ≡ Some f
+      → file.id ≡ f.id → CanStore s who f base row
+      → Q (with_files s.kept (replace_file file s.kept.files)) s.phase (with_rows s.table (put_row (record row { heard = s.now }) s.table.rows))
   -- delayed writes are stored while the server recovers
-  pub storing_recovering : (f file : File) (until heard : ℕ) (last : Option Table) → s.phase ≡ recovering until heard last → find_file f.id s.kept.files ≡ Some f → file.id ≡ f.id → Q (with_files s.kept (replace_file file s.kept.files)) (recovering (max until (s.now + write_slack)) s.now last) s.table
+  pub storing_recovering : (f file : File) (until heard : ℕ) (last : Option Table) → s.phase ≡ recovering until heard last
+      → find_file f.id s.kept.files ≡ Some f → file.id ≡ f.id
+      → Q (with_files s.kept (replace_file file s.kept.files)) (recovering (max until (s.now + write_slack)) s.now last) s.table
   -- a file is taken away
-  pub removing : (who : Who) (f : File) → s.phase ≡ serving → IsKeptInc s who → find_file f.id s.kept.files ≡ Some f → clash_with s f.id who.host ≡ None → Q (with_files s.kept (drop_file f.id s.kept.files)) s.phase (with_rows s.table (drop_rows_of f.id s.table.rows))
+  pub removing : (who : Who) (f : File) → s.phase ≡ serving → IsKeptInc s who → find_file f.id s.kept.files ≡ Some f → clash_with s f.id who.host ≡ None
+      → Q (with_files s.kept (drop_file f.id s.kept.files)) s.phase (with_rows s.table (drop_rows_of f.id s.table.rows))
 
 module _ (s : Server) (sender next : ℕ) (d : Datagram) (Q : Kept → Phase → Table → Type 0) (moves : ServerMoves s d Q) where
   -- what holds of the state after a step, which has the longest term and the time of before
@@ -69,7 +82,8 @@ module _ (s : Server) (sender next : ℕ) (d : Datagram) (Q : Kept → Phase →
   same-asker who f asking = record { current = same-host who asking.current; serves = asking.serves; found = asking.found }
 
   cases-from-moves : ServerCases s sender next d Holds
-  unfolding quiet drops says attaches vacates tells_later serves leases decides creates writes_through stores wrote stores_recovering resizes removes puts_off commits keeping keeping_with with_table after_notices with_files with_new_file written_file resized_file
+  unfolding quiet drops says attaches vacates tells_later serves leases decides creates writes_through stores wrote stores_recovering resizes
+      removes puts_off commits keeping keeping_with with_table after_notices with_files with_new_file written_file resized_file
   cases-from-moves = record {
     stays = (moves.stays, refl, refl);
     dropping = λ reason. (moves.stays, refl, refl);
@@ -79,29 +93,70 @@ module _ (s : Server) (sender next : ℕ) (d : Datagram) (Q : Kept → Phase →
     attaching = λ xid who e from later. (moves.attaching who later, refl, refl);
     vacating = λ xid who file tag e current. (moves.vacating who file tag (same-host who current), refl, refl);
     putting_off = λ xid who r f clash e by file asking c. (moves.marking f.id who.host _ asking.serves, refl, refl);
-    putting_off_waiting = λ xid who r f clash want e by file wants asking c own room. (moves.marking_waiting xid r who f want e wants (same-asker who f asking) own room, refl, refl);
+    putting_off_waiting =
+        λ xid who r f clash want e by file wants asking c own room.
+        (moves.marking_waiting xid r who f want e wants (same-asker who f asking) own room, refl, refl);
     putting_off_by_own = λ xid who r f want own e by file wants asking c o evicting. (moves.stays, refl, refl);
     reading = λ xid who q block f body e asking there c. (moves.stays, refl, refl);
     reading_full = λ xid who q block want f body e asking there c own room. (moves.stays, refl, refl);
-    reading_granted = λ xid who q block want f body row term e asking there c g. (moves.granting xid _ who f want row term e refl (same-asker who f asking) c g, refl, refl);
+    reading_granted =
+        λ xid who q block want f body row term e asking there c g.
+        (moves.granting xid _ who f want row term e refl (same-asker who f asking) c g, refl, refl);
     leasing_full = λ xid who want f e asking c own room. (moves.stays, refl, refl);
     leasing = λ xid who want f row term e asking c g. (moves.granting xid _ who f want row term e refl (same-asker who f asking) c g, refl, refl);
     declining = λ xid who seq r verdict e by sq fresh declined. (moves.decided s.kept s.phase s.table who _ fresh.current.inc refl moves.stays, refl, refl);
-    putting_off_change = λ xid who seq r f clash e by sq file base changing c. (moves.decided s.kept s.phase _ who _ changing.fresh.current.inc refl (moves.marking f.id who.host Access.Write changing.serves), refl, refl);
-    creating = λ xid who seq blocks name e fresh serves can. (moves.decided _ s.phase s.table who _ fresh.current.inc refl (moves.creating name blocks serves can), refl, refl);
-    writing_through = λ xid who seq block first last body f e changing below c. (moves.decided _ s.phase s.table who _ changing.fresh.current.inc refl (moves.changing who f (written_file f block body) changing.serves (same-host who changing.fresh.current) changing.found refl c), refl, refl);
-    storing = λ xid who seq block first last base body f row e changing below can. (moves.decided _ s.phase _ who _ changing.fresh.current.inc refl (moves.storing who f (written_file f block body) base row changing.serves (same-host who changing.fresh.current) changing.found refl can), refl, refl);
-    storing_recovering = λ xid who seq block first final base body f until heard last e fresh recovers found below boot rev. (moves.decided _ _ s.table who _ fresh.current.inc refl (moves.storing_recovering f (written_file f block body) until heard last recovers found refl), refl, refl);
-    resizing = λ xid who seq q blocks f e changing can c. (moves.decided _ s.phase s.table who _ changing.fresh.current.inc refl (moves.changing who f (resized_file f blocks) changing.serves (same-host who changing.fresh.current) changing.found refl c), refl, refl);
-    removing = λ xid who seq q f e changing c. (moves.decided _ s.phase _ who _ changing.fresh.current.inc refl (moves.removing who f changing.serves (same-host who changing.fresh.current) changing.found c), refl, refl);
+    putting_off_change =
+        λ xid who seq r f clash e by sq file base changing c.
+        (moves.decided s.kept s.phase _ who _ changing.fresh.current.inc refl (moves.marking f.id who.host Access.Write changing.serves), refl, refl);
+    creating =
+        λ xid who seq blocks name e fresh serves can.
+        (moves.decided _ s.phase s.table who _ fresh.current.inc refl (moves.creating name blocks serves can), refl, refl);
+    writing_through =
+        λ xid who seq block first last body f e changing below c. (
+          moves.decided _ s.phase s.table who _ changing.fresh.current.inc refl
+              (moves.changing who f (written_file f block body) changing.serves (same-host who changing.fresh.current) changing.found refl c),
+          refl,
+          refl,
+        );
+    storing =
+        λ xid who seq block first last base body f row e changing below can. (
+          moves.decided _ s.phase _ who _ changing.fresh.current.inc refl
+              (moves.storing who f (written_file f block body) base row changing.serves (same-host who changing.fresh.current) changing.found refl can),
+          refl,
+          refl,
+        );
+    storing_recovering =
+        λ xid who seq block first final base body f until heard last e fresh recovers found below boot rev. (
+          moves.decided _ _ s.table who _ fresh.current.inc refl
+              (moves.storing_recovering f (written_file f block body) until heard last recovers found refl),
+          refl,
+          refl,
+        );
+    resizing =
+        λ xid who seq q blocks f e changing can c. (
+          moves.decided _ s.phase s.table who _ changing.fresh.current.inc refl
+              (moves.changing who f (resized_file f blocks) changing.serves (same-host who changing.fresh.current) changing.found refl c),
+          refl,
+          refl,
+        );
+    removing =
+        λ xid who seq q f e changing c. (
+          moves.decided _ s.phase _ who _ changing.fresh.current.inc refl
+              (moves.removing who f changing.serves (same-host who changing.fresh.current) changing.found c),
+          refl,
+          refl,
+        );
   }
 
 -- what a datagram does to the state
-pub server-moves : (s : Server) (sender next : ℕ) (d : Datagram) (Q : Kept → Phase → Table → Type 0) → ServerMoves s d Q → Q (receive s sender next d).server.kept (receive s sender next d).server.phase (receive s sender next d).server.table
+pub server-moves : (s : Server) (sender next : ℕ) (d : Datagram) (Q : Kept → Phase → Table → Type 0) → ServerMoves s d Q
+    → Q (receive s sender next d).server.kept (receive s sender next d).server.phase (receive s sender next d).server.table
 server-moves s sender next d Q moves = (server-hears s sender next d (Holds s sender next d Q moves) (cases-from-moves s sender next d Q moves)).0
 
 -- what speaks of the kept longest term and of the phase alone changes only where delayed writes are stored in a recovery
-pub phase-moves : (s : Server) (d : Datagram) (R : (longest : ℕ) → Phase → Type 0) → R s.kept.longest s.phase → ((until heard : ℕ) (last : Option Table) → s.phase ≡ recovering until heard last → R s.kept.longest (recovering (max until (s.now + write_slack)) s.now last)) → ServerMoves s d (λ kept phase table. R kept.longest phase)
+pub phase-moves : (s : Server) (d : Datagram) (R : (longest : ℕ) → Phase → Type 0) → R s.kept.longest s.phase
+    → ((until heard : ℕ) (last : Option Table) → s.phase ≡ recovering until heard last
+    → R s.kept.longest (recovering (max until (s.now + write_slack)) s.now last)) → ServerMoves s d (λ kept phase table. R kept.longest phase)
 unfolding with_row with_files with_new_file
 phase-moves s d R h stored = record {
   stays = h;
@@ -122,9 +177,11 @@ no-claim : (s : Server) (d : Datagram) → ServerMoves s d (λ kept phase table.
 no-claim s d = phase-moves s d (λ longest phase. Unit {0}) tt (λ until heard last p. tt)
 
 -- a datagram leaves the longest term of the boot, and the time
-pub receive-keeps : (s : Server) (sender next : ℕ) (d : Datagram) → ((receive s sender next d).server.longest ≡ s.longest) × ((receive s sender next d).server.now ≡ s.now)
+pub receive-keeps : (s : Server) (sender next : ℕ) (d : Datagram)
+    → ((receive s sender next d).server.longest ≡ s.longest) × ((receive s sender next d).server.now ≡ s.now)
 receive-keeps s sender next d =
-    let held = server-hears s sender next d (Holds s sender next d (λ kept phase table. Unit {0}) (no-claim s d)) (cases-from-moves s sender next d (λ kept phase table. Unit {0}) (no-claim s d)) in
+    let held = server-hears s sender next d (Holds s sender next d (λ kept phase table. Unit {0}) (no-claim s d))
+    (cases-from-moves s sender next d (λ kept phase table. Unit {0}) (no-claim s d)) in
     (held.1, held.2)
 
 -- the changes that a tick may make
@@ -132,13 +189,16 @@ pub record TickMoves (s : Server) (now : ℕ) (Q : Kept → Phase → Table → 
   -- the recovery goes on
   pub waits : (until heard : ℕ) (last : Option Table) → s.phase ≡ recovering until heard last → now < until → Q s.kept s.phase s.table
   -- the recovery ends
-  pub opening : (until heard : ℕ) (last : Option Table) → s.phase ≡ recovering until heard last → until ≤ now → Q (record s.kept { opened = s.kept.boot; longest = s.longest }) serving s.table
+  pub opening : (until heard : ℕ) (last : Option Table) → s.phase ≡ recovering until heard last → until ≤ now
+      → Q (record s.kept { opened = s.kept.boot; longest = s.longest }) serving s.table
   -- rows that do not let their holders write end
   pub ends_reading : s.phase ≡ serving → Q s.kept s.phase (with_rows s.table (end_reading now s.table.rows))
   -- and a writing row ends in silence, while its file is fenced
-  pub ending_writing : (row : Row) → s.phase ≡ serving → find (is_due now) (end_reading now s.table.rows) ≡ Some row → Q (fence s.kept (find_file row.file s.kept.files)) s.phase (with_rows s.table (drop_row row.file row.who.host (end_reading now s.table.rows)))
+  pub ending_writing : (row : Row) → s.phase ≡ serving → find (is_due now) (end_reading now s.table.rows) ≡ Some row
+      → Q (fence s.kept (find_file row.file s.kept.files)) s.phase (with_rows s.table (drop_row row.file row.who.host (end_reading now s.table.rows)))
 
-pub tick-moves : (s : Server) (now : ℕ) (Q : Kept → Phase → Table → Type 0) → TickMoves s now Q → Q (tick s now).server.kept (tick s now).server.phase (tick s now).server.table
+pub tick-moves : (s : Server) (now : ℕ) (Q : Kept → Phase → Table → Type 0) → TickMoves s now Q
+    → Q (tick s now).server.kept (tick s now).server.phase (tick s now).server.table
 unfolding quiet at_time opens ends_writing keeping_with with_table
 tick-moves s now Q moves = server-ticks s now (λ t. Q t.server.kept t.server.phase t.server.table) (record {
   waits = λ until heard last p goes_on. moves.waits until heard last p goes_on;

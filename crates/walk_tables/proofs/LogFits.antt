@@ -35,7 +35,9 @@ pub timed-append : (more journal : List Entry) → timed (more ++ journal) ≡ t
 timed-append more journal = filter-append is_timed more journal
 
 -- the world's server at the start
-first-step : (id : ℕ) (x : List ℕ × ℕ) (files : List (List ℕ × ℕ)) (i : ℕ) (f : File) (b : Bool) → (id == i) ≡ b → (find_file i (first_files (id + 1) files) ≡ Some f → i < id + 1 + length files) → (if b then Some (new_file id x.0 x.1) else find_file i (first_files (id + 1) files)) ≡ Some f → i < id + length (x ∷ files)
+first-step : (id : ℕ) (x : List ℕ × ℕ) (files : List (List ℕ × ℕ)) (i : ℕ) (f : File) (b : Bool) → (id == i) ≡ b
+    → (find_file i (first_files (id + 1) files) ≡ Some f → i < id + 1 + length files)
+    → (if b then Some (new_file id x.0 x.1) else find_file i (first_files (id + 1) files)) ≡ Some f → i < id + length (x ∷ files)
 first-step id x files i f true e rest found = let same : id ≡ i = same-number id i e in omega arith
 first-step id x files i f false e rest found = let below : i < id + 1 + length files = rest found in omega arith
 
@@ -49,7 +51,9 @@ first-lines head few = omega (arith, length-append {A = HostRow}, length-replica
 
 pub fits-start : (most : ℕ) (head : Head) → head.hosts ≤ most_hosts → shortest_term ≤ head.longest → head.longest ≤ most → ServerFits most 0 (start head).server
 unfolding start
-fits-start most head few long most_long = fits-boot most (first_kept head) head.longest 0 refl long most_long long most_long (subst (IdsFit (first_kept head).files) (next head) (first-ids 1 head.files)) (first-lines head few)
+fits-start most head few long most_long =
+    fits-boot most (first_kept head) head.longest 0 refl long most_long long most_long
+    (subst (IdsFit (first_kept head).files) (next head) (first-ids 1 head.files)) (first-lines head few)
   where
     next : (head : Head) → 1 + length head.files ≡ (first_kept head).next
     next head = omega arith

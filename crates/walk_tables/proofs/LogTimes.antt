@@ -1,6 +1,6 @@
 -- What the timed entries say of times, terms, tags and recoveries.
-use Rattle.std.proofs.Common.{◌≡◌, ◌≤◌, ℕ, zero, suc, ◌+◌, ◌==◌, Bool, true, false, List, [], ◌∷◌, ◌++◌, Some, if◌then◌else◌, refl, sym, subst, arith}
-use Rattle.std.specs.List.{find, slice_get}
+use Rattle.std.proofs.Common.{◌≡◌, ◌≤◌, ℕ, ◌+◌, ◌==◌, Bool, true, false, List, ◌∷◌, ◌++◌, Some, if◌then◌else◌, refl, sym, subst, arith}
+use Rattle.std.specs.List.{find}
 use Rattle.nq_base.specs.declared.Entry.{Entry}
 use Rattle.nq_model.proofs.Lists.{each-map}
 use Rattle.nq_model.specs.Journal.{Each}
@@ -9,11 +9,6 @@ use Rattle.nq_model.specs.Message.{Datagram}
 use Rattle.nq_model.specs.Server.{Phase, serving, recovering, Server, last_in}
 use Rattle.nq_model.specs.ServerStep.{receive, tick, booted, boot, crash}
 use Rattle.walk_tables.proofs.LogMoves.{timed, LogMoves, log-moves, tick-log-moves}
-
-pub entry-at : (P : Entry → Type 0) (entries : List Entry) (place : ℕ) (e : Entry) → Each P entries → slice_get entries place ≡ Some e → P e
-entry-at P [] place e each there = absurd (cc)
-entry-at P (x ∷ entries) zero e each there = let same : x ≡ e = cc in subst P same each.0
-entry-at P (x ∷ entries) (suc place) e each there = entry-at P entries place e each.1 there
 
 -- an entry's time is not after this one
 abbrev pub IsBy : ℕ → Entry → Type 0
@@ -56,7 +51,8 @@ by-moves s d log by = record {
 }
 
 -- the times are not after the server's after a datagram
-pub by-receive : (s : Server) (sender next : ℕ) (d : Datagram) (log : List Entry) → LogBy s.now log → LogBy s.now (timed (receive s sender next d).entries ++ log)
+pub by-receive : (s : Server) (sender next : ℕ) (d : Datagram) (log : List Entry) → LogBy s.now log
+    → LogBy s.now (timed (receive s sender next d).entries ++ log)
 by-receive s sender next d log by = log-moves s sender next d log (λ kept phase table after. LogBy s.now after) (by-moves s d log by)
 
 -- and after a tick
@@ -93,7 +89,8 @@ heard-by time log by = each-map (IsBy time) (IsHeard time) log (by-heard time) b
 heard-served : (phase : Phase) (log : List Entry) → phase ≡ serving → HeardAll phase log
 heard-served phase log p = subst (λ p. HeardAll p log) (sym p) tt
 
-heard-moves : (s : Server) (d : Datagram) (log : List Entry) → LogBy s.now log → HeardAll s.phase log → LogMoves s d log (λ kept phase table after. HeardAll phase after)
+heard-moves : (s : Server) (d : Datagram) (log : List Entry) → LogBy s.now log → HeardAll s.phase log
+    → LogMoves s d log (λ kept phase table after. HeardAll phase after)
 heard-moves s d log by h = record {
   stays = h;
   decided = λ kept phase table after who line inc same q. q;
@@ -109,7 +106,8 @@ heard-moves s d log by h = record {
   removing = λ who f serves current found c. h;
 }
 
-pub heard-receive : (s : Server) (sender next : ℕ) (d : Datagram) (log : List Entry) → LogBy s.now log → HeardAll s.phase log → HeardAll (receive s sender next d).server.phase (timed (receive s sender next d).entries ++ log)
+pub heard-receive : (s : Server) (sender next : ℕ) (d : Datagram) (log : List Entry) → LogBy s.now log → HeardAll s.phase log
+    → HeardAll (receive s sender next d).server.phase (timed (receive s sender next d).entries ++ log)
 heard-receive s sender next d log by h = log-moves s sender next d log (λ kept phase table after. HeardAll phase after) (heard-moves s d log by h)
 
 pub heard-tick : (s : Server) (now : ℕ) (log : List Entry) → HeardAll s.phase log → HeardAll (tick s now).server.phase (timed (tick s now).entries ++ log)
@@ -120,11 +118,13 @@ heard-tick s now log h = tick-log-moves s now log (λ kept phase table after. He
   ending_writing = λ row p due. heard-served s.phase _ p;
 })
 
-pub heard-crash : (s : Server) (longest : ℕ) (log : List Entry) → LogBy s.now log → HeardAll (crash s longest).server.phase (timed (crash s longest).entries ++ log)
+pub heard-crash : (s : Server) (longest : ℕ) (log : List Entry) → LogBy s.now log
+    → HeardAll (crash s longest).server.phase (timed (crash s longest).entries ++ log)
 unfolding crash boot
 heard-crash s longest log by = in-phase (s.kept.opened == 0)
   where
-    in-phase : (b : Bool) → HeardAll (if b then serving else recovering (s.now + s.kept.longest + 8) s.now (last_in s.phase s.table)) (Entry.X (s.kept.boot + 1) s.now (booted s.kept longest).longest ∷ log)
+    in-phase : (b : Bool) → HeardAll (if b then serving else recovering (s.now + s.kept.longest + 8) s.now (last_in s.phase s.table))
+        (Entry.X (s.kept.boot + 1) s.now (booted s.kept longest).longest ∷ log)
     in-phase true = tt
     in-phase false = (tt, heard-by s.now log by)
 
@@ -141,7 +141,8 @@ ToldBoot booted boot longest (recovering until heard last) log = find is_boot lo
 told-served : (booted boot longest : ℕ) (phase : Phase) (log : List Entry) → phase ≡ serving → ToldBoot booted boot longest phase log
 told-served booted boot longest phase log p = subst (λ p. ToldBoot booted boot longest p log) (sym p) tt
 
-told-moves : (booted : ℕ) (s : Server) (d : Datagram) (log : List Entry) → ToldBoot booted s.kept.boot s.kept.longest s.phase log → LogMoves s d log (λ kept phase table after. ToldBoot booted kept.boot kept.longest phase after)
+told-moves : (booted : ℕ) (s : Server) (d : Datagram) (log : List Entry) → ToldBoot booted s.kept.boot s.kept.longest s.phase log
+    → LogMoves s d log (λ kept phase table after. ToldBoot booted kept.boot kept.longest phase after)
 unfolding with_row with_files with_new_file
 told-moves booted s d log told = record {
   stays = told;
@@ -154,14 +155,20 @@ told-moves booted s d log told = record {
   creating = λ name blocks serves can. told;
   changing = λ who f file serves current found same c. told;
   storing = λ who f file base row block first last serves current found same can. told-served booted _ _ s.phase _ serves;
-  storing_recovering = λ who f file block first final until heard last current p found same. subst (λ p. ToldBoot booted s.kept.boot s.kept.longest p log) p told;
+  storing_recovering =
+      λ who f file block first final until heard last current p found same. subst (λ p. ToldBoot booted s.kept.boot s.kept.longest p log) p told;
   removing = λ who f serves current found c. told;
 }
 
-pub told-receive : (booted : ℕ) (s : Server) (sender next : ℕ) (d : Datagram) (log : List Entry) → ToldBoot booted s.kept.boot s.kept.longest s.phase log → ToldBoot booted (receive s sender next d).server.kept.boot (receive s sender next d).server.kept.longest (receive s sender next d).server.phase (timed (receive s sender next d).entries ++ log)
-told-receive booted s sender next d log told = log-moves s sender next d log (λ kept phase table after. ToldBoot booted kept.boot kept.longest phase after) (told-moves booted s d log told)
+pub told-receive : (booted : ℕ) (s : Server) (sender next : ℕ) (d : Datagram) (log : List Entry)
+    → ToldBoot booted s.kept.boot s.kept.longest s.phase log
+    → ToldBoot booted (receive s sender next d).server.kept.boot (receive s sender next d).server.kept.longest (receive s sender next d).server.phase
+    (timed (receive s sender next d).entries ++ log)
+told-receive booted s sender next d log told =
+    log-moves s sender next d log (λ kept phase table after. ToldBoot booted kept.boot kept.longest phase after) (told-moves booted s d log told)
 
-pub told-tick : (booted : ℕ) (s : Server) (now : ℕ) (log : List Entry) → ToldBoot booted s.kept.boot s.kept.longest s.phase log → ToldBoot booted (tick s now).server.kept.boot (tick s now).server.kept.longest (tick s now).server.phase (timed (tick s now).entries ++ log)
+pub told-tick : (booted : ℕ) (s : Server) (now : ℕ) (log : List Entry) → ToldBoot booted s.kept.boot s.kept.longest s.phase log
+    → ToldBoot booted (tick s now).server.kept.boot (tick s now).server.kept.longest (tick s now).server.phase (timed (tick s now).entries ++ log)
 told-tick booted s now log told = tick-log-moves s now log (λ kept phase table after. ToldBoot booted kept.boot kept.longest phase after) (record {
   waits = λ until heard last p goes_on. told;
   opening = λ until heard last p over. tt;
@@ -169,10 +176,19 @@ told-tick booted s now log told = tick-log-moves s now log (λ kept phase table 
   ending_writing = λ row p due. told-served booted _ _ s.phase _ p;
 })
 
-pub told-crash : (s : Server) (longest : ℕ) (log : List Entry) → ToldBoot s.now (crash s longest).server.kept.boot (crash s longest).server.kept.longest (crash s longest).server.phase (timed (crash s longest).entries ++ log)
+pub told-crash : (s : Server) (longest : ℕ) (log : List Entry)
+    → ToldBoot s.now (crash s longest).server.kept.boot (crash s longest).server.kept.longest (crash s longest).server.phase
+    (timed (crash s longest).entries ++ log)
 unfolding crash boot
 told-crash s longest log = in-phase (s.kept.opened == 0)
   where
-    in-phase : (b : Bool) → ToldBoot s.now (if b then record s.kept { boot = s.kept.boot + 1; opened = s.kept.boot + 1; longest = longest } else record s.kept { boot = s.kept.boot + 1 }).boot (if b then record s.kept { boot = s.kept.boot + 1; opened = s.kept.boot + 1; longest = longest } else record s.kept { boot = s.kept.boot + 1 }).longest (if b then serving else recovering (s.now + s.kept.longest + 8) s.now (last_in s.phase s.table)) (Entry.X (s.kept.boot + 1) s.now (if b then record s.kept { boot = s.kept.boot + 1; opened = s.kept.boot + 1; longest = longest } else record s.kept { boot = s.kept.boot + 1 }).longest ∷ log)
+    in-phase : (b : Bool) → ToldBoot s.now
+        (if b then record s.kept { boot = s.kept.boot + 1; opened = s.kept.boot + 1; longest = longest } else record s.kept
+        { boot = s.kept.boot + 1 }).boot
+        (if b then record s.kept { boot = s.kept.boot + 1; opened = s.kept.boot + 1; longest = longest } else record s.kept
+        { boot = s.kept.boot + 1 }).longest (if b then serving else recovering (s.now + s.kept.longest + 8) s.now (last_in s.phase s.table))
+        (Entry.X (s.kept.boot + 1) s.now
+        (if b then record s.kept { boot = s.kept.boot + 1; opened = s.kept.boot + 1; longest = longest } else record s.kept
+        { boot = s.kept.boot + 1 }).longest ∷ log)
     in-phase true = tt
     in-phase false = refl

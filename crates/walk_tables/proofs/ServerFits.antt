@@ -23,7 +23,8 @@ pub record ServerFits (most booted : ℕ) (s : Server) : Type 0 where
   pub waits : PhaseWaitsOf booted s
 
 -- a first boot over a fitting kept state, which knows no last table
-pub fits-boot : (most : ℕ) (kept : Kept) (longest now : ℕ) → kept.opened ≡ 0 → shortest_term ≤ longest → longest ≤ most → shortest_term ≤ kept.longest → kept.longest ≤ most → IdsFit kept.files kept.next → LinesFit kept.hosts → ServerFits most now (boot kept longest now None)
+pub fits-boot : (most : ℕ) (kept : Kept) (longest now : ℕ) → kept.opened ≡ 0 → shortest_term ≤ longest → longest ≤ most → shortest_term ≤ kept.longest
+    → kept.longest ≤ most → IdsFit kept.files kept.next → LinesFit kept.hosts → ServerFits most now (boot kept longest now None)
 unfolding empty_table
 fits-boot most kept longest now first long few kept_long kept_few ids lines = record {
   boots = boots-boot kept longest now None (omega arith) (sym first);

@@ -24,15 +24,21 @@ pub record TermsFit (most : ℕ) (phase : Phase) (kept_longest longest : ℕ) : 
 abbrev pub TermsFitOf : (most : ℕ) → Server → Type 0
 TermsFitOf most s = TermsFit most s.phase s.kept.longest s.longest
 
-terms-recovering : (most : ℕ) (phase : Phase) (kept_longest longest until heard : ℕ) (last : Option Table) → TermsFit most phase kept_longest longest → TermsFit most (recovering until heard last) kept_longest longest
-terms-recovering most phase kept_longest longest until heard last f = record { long = f.long; few = f.few; kept_long = f.kept_long; kept_few = f.kept_few; same = λ e. absurd (cc) }
+terms-recovering : (most : ℕ) (phase : Phase) (kept_longest longest until heard : ℕ) (last : Option Table) → TermsFit most phase kept_longest longest
+    → TermsFit most (recovering until heard last) kept_longest longest
+terms-recovering most phase kept_longest longest until heard last f =
+    record { long = f.long; few = f.few; kept_long = f.kept_long; kept_few = f.kept_few; same = λ e. absurd (cc) }
 
 terms-moves : (most : ℕ) (s : Server) (d : Datagram) → TermsFitOf most s → ServerMoves s d (λ kept phase table. TermsFit most phase kept.longest s.longest)
-terms-moves most s d f = phase-moves s d (λ longest phase. TermsFit most phase longest s.longest) f (λ until heard last p. terms-recovering most s.phase s.kept.longest s.longest (max until (s.now + write_slack)) s.now last f)
+terms-moves most s d f =
+    phase-moves s d (λ longest phase. TermsFit most phase longest s.longest) f
+    (λ until heard last p. terms-recovering most s.phase s.kept.longest s.longest (max until (s.now + write_slack)) s.now last f)
 
 pub terms-receive : (most : ℕ) (s : Server) (sender next : ℕ) (d : Datagram) → TermsFitOf most s → TermsFitOf most (receive s sender next d).server
 terms-receive most s sender next d f =
-    subst (λ longest. TermsFit most (receive s sender next d).server.phase (receive s sender next d).server.kept.longest longest) (sym (receive-keeps s sender next d).0) (server-moves s sender next d (λ kept phase table. TermsFit most phase kept.longest s.longest) (terms-moves most s d f))
+    subst (λ longest. TermsFit most (receive s sender next d).server.phase (receive s sender next d).server.kept.longest longest)
+    (sym (receive-keeps s sender next d).0)
+    (server-moves s sender next d (λ kept phase table. TermsFit most phase kept.longest s.longest) (terms-moves most s d f))
 
 pub fence-longest : (kept : Kept) (o : Option File) → (fence kept o).longest ≡ kept.longest
 unfolding with_files
@@ -41,7 +47,8 @@ fence-longest kept (Some f) = refl
 
 pub terms-tick : (most : ℕ) (s : Server) (now : ℕ) → TermsFitOf most s → TermsFitOf most (tick s now).server
 terms-tick most s now f =
-    subst (λ longest. TermsFit most (tick s now).server.phase (tick s now).server.kept.longest longest) (sym (tick-keeps s now).0) (tick-moves s now (λ kept phase table. TermsFit most phase kept.longest s.longest) (record {
+    subst (λ longest. TermsFit most (tick s now).server.phase (tick s now).server.kept.longest longest) (sym (tick-keeps s now).0)
+    (tick-moves s now (λ kept phase table. TermsFit most phase kept.longest s.longest) (record {
       waits = λ until heard last p goes_on. f;
       opening = λ until heard last p over. record { long = f.long; few = f.few; kept_long = f.long; kept_few = f.few; same = λ e. refl };
       ends_reading = λ p. f;
@@ -49,15 +56,19 @@ terms-tick most s now f =
     }))
 
 -- the terms fit after a boot with a fitting term
-pub terms-boot : (most : ℕ) (kept : Kept) (longest now : ℕ) (last : Option Table) → shortest_term ≤ longest → longest ≤ most → shortest_term ≤ kept.longest → kept.longest ≤ most → TermsFitOf most (boot kept longest now last)
+pub terms-boot : (most : ℕ) (kept : Kept) (longest now : ℕ) (last : Option Table) → shortest_term ≤ longest → longest ≤ most
+    → shortest_term ≤ kept.longest → kept.longest ≤ most → TermsFitOf most (boot kept longest now last)
 unfolding boot
 terms-boot most kept longest now last long few kept_long kept_few = by (kept.opened == 0)
   where
-    by : (b : Bool) → TermsFit most (if b then serving else recovering (now + kept.longest + 8) now last) (if b then record kept { boot = kept.boot + 1; opened = kept.boot + 1; longest = longest } else record kept { boot = kept.boot + 1 }).longest longest
+    by : (b : Bool) → TermsFit most (if b then serving else recovering (now + kept.longest + 8) now last)
+        (if b then record kept { boot = kept.boot + 1; opened = kept.boot + 1; longest = longest } else record kept { boot = kept.boot + 1 }).longest
+        longest
     by true = record { long = long; few = few; kept_long = long; kept_few = few; same = λ e. refl }
     by false = record { long = long; few = few; kept_long = kept_long; kept_few = kept_few; same = λ e. absurd (cc) }
 
-pub terms-crash : (most : ℕ) (s : Server) (longest : ℕ) → shortest_term ≤ longest → longest ≤ most → TermsFitOf most s → TermsFitOf most (crash s longest).server
+pub terms-crash : (most : ℕ) (s : Server) (longest : ℕ) → shortest_term ≤ longest → longest ≤ most → TermsFitOf most s
+    → TermsFitOf most (crash s longest).server
 unfolding crash
 terms-crash most s longest long few f = terms-boot most s.kept longest s.now (last_in s.phase s.table) long few f.kept_long f.kept_few
 
@@ -68,7 +79,8 @@ IdsFit files next = (id : ℕ) (f : File) → find_file id files ≡ Some f → 
 abbrev pub IdsFitOf : Server → Type 0
 IdsFitOf s = IdsFit s.kept.files s.kept.next
 
-ids-replaced : (files : List File) (next : ℕ) (file f : File) → find_file f.id files ≡ Some f → file.id ≡ f.id → IdsFit files next → IdsFit (replace_file file files) next
+ids-replaced : (files : List File) (next : ℕ) (file f : File) → find_file f.id files ≡ Some f → file.id ≡ f.id → IdsFit files next
+    → IdsFit (replace_file file files) next
 ids-replaced files next file f there same ids = λ id g found. by id g (found-replaced id file g files found)
   where
     by : (id : ℕ) (g : File) → ((id ≡ file.id) × (g ≡ file)) ⊎ ((id ≢ file.id) × (find_file id files ≡ Some g)) → id < next
@@ -87,7 +99,8 @@ ids-removed files next removed ids = λ id g found. by id g (cases_eq id removed
   where
     by : (id : ℕ) (g : File) → (id ≡ removed) ⊎ (id ≡ removed → ⊥) → find_file id (drop_file removed files) ≡ Some g → id < next
     by id g (inl e) found =
-        let none : find_file id (drop_file removed files) ≡ None = subst (λ i. find_file i (drop_file removed files) ≡ None) (sym e) (find-removed removed files) in absurd (cc)
+        let none : find_file id (drop_file removed files) ≡ None = subst (λ i. find_file i (drop_file removed files) ≡ None) (sym e)
+        (find-removed removed files) in absurd (cc)
     by id g (inr e) found = ids id g (sym (find-not-removed removed id files e) ∙ found)
 
 ids-moves : (s : Server) (d : Datagram) → IdsFitOf s → ServerMoves s d (λ kept phase table. IdsFit kept.files kept.next)
@@ -110,10 +123,12 @@ ids-moves s d f = record {
 pub ids-receive : (s : Server) (sender next : ℕ) (d : Datagram) → IdsFitOf s → IdsFitOf (receive s sender next d).server
 ids-receive s sender next d f = server-moves s sender next d (λ kept phase table. IdsFit kept.files kept.next) (ids-moves s d f)
 
-ids-fenced : (kept : Kept) (file : ℕ) (o : Option File) → find_file file kept.files ≡ o → IdsFit kept.files kept.next → IdsFit (fence kept o).files (fence kept o).next
+ids-fenced : (kept : Kept) (file : ℕ) (o : Option File) → find_file file kept.files ≡ o → IdsFit kept.files kept.next
+    → IdsFit (fence kept o).files (fence kept o).next
 unfolding with_files fenced_file
 ids-fenced kept file None there f = f
-ids-fenced kept file (Some g) there f = ids-replaced kept.files kept.next (fenced_file g) g (ap (λ i. find_file i kept.files) (found-file file kept.files g there) ∙ there) refl f
+ids-fenced kept file (Some g) there f =
+    ids-replaced kept.files kept.next (fenced_file g) g (ap (λ i. find_file i kept.files) (found-file file kept.files g there) ∙ there) refl f
 
 pub ids-tick : (s : Server) (now : ℕ) → IdsFitOf s → IdsFitOf (tick s now).server
 ids-tick s now f = tick-moves s now (λ kept phase table. IdsFit kept.files kept.next) (record {
@@ -127,7 +142,10 @@ pub ids-boot : (kept : Kept) (longest now : ℕ) (last : Option Table) → IdsFi
 unfolding boot
 ids-boot kept longest now last f = by (kept.opened == 0)
   where
-    by : (b : Bool) → IdsFit (if b then record kept { boot = kept.boot + 1; opened = kept.boot + 1; longest = longest } else record kept { boot = kept.boot + 1 }).files (if b then record kept { boot = kept.boot + 1; opened = kept.boot + 1; longest = longest } else record kept { boot = kept.boot + 1 }).next
+    by : (b : Bool)
+        → IdsFit (if b then record kept { boot = kept.boot + 1; opened = kept.boot + 1; longest = longest } else record kept
+        { boot = kept.boot + 1 }).files
+        (if b then record kept { boot = kept.boot + 1; opened = kept.boot + 1; longest = longest } else record kept { boot = kept.boot + 1 }).next
     by true = f
     by false = f
 
@@ -179,7 +197,9 @@ pub lines-boot : (kept : Kept) (longest now : ℕ) (last : Option Table) → Lin
 unfolding boot
 lines-boot kept longest now last f = by (kept.opened == 0)
   where
-    by : (b : Bool) → LinesFit (if b then record kept { boot = kept.boot + 1; opened = kept.boot + 1; longest = longest } else record kept { boot = kept.boot + 1 }).hosts
+    by : (b : Bool)
+        → LinesFit (if b then record kept { boot = kept.boot + 1; opened = kept.boot + 1; longest = longest } else record kept
+        { boot = kept.boot + 1 }).hosts
     by true = f
     by false = f
 
@@ -203,25 +223,38 @@ abbrev pub PhaseWaitsOf : (booted : ℕ) → Server → Type 0
 PhaseWaitsOf booted s = PhaseWaits booted s.now s.kept.longest s.phase
 
 waits-more : (booted now longest until heard : ℕ) → Waits booted now longest until heard → Waits booted now longest (max until (now + write_slack)) now
-waits-more booted now longest until heard w = record { after_leases = omega (arith, w.after_leases); after_writes = omega arith; heard_since = omega (arith, w.heard_since, w.heard_by_now); heard_by_now = omega arith }
+waits-more booted now longest until heard w =
+    record {
+      after_leases = omega (arith, w.after_leases);
+      after_writes = omega arith;
+      heard_since = omega (arith, w.heard_since, w.heard_by_now);
+      heard_by_now = omega arith;
+    }
 
-waits-moves : (booted : ℕ) (s : Server) (d : Datagram) → PhaseWaitsOf booted s → ServerMoves s d (λ kept phase table. PhaseWaits booted s.now kept.longest phase)
-waits-moves booted s d f = phase-moves s d (λ longest phase. PhaseWaits booted s.now longest phase) f (λ until heard last p. waits-more booted s.now s.kept.longest until heard (subst (PhaseWaits booted s.now s.kept.longest) p f))
+waits-moves : (booted : ℕ) (s : Server) (d : Datagram) → PhaseWaitsOf booted s
+    → ServerMoves s d (λ kept phase table. PhaseWaits booted s.now kept.longest phase)
+waits-moves booted s d f =
+    phase-moves s d (λ longest phase. PhaseWaits booted s.now longest phase) f
+    (λ until heard last p. waits-more booted s.now s.kept.longest until heard (subst (PhaseWaits booted s.now s.kept.longest) p f))
 
 pub waits-receive : (booted : ℕ) (s : Server) (sender next : ℕ) (d : Datagram) → PhaseWaitsOf booted s → PhaseWaitsOf booted (receive s sender next d).server
 waits-receive booted s sender next d f =
-    subst (λ now. PhaseWaits booted now (receive s sender next d).server.kept.longest (receive s sender next d).server.phase) (sym (receive-keeps s sender next d).1) (server-moves s sender next d (λ kept phase table. PhaseWaits booted s.now kept.longest phase) (waits-moves booted s d f))
+    subst (λ now. PhaseWaits booted now (receive s sender next d).server.kept.longest (receive s sender next d).server.phase)
+    (sym (receive-keeps s sender next d).1)
+    (server-moves s sender next d (λ kept phase table. PhaseWaits booted s.now kept.longest phase) (waits-moves booted s d f))
 
 waits-later : (booted now later longest : ℕ) (phase : Phase) → now ≤ later → PhaseWaits booted now longest phase → PhaseWaits booted later longest phase
 waits-later booted now later longest serving h f = f
-waits-later booted now later longest (recovering until heard last) h f = record { after_leases = f.after_leases; after_writes = f.after_writes; heard_since = f.heard_since; heard_by_now = omega (arith, f.heard_by_now) }
+waits-later booted now later longest (recovering until heard last) h f =
+    record { after_leases = f.after_leases; after_writes = f.after_writes; heard_since = f.heard_since; heard_by_now = omega (arith, f.heard_by_now) }
 
 waits-served : (booted now longest : ℕ) (phase : Phase) → phase ≡ serving → PhaseWaits booted now longest phase
 waits-served booted now longest phase p = subst (PhaseWaits booted now longest) (sym p) tt
 
 pub waits-tick : (booted : ℕ) (s : Server) (now : ℕ) → s.now ≤ now → PhaseWaitsOf booted s → PhaseWaitsOf booted (tick s now).server
 waits-tick booted s now later f =
-    subst (λ time. PhaseWaits booted time (tick s now).server.kept.longest (tick s now).server.phase) (sym (tick-keeps s now).1) (tick-moves s now (λ kept phase table. PhaseWaits booted now kept.longest phase) (record {
+    subst (λ time. PhaseWaits booted time (tick s now).server.kept.longest (tick s now).server.phase) (sym (tick-keeps s now).1)
+    (tick-moves s now (λ kept phase table. PhaseWaits booted now kept.longest phase) (record {
       waits = λ until heard last p goes_on. waits-later booted s.now now s.kept.longest s.phase later f;
       opening = λ until heard last p over. tt;
       ends_reading = λ p. waits-served booted now s.kept.longest s.phase p;
@@ -233,7 +266,9 @@ pub waits-boot : (kept : Kept) (longest now : ℕ) (last : Option Table) → Pha
 unfolding boot
 waits-boot kept longest now last = by (kept.opened == 0)
   where
-    by : (b : Bool) → PhaseWaits now now (if b then record kept { boot = kept.boot + 1; opened = kept.boot + 1; longest = longest } else record kept { boot = kept.boot + 1 }).longest (if b then serving else recovering (now + kept.longest + 8) now last)
+    by : (b : Bool) → PhaseWaits now now
+        (if b then record kept { boot = kept.boot + 1; opened = kept.boot + 1; longest = longest } else record kept { boot = kept.boot + 1 }).longest
+        (if b then serving else recovering (now + kept.longest + 8) now last)
     by true = tt
     by false = record { after_leases = omega arith; after_writes = omega arith; heard_since = omega arith; heard_by_now = omega arith }
 
