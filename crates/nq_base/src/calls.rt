@@ -1,12 +1,14 @@
 //! What users call, and the events of a schedule.
 
-ghost use Rattle.std.specs.Prelude.{◌≡◌};
+ghost use Rattle.std.specs.Prelude.{◌≡◌, IfOk};
 ghost use Rattle.nq_base.specs.Calls.{told};
 
 use crate::blocks::Block;
 use crate::entries::Told;
 use crate::names::Name;
 use crate::numbers::{BlockNo, FileId, Host};
+use nq_memory::NoMemory;
+use std::alloc::Global;
 
 /// A call of a user at a client.
 #[derive(Drop)]
@@ -98,6 +100,48 @@ impl Call {
             },
             Call::Remove { file } => Told::Remove { file: *file },
         }
+    }
+
+    /// A second call of the same words. A body that a number fills takes no memory.
+    ///
+    /// # Errors
+    ///
+    /// Only want of memory.
+    pub fn copied(&self, alloc: Global) -> Result<Call, NoMemory>
+        ensures { IfOk result (λ c. c ≡ self.now) }
+    {
+        Ok(match self {
+            Call::Create { name, blocks } => Call::Create {
+                name: *name,
+                blocks: *blocks,
+            },
+            Call::Lookup { name } => Call::Lookup { name: *name },
+            Call::Attr { file } => Call::Attr { file: *file },
+            Call::Read { file, block } => Call::Read {
+                file: *file,
+                block: *block,
+            },
+            Call::Fetch { file, block } => Call::Fetch {
+                file: *file,
+                block: *block,
+            },
+            Call::Write { file, block, body } => Call::Write {
+                file: *file,
+                block: *block,
+                body: body.copied(alloc)?,
+            },
+            Call::WriteSync { file, block, body } => Call::WriteSync {
+                file: *file,
+                block: *block,
+                body: body.copied(alloc)?,
+            },
+            Call::Sync { file } => Call::Sync { file: *file },
+            Call::Resize { file, blocks } => Call::Resize {
+                file: *file,
+                blocks: *blocks,
+            },
+            Call::Remove { file } => Call::Remove { file: *file },
+        })
     }
 }
 

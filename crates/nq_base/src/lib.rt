@@ -35,6 +35,3 @@ pub use nq_memory::NoMemory;
 pub use numbers::{BlockNo, FileId, Host, Inc, Number, Rev, Seq, Ticks};
 pub use requests::{PushBase, Refusal, Reply, Request};
 pub use tags::{Grant, Mode, Party, Tag, Want, Who};
-
-#[cfg(test)]
-mod tests;

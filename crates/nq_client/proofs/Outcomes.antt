@@ -12,7 +12,7 @@ use Rattle.nq_client.proofs.Counts.{within}
 use Rattle.nq_client.proofs.Received.{heard-within}
 use Rattle.nq_client.proofs.Settled.{is_given}
 use Rattle.nq_client.specs.Counted.{Counted, IsWithin}
-use Rattle.nq_client.specs.Entries.{Tells}
+use Rattle.nq_client_parts.specs.Entries.{Tells}
 use Rattle.nq_client.specs.Finishing.{Grows, to_server}
 use Rattle.nq_client.specs.Outcome.{Called, Gives, or_pending}
 use Rattle.nq_client.specs.Receiving.{IsHeeded, most_entries, on_heard}

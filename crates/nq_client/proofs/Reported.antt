@@ -2,7 +2,7 @@
 use Rattle.std.proofs.Common.{◌≡◌, ℕ, Bool, true, false, not, List, [], ◌∷◌, filter, Option, Some, None, IsTrue, if◌then◌else◌, refl, ap}
 use Rattle.std.specs.List.{list_any}
 use Rattle.nq_base.specs.declared.Push.{Push}
-use Rattle.nq_client.specs.Lost.{waiting}
+use Rattle.nq_client_parts.specs.Lost.{waiting}
 use Rattle.nq_model.specs.Client.{ClientStep, UnderWay, is_clean_in, is_push_of, other_dirty, push_passes}
 use Rattle.nq_model.specs.Hear.{other_push, reports_to, waits_for}
 use Rattle.nq_model.specs.Settle.{names_losses}

@@ -2,7 +2,7 @@
 use Rattle.std.proofs.Common.{◌≡◌, ℕ, ◌+◌, ◌==◌, not, List, [], ◌∷◌, ◌++◌, Some, sym, ap, ◌∙◌}
 use Rattle.nq_base.specs.declared.Request.{Request}
 use Rattle.nq_base.specs.declared.Tag.{Tag}
-use Rattle.nq_client.proofs.NoticeList.{filter-twice, of-file}
+use Rattle.nq_client_parts.proofs.NoticeList.{filter-twice, of-file}
 use Rattle.nq_model.specs.Client.{Notice, ClientStep, in_state, drop_lease, drop_notice, notice_on}
 use Rattle.nq_model.specs.Hear.{vacates_lease, vacates_noticed}
 use Rattle.nq_model.specs.Message.{call}

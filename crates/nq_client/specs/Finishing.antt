@@ -1,7 +1,7 @@
 -- What a step gives to what it is lent.
 use Rattle.std.specs.Prelude.{◌≡◌, ◌≤◌, ◌++◌, ℕ, true, List, All, map}
 use Rattle.nq_base.specs.declared.Party.{Party}
-use Rattle.nq_client.specs.Entries.{Tells}
+use Rattle.nq_client_parts.specs.Entries.{Tells}
 use Rattle.nq_client.specs.declared.finishing.Letters.{Letters}
 use Rattle.nq_client.specs.declared.rooms.Rooms.{Rooms}
 use Rattle.nq_client.specs.declared.step.Step.{Step}

@@ -1,17 +1,10 @@
 pub mod Answering
-pub mod Asked
 pub mod Asking
-pub mod ByFile
 pub mod Calling
 pub mod Counted
-pub mod Entries
 pub mod Finishing
-pub mod Granting
 pub mod Hearing
-pub mod Leases
 pub mod Losing
-pub mod Lost
-pub mod Notices
 pub mod Outcome
 pub mod Prepared
 pub mod Reading

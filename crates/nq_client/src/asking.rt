@@ -12,12 +12,12 @@ ghost use Rattle.nq_client.specs.Settling.{called_body};
 ghost use Rattle.nq_client.specs.State.{client_of};
 ghost use Rattle.nq_client.specs.Step.{HasNumbers, step_of};
 
-use crate::asked::Job;
 use crate::settling::called_body;
 use crate::state::State;
 use crate::step::Step;
 use nq_base::{BlockNo, Call, FileId, Mode, Name, Number, Request, Seq, Spare, Ticks, Want};
 use nq_client_leases::Held;
+use nq_client_parts::Job;
 
 /// Whether a live non-caching lease is held.
 fn shares(held: &Held, now: Ticks) -> bool

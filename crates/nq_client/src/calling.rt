@@ -11,11 +11,11 @@ ghost use Rattle.nq_client.specs.Prepared.{Leaves};
 ghost use Rattle.nq_client.specs.Calling.{HasRoomToCall, IsNamedFor};
 ghost use Rattle.nq_client.specs.Tied.{Tied};
 
-use crate::losses::spans_of;
 use crate::rooms::Rooms;
 use crate::state::{State, UnderWay};
 use crate::step::Step;
 use nq_base::{Answer, Call, Entry, FileId, Losses, NoMemory, Said, Spans};
+use nq_client_parts::spans_of;
 use std::alloc::Global;
 
 /// The losses that a call is told before anything else, as its answer and as a journal names them.
@@ -53,48 +53,6 @@ fn changed_file(call: &Call) -> Option<FileId>
         | Call::Read { .. }
         | Call::Fetch { .. } => None,
     }
-}
-
-/// A second call of the same words.
-///
-/// # Errors
-///
-/// Only want of memory.
-pub(crate) fn copied(alloc: Global, call: &Call) -> Result<Call, NoMemory>
-    ensures { IfOk result (λ c. c ≡ call.now) }
-{
-    Ok(match call {
-        Call::Create { name, blocks } => Call::Create {
-            name: *name,
-            blocks: *blocks,
-        },
-        Call::Lookup { name } => Call::Lookup { name: *name },
-        Call::Attr { file } => Call::Attr { file: *file },
-        Call::Read { file, block } => Call::Read {
-            file: *file,
-            block: *block,
-        },
-        Call::Fetch { file, block } => Call::Fetch {
-            file: *file,
-            block: *block,
-        },
-        Call::Write { file, block, body } => Call::Write {
-            file: *file,
-            block: *block,
-            body: body.copied(alloc)?,
-        },
-        Call::WriteSync { file, block, body } => Call::WriteSync {
-            file: *file,
-            block: *block,
-            body: body.copied(alloc)?,
-        },
-        Call::Sync { file } => Call::Sync { file: *file },
-        Call::Resize { file, blocks } => Call::Resize {
-            file: *file,
-            blocks: *blocks,
-        },
-        Call::Remove { file } => Call::Remove { file: *file },
-    })
 }
 
 impl Step {

@@ -14,7 +14,6 @@ ghost use Rattle.nq_client.specs.Finishing.{to_server};
 ghost use Rattle.nq_client.specs.Outcome.{Called, Heeded, Received};
 ghost use Rattle.nq_client.specs.State.{call_of};
 
-use crate::calling::copied;
 use crate::finishing::Letters;
 use crate::heard::Heard;
 use crate::reading::read_cached;
@@ -134,7 +133,7 @@ impl Client {
         if self.taken == Client::MOST_TAKEN {
             return Answer::Spent;
         }
-        let Ok(own) = copied(self.step.state.alloc, call) else {
+        let Ok(own) = call.copied(self.step.state.alloc) else {
             return Answer::Memory;
         };
         let Ok(named) = room_for_call(&mut self.step, &mut self.letters, call, out, log) else {

@@ -10,9 +10,9 @@ ghost use Rattle.nq_client.specs.Prepared.{IsPrepared, Leaves};
 ghost use Rattle.nq_client.specs.Receiving.{file_at_stake};
 ghost use Rattle.nq_client.specs.Step.{HasRoom, step_of};
 
-use crate::granting::lets_cache;
 use crate::step::Step;
 use nq_base::{Block, BlockNo, FileId, Grant, NoMemory, Reply, Request, Ticks};
+use nq_client_parts::lets_cache;
 
 impl Step {
     /// READ of a block was done: a grant that came with it is taken, the block is cached under it, and the call is answered.

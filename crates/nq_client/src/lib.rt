@@ -2,25 +2,17 @@
 #![tactic(auto)]
 
 mod answering;
-mod asked;
 mod asking;
 mod calling;
 mod client;
-mod counting;
 mod done;
-mod due;
-mod entries;
 mod finishing;
-mod granting;
 mod heard;
 mod hearing;
 mod holding;
-mod leases;
 mod letters;
 mod losing;
-mod losses;
 mod next;
-mod notices;
 mod reading;
 mod receiving;
 mod replying;

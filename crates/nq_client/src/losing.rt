@@ -4,17 +4,16 @@ ghost use Rattle.std.specs.Prelude.{◌≡◌, ◌≤◌, ◌<◌, ◌+◌, ◌^
 ghost use Rattle.nq_model.specs.Client.{is_clean_in, notice_on};
 ghost use Rattle.nq_model.specs.Hear.{all_dirty_in, breaks_chain, loses, loss_of, losses_in, push_of, push_refused, reports, vacates_noticed, waits_for, without_lease};
 ghost use Rattle.nq_client.specs.Losing.{IsNamed, IsReadyFor, Keeps, SendsNothing};
-ghost use Rattle.nq_client.specs.Lost.{lost_entry, waiting};
+ghost use Rattle.nq_client_parts.specs.Lost.{lost_entry, waiting};
 ghost use Rattle.nq_client.specs.Prepared.{IsPrepared, Leaves};
 ghost use Rattle.nq_client.specs.State.{under_way};
 ghost use Rattle.nq_client.specs.Step.{HasRoom, step_of};
 
 use crate::calling::Named;
-use crate::entries::Entries;
-use crate::losses::{Unreported, spans_of};
 use crate::state::{State, UnderWay};
 use crate::step::Step;
 use nq_base::{Call, Entry, FileId, Loss, Losses, NoMemory, Push, Who};
+use nq_client_parts::{Entries, Unreported, spans_of};
 use nq_dirty::Dirty;
 use std::alloc::Global;
 
@@ -51,7 +50,7 @@ fn add_listed(dirty: &Dirty, place: usize, file: FileId, into: &mut Losses) -> R
 }
 
 /// The losses where all delayed writes of a file are lost.
-#[tactic(auto, using(crate::proofs::Found::found_more, crate::proofs::Found::found_all))]
+#[tactic(auto, using(nq_client_parts::proofs::Found::found_more, nq_client_parts::proofs::Found::found_all))]
 pub(crate) fn losses_in(alloc: Global, dirty: &Dirty, file: FileId) -> Result<Losses, NoMemory>
     ensures { IfOk result (λ l. l.items ≡ losses_in file dirty.now.dirty dirty.now.push) }
 {
@@ -64,7 +63,7 @@ pub(crate) fn losses_in(alloc: Global, dirty: &Dirty, file: FileId) -> Result<Lo
 }
 
 /// Notes losses in room that is there.
-#[tactic(auto, using(crate::proofs::Found::noted_more))]
+#[tactic(auto, using(nq_client_parts::proofs::Found::noted_more))]
 pub(crate) fn note(who: &Who, losses: &Losses, entries: &mut Entries)
     requires { length losses.now.items ≤ entries.old.spare }
     ensures items { entries.new.items ≡ reverse (map (lost_entry who.now) losses.now.items) ++ entries.old.items }
@@ -159,7 +158,7 @@ pub(crate) fn ready_to_lose(state: &State, file: FileId) -> Result<Ready, NoMemo
 
 impl Step {
     /// All delayed writes of a file are lost; no answer named them yet. What a call that waits is told comes back.
-    #[tactic(auto, using(crate::proofs::Found::told_all, crate::proofs::Reported::clean_after), unfolding(nq_model::specs::Hear::loses))]
+    #[tactic(auto, using(nq_client_parts::proofs::Found::told_all, crate::proofs::Reported::clean_after), unfolding(nq_model::specs::Hear::loses))]
     fn loses(&mut self, file: FileId, ready: Ready) -> Named
         requires ready { IsReadyFor ready file self.old.state }
         requires entries { length (all_dirty_in file self.old.state.dirty.dirty self.old.state.dirty.push) ≤ self.old.entries.spare }

@@ -10,10 +10,10 @@ ghost use Rattle.nq_wire.specs.Parts.{IsWanted};
 ghost use Rattle.nq_client.specs.State.{client_of};
 ghost use Rattle.nq_client.specs.Step.{HasNumbers, step_of};
 
-use crate::asked::Job;
 use crate::step::Step;
 use nq_base::{FileId, Mode, Request, Spare};
 use nq_client_leases::Held;
+use nq_client_parts::Job;
 
 impl Step {
     /// Pushes the first delayed writes of a file, if there is a file; whether it sent some.

@@ -7,10 +7,10 @@ ghost use Rattle.nq_model.specs.Settle.{after_read, body_in, clean_after_read, c
 ghost use Rattle.nq_client.specs.Reading.{lets_read_block};
 ghost use Rattle.nq_client.specs.State.{client_of};
 
-use crate::leases::Leases;
 use crate::state::State;
 use nq_base::{Block, BlockNo, FileId, Spare, Ticks};
 use nq_cache::Cache;
+use nq_client_parts::Leases;
 use nq_dirty::Dirty;
 
 /// Whether a lease is held that runs, lets its holder cache, and has the block.

@@ -8,11 +8,10 @@ ghost use Rattle.nq_wire.specs.Lent.{lent_reply};
 ghost use Rattle.nq_client.specs.Receiving.{IsHeeded, at_stake, counts, file_at_stake, most_entries, on_call, on_heard};
 ghost use Rattle.nq_client.specs.State.{client_of};
 
-use crate::asked::Asked;
-use crate::counting::{holds_later, inc_of, reply_counts};
 use crate::hearing::is_same;
 use crate::state::State;
 use nq_base::{FileId, Request};
+use nq_client_parts::{Asked, holds_later, inc_of, reply_counts};
 use nq_datagrams::{Awaited, LentHeard, read_heard_in_place};
 use nq_wire::{LentReply, Procedure};
 

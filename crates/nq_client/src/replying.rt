@@ -8,15 +8,15 @@ ghost use Rattle.nq_base.specs.declared.Want.{Want};
 ghost use Rattle.nq_base.specs.declared.Who.{Who};
 ghost use Rattle.nq_model.specs.Client.{is_push_of, push_passes, pushing};
 ghost use Rattle.nq_model.specs.Hear.{done, done_push, done_renewal, refused, refused_push, replied};
-ghost use Rattle.nq_client.specs.Asked.{job_of};
+ghost use Rattle.nq_client_parts.specs.Asked.{job_of};
 ghost use Rattle.nq_client.specs.Prepared.{IsPrepared};
 ghost use Rattle.nq_client.specs.Receiving.{answered, at_stake, file_at_stake};
 ghost use Rattle.nq_client.specs.Step.{HasRoom, step_of};
 ghost use Rattle.nq_client.specs.Tied.{Tied, TiedFor};
 
-use crate::asked::{Asked, Job};
 use crate::step::Step;
 use nq_base::{Block, BlockNo, FileId, NoMemory, Refusal, Reply, Request, Ticks};
+use nq_client_parts::{Asked, Job};
 
 impl Step {
     /// A renewal was done. It was first sent at `sent`.

@@ -12,12 +12,11 @@ ghost use Rattle.nq_client.specs.Settling.{body_of_call, called_body, ended, goe
 ghost use Rattle.nq_client.specs.State.{under_way};
 ghost use Rattle.nq_client.specs.Step.{HasNumbers, HasRoom, step_of};
 
-use crate::asked::{Asked, Job};
-use crate::leases::Leases;
 use crate::reading::read_held;
 use crate::state::UnderWay;
 use crate::step::Step;
 use nq_base::{Answer, Block, BlockNo, Call, Entry, FileId, Number, Said, Spare, Ticks, Value};
+use nq_client_parts::{Asked, Job, Leases};
 
 /// What the lease on a file lets a call do with a block without a packet.
 #[derive(Clone, Copy)]

@@ -10,11 +10,11 @@ ghost use Rattle.nq_client.specs.Finishing.{to_server};
 ghost use Rattle.nq_client.specs.State.{client_of};
 ghost use Rattle.nq_client.specs.Step.{IsBegun, step_of};
 
-use crate::asked::Job;
 use crate::finishing::Letters;
 use crate::state::State;
 use crate::step::Step;
 use nq_base::{Journal, NoMemory, Request, Ticks, Who};
+use nq_client_parts::Job;
 use nq_wire::Outbox;
 use std::alloc::Global;
 

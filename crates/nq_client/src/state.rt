@@ -4,12 +4,9 @@ ghost use Rattle.std.specs.Prelude.{◌≡◌, IfOk};
 ghost use Rattle.nq_model.specs.ClientStep.{attached_client, fresh_client};
 ghost use Rattle.nq_client.specs.State.{client_of};
 
-use crate::asked::Asked;
-use crate::leases::Leases;
-use crate::losses::Unreported;
-use crate::notices::Notices;
 use nq_base::{Call, NoMemory, Number, Seq, Ticks, Who};
 use nq_cache::Cache;
+use nq_client_parts::{Asked, Leases, Notices, Unreported};
 use nq_dirty::Dirty;
 use std::alloc::Global;
 

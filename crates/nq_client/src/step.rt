@@ -3,10 +3,10 @@
 ghost use Rattle.std.specs.Prelude.{◌≡◌};
 ghost use Rattle.nq_client.specs.Step.{IsBegun};
 
-use crate::entries::Entries;
 use crate::state::State;
 use nq_base::Answer;
 use nq_client_leases::Vacancy;
+use nq_client_parts::Entries;
 
 /// A vacated message with its number.
 #[derive(Drop)]

@@ -7,12 +7,11 @@ ghost use Rattle.nq_model.specs.Hear.{answer_of, answers_call, holds_caching, is
 ghost use Rattle.nq_client.specs.Prepared.{Leaves};
 ghost use Rattle.nq_client.specs.Step.{step_of};
 
-use crate::counting::is_put_off;
-use crate::leases::Leases;
 use crate::step::Step;
 use nq_base::{Block, BlockNo, FileId, NoMemory, Refusal, Rev};
 use nq_cache::Cache;
 use nq_client_leases::Held;
+use nq_client_parts::{Leases, is_put_off};
 use nq_dirty::Dirty;
 use std::alloc::Global;
 

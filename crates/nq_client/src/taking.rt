@@ -8,12 +8,12 @@ ghost use Rattle.nq_client.specs.Prepared.{IsPrepared};
 ghost use Rattle.nq_client.specs.Step.{step_of};
 ghost use Rattle.nq_client.specs.Taking.{IsTaking};
 
-use crate::granting::caches_read;
 use crate::losing::{Ready, ready_to_lose};
 use crate::state::State;
 use crate::step::Step;
 use nq_base::{Block, BlockNo, FileId, Grant, NoMemory, Ticks};
 use nq_client_leases::{Held, Taken};
+use nq_client_parts::caches_read;
 
 /// A grant that is to be taken, and what this needs, made before anything changes.
 #[derive(Drop)]

@@ -1,4 +1,4 @@
-//! Time: clocks, the test of skew, and timers.
+//! Time: clocks, and the test of skew.
 //!
 //! The test of skew keeps three counts for each host and nothing of the run. Its contracts speak of every history of
 //! events that it may have followed: a tick of the server's clock is refused exactly where the history with that tick
@@ -11,7 +11,6 @@ mod leads;
 mod mem_clock;
 mod skew;
 mod std_clock;
-mod timer;
 
 pub use clock::Clock;
 pub use laws::other_events_are_no_ticks;
@@ -19,4 +18,3 @@ pub use mem_clock::MemClock;
 pub use nq_base::SkewBroken;
 pub use skew::Skew;
 pub use std_clock::StdClock;
-pub use timer::{Armed, Due};

@@ -14,6 +14,3 @@ pub use disk::{Disk, DiskFault};
 pub use file_disk::FileDisk;
 pub use mem_disk::{MemDisk, Room};
 pub use nq_memory::NoMemory;
-
-#[cfg(test)]
-mod tests;

@@ -4,7 +4,5 @@ pub mod MemSink
 pub mod MemSource
 pub mod Sink
 pub mod Source
-pub mod StdSink
-pub mod StdSource
 pub mod Told
 pub mod Whole

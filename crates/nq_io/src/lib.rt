@@ -1,5 +1,5 @@
-//! Where the bytes of a run come from and where they go: the traits `Source` and `Sink`, with an object in memory and an
-//! adapter of std for each, and `read_all`, which reads a source to its end.
+//! Where the bytes of a run come from and where they go: the traits `Source` and `Sink`, with an object in memory for
+//! each, and `read_all`, which reads a source to its end.
 //!
 //! A contract knows a source by the bytes left in it and a sink by the bytes that it holds, where the object tells
 //! them, and both by a count of their faults. An answer `Failed` comes only where that count rose in the call.
@@ -10,8 +10,6 @@ mod mem_sink;
 mod mem_source;
 mod sink;
 mod source;
-mod std_sink;
-mod std_source;
 mod whole;
 
 pub use calls::Calls;
@@ -20,6 +18,4 @@ pub use mem_source::MemSource;
 pub use nq_memory::NoMemory;
 pub use sink::{Put, Sink};
 pub use source::{Got, Source};
-pub use std_sink::StdSink;
-pub use std_source::StdSource;
 pub use whole::{Whole, read_all};

@@ -35,7 +35,7 @@ impl WireFault {
 
 /// The bytes are not in the grammar.
 #[derive(Clone, Copy, Debug, PartialEq, Eq)]
-pub(crate) struct Garbage;
+pub struct Garbage;
 
 impl From<XdrFault> for Garbage {
     ghost from_gives = { λ _ e. e ≡ garbage };

@@ -10,13 +10,13 @@ mod fault;
 pub mod laws;
 mod lent;
 mod outbox;
-mod parts;
+pub mod parts;
 mod procedure;
 mod replies;
 mod requests;
 mod status;
 
-pub use fault::WireFault;
+pub use fault::{Garbage, WireFault};
 pub use lent::{LentBlock, LentReply};
 pub use nq_base::{Party, PushBase, Refusal, Reply, Request};
 pub use nq_memory::NoMemory;

@@ -6,7 +6,7 @@ use Rattle.nq_base.specs.declared.Entry.{Entry}
 use Rattle.nq_base.specs.declared.Event.{Event}
 use Rattle.nq_base.specs.declared.Party.{Party}
 use Rattle.nq_client.specs.Counted.{Counted}
-use Rattle.nq_client.specs.Entries.{Tells}
+use Rattle.nq_client_parts.specs.Entries.{Tells}
 use Rattle.nq_client.specs.declared.heard.Heard.{Heard}
 use Rattle.nq_clock.specs.Counts.{SkewCounts}
 use Rattle.nq_clock.specs.Tracks.{Follows}

@@ -9,10 +9,10 @@ ghost use Rattle.nq_command.specs.declared.Command.{Command};
 
 use nq_base::{Host, Party};
 use nq_clock::StdClock;
-use nq_io::{StdSink, StdSource};
 use nq_keeper::ListKeeper;
 use nq_link::UdpLink;
 use nq_run::{Command, CutFate, Fate, HostileFate, LossyFate, NoMemory, SteadyFate, Words, run};
+use nq_streams::{StdSink, StdSource};
 use std::io::ErrorKind;
 use std::process::ExitCode;
 use std::{env, io};

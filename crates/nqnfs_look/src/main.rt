@@ -10,9 +10,10 @@ ghost use Rattle.std.specs.Prelude.{◌<◌, ◌^◌, length};
 
 use crate::words::view_of;
 use nq_ending::Ending;
-use nq_io::{MemSink, MemSource, Put, Sink, Source, StdSink, StdSource, Whole, read_all};
+use nq_io::{MemSink, MemSource, Put, Sink, Source, Whole, read_all};
 use nq_observe::{NoMemory, Shown, View, look};
 use nq_replay::replay;
+use nq_streams::{StdSink, StdSource};
 use std::alloc::Global;
 use std::io::ErrorKind;
 use std::process::ExitCode;

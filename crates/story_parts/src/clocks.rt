@@ -1,8 +1,8 @@
-//! Clocks and timers.
+//! Clocks.
 
 use anyhow::Result;
 use nq_base::Ticks;
-use nq_clock::{Armed, Clock, MemClock, StdClock};
+use nq_clock::{Clock, MemClock, StdClock};
 
 /// The next five readings of a clock.
 fn readings<C: Clock>(clock: &mut C) -> [u64; 5] {
@@ -13,17 +13,7 @@ fn readings<C: Clock>(clock: &mut C) -> [u64; 5] {
     readings
 }
 
-/// A word for whether a timer for time 5 is due.
-fn word_at(now: u64) -> &'static str {
-    match Armed::new(Ticks(5)).due(Ticks(now)) {
-        Ok(due) if due.at() == Ticks(5) => "due",
-        Ok(_) => "due at another time",
-        Err(_) => "armed",
-    }
-}
-
 /// A clock in memory, which stands still at its last reading. The machine's clock, which does not go back and has not run for a minute.
-/// A timer.
 pub(crate) fn clocks(rt: &HostRuntime) -> Result<()> {
     println!(rt; "== clocks")?;
     let told = vec![in rt.alloc(); Ticks(0), Ticks(3), Ticks(3), Ticks(7)]?;
@@ -32,6 +22,5 @@ pub(crate) fn clocks(rt: &HostRuntime) -> Result<()> {
     let mut machine = StdClock::new(rt.clone()?);
     let seen = readings(&mut machine);
     println!(rt; "{}", seen.is_sorted() && seen[4] < 60)?;
-    println!(rt; "{} {}", word_at(4), word_at(5))?;
     Ok(())
 }

@@ -13,9 +13,13 @@ use crate::lent::LentBlock;
 use nq_base::{Block, Grant, Host, Inc, Mode, Name, Rev, Spare, Tag, Want, Who};
 use nq_xdr::Reader;
 
-/// Who asks.
+/// Who asks: a host and its incarnation.
+///
+/// # Errors
+///
+/// [`Garbage`] where the bytes end before.
 #[tactic(auto, unfolding(crate::specs::Reading::head_at, crate::specs::Parts::head))]
-pub(crate) fn who(reader: &mut Reader) -> Result<Who, Garbage>
+pub fn who(reader: &mut Reader) -> Result<Who, Garbage>
     ensures found { Reads head IsWho reader.old reader.new result }
     ensures step { Gives (λ w. (w, reader.new)) result (head_at reader.old) }
 {
@@ -27,8 +31,13 @@ pub(crate) fn who(reader: &mut Reader) -> Result<Who, Garbage>
     })
 }
 
+/// The tag of a lease: the boot that granted it, and its number.
+///
+/// # Errors
+///
+/// [`Garbage`] where the bytes end before.
 #[tactic(auto, unfolding(crate::specs::Reading::tag_at, crate::specs::Parts::tag_bytes))]
-pub(crate) fn tag(reader: &mut Reader) -> Result<Tag, Garbage>
+pub fn tag(reader: &mut Reader) -> Result<Tag, Garbage>
     ensures found { Reads tag_bytes IsTag reader.old reader.new result }
     ensures step { Gives (λ t. (t, reader.new)) result (tag_at reader.old) }
 {
@@ -122,8 +131,13 @@ pub(crate) fn optional_want(reader: &mut Reader) -> Result<Option<Want>, Garbage
     }
 }
 
+/// A grant, where there is one (RFC 1014 section 3.18).
+///
+/// # Errors
+///
+/// [`Garbage`] where the bytes are none of this grammar.
 #[tactic(auto, unfolding(crate::specs::Reading::optional_at, crate::specs::Parts::optional))]
-pub(crate) fn optional_grant(reader: &mut Reader) -> Result<Option<Grant>, Garbage>
+pub fn optional_grant(reader: &mut Reader) -> Result<Option<Grant>, Garbage>
     ensures found { Reads (optional grant_bytes) (λ o. IfSome o IsGrant) reader.old reader.new result }
     ensures step { Gives (λ o. (o, reader.new)) result (optional_at grant_at reader.old) }
 {
@@ -158,8 +172,13 @@ fn name_of(bytes: &[u8]) -> Result<Name, Garbage>
     }
 }
 
+/// The name of a file.
+///
+/// # Errors
+///
+/// [`Garbage`] where the bytes are no opaque of the bytes of a name (RFC 1014 section 3.9).
 #[tactic(auto, unfolding(crate::specs::Reading::name_at))]
-pub(crate) fn name(reader: &mut Reader) -> Result<Name, Garbage>
+pub fn name(reader: &mut Reader) -> Result<Name, Garbage>
     ensures found { Reads opaque IsName reader.old reader.new result }
     ensures step { Gives (λ n. (n, reader.new)) result (name_at reader.old) }
 {
@@ -192,7 +211,11 @@ pub(crate) fn body(reader: &mut Reader, room: &mut Spare) -> Result<Block, Garba
 }
 
 /// Ends the reading.
-pub(crate) fn end(reader: Reader) -> Result<(), Garbage>
+///
+/// # Errors
+///
+/// [`Garbage`] where bytes are left.
+pub fn end(reader: Reader) -> Result<(), Garbage>
     ensures { IsOk result ↔ (reader.entry ≡ []) }
 {
     reader.end()?;

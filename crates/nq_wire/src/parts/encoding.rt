@@ -10,8 +10,13 @@ use crate::{NoMemory, PushBase};
 use nq_base::{Block, Grant, Mode, Name, Seen, Tag, Want, Who};
 use nq_xdr::Writer;
 
+/// Writes who asks.
+///
+/// # Errors
+///
+/// Only want of memory, and not where the writer has room for 8 bytes.
 #[tactic(auto, unfolding(crate::specs::Parts::head))]
-pub(crate) fn put_who(who: &Who, out: &mut Writer) -> Result<(), NoMemory>
+pub fn put_who(who: &Who, out: &mut Writer) -> Result<(), NoMemory>
     ensures written { OnOk result (out.new.bytes ≡ out.old.bytes ++ head who.now) }
     ensures fits { OnOk result (IsWho who.now) }
     ensures succeeds { 8 ≤ out.old.spare → IsOk result }
@@ -21,8 +26,13 @@ pub(crate) fn put_who(who: &Who, out: &mut Writer) -> Result<(), NoMemory>
     out.u32(who.inc.0)
 }
 
+/// Writes the tag of a lease.
+///
+/// # Errors
+///
+/// Only want of memory, and not where the writer has room for 12 bytes.
 #[tactic(auto, unfolding(crate::specs::Parts::tag_bytes))]
-pub(crate) fn put_tag(tag: &Tag, out: &mut Writer) -> Result<(), NoMemory>
+pub fn put_tag(tag: &Tag, out: &mut Writer) -> Result<(), NoMemory>
     ensures written { OnOk result (out.new.bytes ≡ out.old.bytes ++ tag_bytes tag.now) }
     ensures fits { OnOk result (IsTag tag.now) }
     ensures succeeds { 12 ≤ out.old.spare → IsOk result }
@@ -95,8 +105,13 @@ pub(crate) fn put_optional_want(want: &Option<Want>, out: &mut Writer) -> Result
     }
 }
 
+/// Writes a grant, or that there is none.
+///
+/// # Errors
+///
+/// Only want of memory, and not where the writer has room for 4 bytes, and 44 more for a grant.
 #[tactic(auto, unfolding(crate::specs::Parts::optional))]
-pub(crate) fn put_optional_grant(grant: &Option<Grant>, out: &mut Writer) -> Result<(), NoMemory>
+pub fn put_optional_grant(grant: &Option<Grant>, out: &mut Writer) -> Result<(), NoMemory>
     ensures written { OnOk result (out.new.bytes ≡ out.old.bytes ++ optional grant_bytes grant.now) }
     ensures fits { OnOk result (IfSome grant.now IsGrant) }
     ensures succeeds { optional_len 44 grant.now ≤ out.old.spare → IsOk result }
@@ -128,7 +143,7 @@ pub(crate) fn put_optional_base(push: &Option<PushBase>, out: &mut Writer) -> Re
 }
 
 /// How many bytes a name takes.
-pub(crate) fn name_len(name: &Name) -> usize
+pub fn name_len(name: &Name) -> usize
     ensures length { result ≡ opaque_len (length name.now) }
     ensures most { result ≤ 68 }
 {
@@ -136,7 +151,12 @@ pub(crate) fn name_len(name: &Name) -> usize
     4 + length + (4 - length % 4) % 4
 }
 
-pub(crate) fn put_name(name: &Name, out: &mut Writer) -> Result<(), NoMemory>
+/// Writes the name of a file.
+///
+/// # Errors
+///
+/// Only want of memory, and not where the writer has room for as many bytes as [`name_len`] says.
+pub fn put_name(name: &Name, out: &mut Writer) -> Result<(), NoMemory>
     ensures written { OnOk result (out.new.bytes ≡ out.old.bytes ++ opaque name.now) }
     ensures fits { OnOk result (IsName name.now) }
     ensures succeeds { opaque_len (length name.now) ≤ out.old.spare → IsOk result }

@@ -1,5 +1,5 @@
 use Rattle.std.proofs.Common.{◌≡◌, ◌+◌, ◌++◌, map, take, reverse}
-use Rattle.nq_client.specs.Lost.{lost_entry}
+use Rattle.nq_client_parts.specs.Lost.{lost_entry}
 use Rattle.nq_client.proofs.losing.note.Given as goal
 
 abbrev pub invariant-loop-place : goal.invariant-loop-place

@@ -1,0 +1,7 @@
+pub mod Found
+pub mod Least
+pub mod Marks
+pub mod NoticeList
+pub mod Places
+pub mod Renewals
+pub mod Spans

@@ -1,0 +1,11 @@
+-- What a request is for.
+use Rattle.nq_client_parts.specs.declared.asked.Job as code
+use Rattle.nq_client_parts.specs.declared.asked.Job.TheVariants.{Attaching, ForCall, Renewing, Pushing}
+use Rattle.nq_model.specs.Client.{Job, attaching, for_call, renewing, pushing}
+
+-- what a request is for
+abbrev pub job_of : code.Job → Job
+job_of Attaching = attaching
+job_of ForCall = for_call
+job_of Renewing = renewing
+job_of Pushing = pushing

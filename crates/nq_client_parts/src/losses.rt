@@ -1,0 +1,147 @@
+//! Losses that no answer named yet.
+
+ghost use Rattle.std.specs.Prelude.{◌≡◌, ◌≤◌, ◌++◌, [], map, IfOk, OnOk};
+ghost use Rattle.nq_model.specs.ByFile.{past, up_to};
+ghost use Rattle.nq_model.specs.Client.{add_losses, file_of_loss, losses_of, other_losses, span_of};
+
+use nq_base::{FileId, Loss, Losses, NoMemory, Span, Spans};
+use std::alloc::Global;
+use std::marker::Model;
+
+/// Losses that no answer named yet, in order of files; those of a file stand in the order in which they were found.
+/// Clauses see them, and for how many more there is room.
+#[derive(Drop)]
+pub struct Unreported {
+    losses: Vec<Loss>,
+}
+
+impl Model for Unreported {
+    ghost use Rattle.std.specs.Prelude.{◌-◌, vec_len, vec_capacity};
+    ghost use Rattle.nq_base.specs.Lists.{LossList};
+
+    ghost Value = { LossList };
+
+    ghost view = { λ l. record { items = l.losses.items; spare = vec_capacity l.losses - vec_len l.losses } };
+}
+
+impl Unreported {
+    /// No losses. It takes no memory.
+    pub fn new(alloc: Global) -> Unreported
+        ensures { result.items ≡ [] }
+    {
+        Unreported {
+            losses: Vec::new(alloc),
+        }
+    }
+
+    /// Makes room for `more` losses.
+    pub fn reserve(&mut self, more: usize) -> Result<(), NoMemory>
+        ensures items { self.new.items ≡ self.old.items }
+        ensures room { OnOk result (more ≤ self.new.spare) }
+    {
+        self.losses.try_reserve(more)?;
+        Ok(())
+    }
+
+    /// A copy of the losses of a file.
+    pub fn of(&self, alloc: Global, file: FileId) -> Result<Losses, NoMemory>
+        ensures { IfOk result (λ l. l.items ≡ losses_of file self.now.items) }
+    {
+        let mut of_file = Losses::new(alloc)?;
+        copy(&self.losses, file, &mut of_file)?;
+        Ok(of_file)
+    }
+
+    /// These losses with newly found ones of a file, which go behind those of this file that are there.
+    pub fn with(&self, alloc: Global, file: FileId, found: &Losses) -> Result<Unreported, NoMemory>
+        ensures { IfOk result (λ l. l.items ≡ add_losses file found.now.items self.now.items) }
+    {
+        let mut losses = Vec::new(alloc);
+        copy_up_to(&self.losses, file, &mut losses)?;
+        copy_all(found, &mut losses)?;
+        copy_past(&self.losses, file, &mut losses)?;
+        Ok(Unreported { losses })
+    }
+
+    /// Forgets the losses of a file.
+    pub fn forget(&mut self, file: FileId)
+        ensures { self.new.items ≡ other_losses file self.old.items }
+    {
+        drop_of(&mut self.losses, file);
+    }
+}
+
+/// Drops the losses of a file.
+fn drop_of(losses: &mut Vec<Loss>, file: FileId)
+    ensures { losses.new.items ≡ other_losses file losses.old.items }
+{
+    losses.retain(|loss| loss.file != file);
+}
+
+/// Adds the losses of a file to others.
+#[tactic(auto, using(std::proofs::lemmas::List::Elements::filter_more))]
+fn copy(losses: &[Loss], file: FileId, into: &mut Losses) -> Result<(), NoMemory>
+    ensures { OnOk result (into.new.items ≡ into.old.items ++ losses_of file losses.now) }
+{
+    for loss in losses {
+        if loss.file == file {
+            into.push(*loss)?;
+        }
+    }
+    Ok(())
+}
+
+/// Adds the losses of a file and of earlier ones to others.
+#[tactic(auto, using(std::proofs::lemmas::List::Elements::filter_more))]
+fn copy_up_to(losses: &[Loss], file: FileId, into: &mut Vec<Loss>) -> Result<(), NoMemory>
+    ensures { OnOk result (into.new.items ≡ into.old.items ++ up_to file_of_loss file losses.now) }
+{
+    for loss in losses {
+        if loss.file <= file {
+            into.push(*loss)?;
+        }
+    }
+    Ok(())
+}
+
+/// Adds the losses of later files to others.
+#[tactic(auto, using(std::proofs::lemmas::List::Elements::filter_more))]
+fn copy_past(losses: &[Loss], file: FileId, into: &mut Vec<Loss>) -> Result<(), NoMemory>
+    ensures { OnOk result (into.new.items ≡ into.old.items ++ past file_of_loss file losses.now) }
+{
+    for loss in losses {
+        if loss.file > file {
+            into.push(*loss)?;
+        }
+    }
+    Ok(())
+}
+
+/// Adds losses to others.
+#[tactic(auto, using(crate::proofs::Found::taken_more))]
+fn copy_all(losses: &Losses, into: &mut Vec<Loss>) -> Result<(), NoMemory>
+    ensures { OnOk result (into.new.items ≡ into.old.items ++ losses.now.items) }
+{
+    for place in 0..losses.len() {
+        let loss = losses.get(place).unwrap();
+        into.push(loss)?;
+    }
+    Ok(())
+}
+
+/// Losses as a journal names them.
+#[tactic(auto, using(crate::proofs::Spans::spans_more))]
+pub fn spans_of(alloc: Global, losses: &Losses) -> Result<Spans, NoMemory>
+    ensures { IfOk result (λ s. s.items ≡ map span_of losses.now.items) }
+{
+    let mut spans = Spans::new(alloc)?;
+    for place in 0..losses.len() {
+        let loss = losses.get(place).unwrap();
+        spans.push(Span {
+            block: loss.block,
+            first: loss.first,
+            last: loss.last,
+        })?;
+    }
+    Ok(spans)
+}

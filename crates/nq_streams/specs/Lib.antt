@@ -1,0 +1,2 @@
+pub mod StdSink
+pub mod StdSource
