@@ -1,14 +1,19 @@
 -- What is read in an image stands there.
-use Rattle.std.proofs.Common.{◌≡◌, ◌+◌, ℕ, Bool, true, List, [], ◌∷◌, ◌++◌, Option, Some, None, Ok, drop, map, length, refl, sym, ap, subst, ◌∙◌, arith}
-use Rattle.std.specs.Prelude.{slice_index_or}
+use Rattle.std.proofs.Common.{◌≡◌, ◌+◌, ◌==◌, ◌&&◌, ℕ, Bool, true, false, List, [], ◌∷◌, ◌++◌, Option, Some, None, Result, Ok, Err, drop, map, length, if◌then◌else◌, refl, sym, ap, subst, ◌∙◌, arith}
+use Rattle.std.specs.Prelude.{nat_le, slice_index_or}
 use Rattle.std.proofs.lemmas.Bool.Decides.{nat_tests}
-use Rattle.nq_image.specs.Image.{FoundTwo, no_marks}
+use Rattle.nq_model.specs.Kept.{Kept}
+use Rattle.nq_image.specs.Heads.{version_of}
+use Rattle.nq_image.specs.Image.{FoundTwo, ◌>>=◌, image_two, no_marks}
+use Rattle.nq_image.specs.Kept.{opened, stands_for}
 use Rattle.nq_image.specs.Layout.{block_place, piece, word_in}
-use Rattle.nq_image.specs.Standing.{AreNumbered, Stands, blocks_in, found_of, marks_with, placed_rows, row_id, row_slot, standing_in}
+use Rattle.nq_image.specs.Standing.{AreNumbered, Standing, Stands, blocks_in, found_of, kept_at, marks_with, placed_rows, row_id, row_slot, standing_in}
 use Rattle.nq_image.specs.Tables.{ids_checks, ids_of, is_id, slot_table, table_of, tables_blocks, tables_marks}
-use Rattle.nq_image.specs.Whole.{image_in, of_two}
+use Rattle.nq_image.specs.Whole.{has_image_name, image_in, in_versions, of_two}
 use Rattle.nq_image.specs.declared.rows.Slot.{Slot}
+use Rattle.nq_image.specs.declared.rows.Version.{Version}
 use Rattle.nq_image.proofs.Allotting.{length-table, tables-marks-are}
+use Rattle.nq_image.proofs.Gathering.{stands-opens}
 use Rattle.nq_image.proofs.Parting.{HasParts, parts-of}
 use Rattle.nq_image.proofs.ReadBack.{Hold}
 
@@ -91,3 +96,34 @@ read-stands bytes found is =
       found = is ∙ ap (λ (f : FoundTwo). Some (Ok (of_two f))) same;
       numbered = numbered found.rows.slots 0 (block_place found.front.tables) found.tables.ids bytes;
     }
+
+-- ---- any image of version 2 that opens
+
+by-result : (r : Result FoundTwo ℕ) (bytes : List ℕ) (kept : Kept) → stands_for bytes (Some (r >>= λ f. Ok (of_two f))) ≡ Some (Ok kept) → (found : FoundTwo) × (Some (r >>= λ f. Ok (of_two f)) ≡ Some (Ok (of_two found)))
+by-result (Ok f) bytes kept h = (f, refl)
+by-result (Err p) bytes kept h = cc
+
+by-version : (b : Bool) (version : Option Version) (bytes : List ℕ) (kept : Kept) → version ≡ Some Version.Two → stands_for bytes (if b then in_versions version bytes else None) ≡ Some (Ok kept) → (found : FoundTwo) × ((if b then in_versions version bytes else None) ≡ Some (Ok (of_two found)))
+by-version false version bytes kept two h = cc
+by-version true version bytes kept two h =
+    let Opens : Option Version → Type 0 = λ v. stands_for bytes (in_versions v bytes) ≡ Some (Ok kept) in
+    let Found : Option Version → Type 0 = λ v. (found : FoundTwo) × (in_versions v bytes ≡ Some (Ok (of_two found))) in
+    subst Found (sym two) (by-result (image_two (no_marks 16641) bytes) bytes kept (subst Opens two h))
+
+second : (byte : ℕ) → byte ≡ 50 → version_of byte ≡ Some Version.Two
+unfolding version_of
+second byte is = ap (λ (b : ℕ). if b == 49 then Some Version.One else if b == 50 then Some Version.Two else None) is
+
+found-two : (bytes : List ℕ) (kept : Kept) → opened bytes ≡ Some (Ok kept) → slice_index_or bytes 7 0 ≡ 50 → (found : FoundTwo) × (image_in bytes ≡ Some (Ok (of_two found)))
+unfolding opened image_in
+found-two bytes kept h two = by-version (nat_le 40960 (length bytes) && has_image_name bytes) (version_of (slice_index_or bytes 7 0)) bytes kept (second (slice_index_or bytes 7 0) two) h
+
+same-kept : (bytes : List ℕ) (one two : Kept) → opened bytes ≡ Some (Ok one) → opened bytes ≡ Some (Ok two) → one ≡ two
+same-kept bytes one two a b = cc
+
+pub opens-stands : (bytes : List ℕ) (kept : Kept) → opened bytes ≡ Some (Ok kept) → slice_index_or bytes 7 0 ≡ 50 → (s : Standing) × Stands bytes s × (kept_at bytes s ≡ kept)
+opens-stands bytes kept h two =
+    let found = found-two bytes kept h two in
+    let s = standing_in bytes found.0 in
+    let stands = read-stands bytes found.0 found.1 in
+    (s, stands, same-kept bytes (kept_at bytes s) kept (stands-opens bytes s stands) h)

@@ -1,6 +1,7 @@
 //! What stands in an image of version 2, wherever its files stand.
 
-ghost use Rattle.std.specs.Prelude.{◌≡◌, ◌<◌, ℕ, List, Some, Ok};
+ghost use Rattle.std.specs.Prelude.{◌≡◌, ◌<◌, ℕ, List, Some, Ok, slice_index};
+ghost use Rattle.nq_model.specs.Kept.{Kept};
 ghost use Rattle.nq_image.specs.Image.{FoundTwo};
 ghost use Rattle.nq_image.specs.Kept.{opened};
 ghost use Rattle.nq_image.specs.Standing.{Agree, CanStand, PlacedFile, Standing, Stands, kept_at, row_at, standing_in};
@@ -11,9 +12,11 @@ pub fn what_is_read_stands()
     ensures { (bytes : List ℕ) (found : FoundTwo) → image_in bytes ≡ Some (Ok (of_two found)) → Stands bytes (standing_in bytes found) }
 {}
 
-/// Where a kept state stands in an image, the image opens as that state.
+/// Where a kept state stands in an image, the image opens as that state; and what an image of version 2 opens as stands in it.
 pub fn what_stands_opens()
-    ensures { (bytes : List ℕ) (s : Standing) → Stands bytes s → opened bytes ≡ Some (Ok (kept_at bytes s)) }
+    ensures opens { (bytes : List ℕ) (s : Standing) → Stands bytes s → opened bytes ≡ Some (Ok (kept_at bytes s)) }
+    ensures stands { (bytes : List ℕ) (kept : Kept) → opened bytes ≡ Some (Ok kept) → slice_index bytes 7 ≡ 50
+        → (s : Standing) × Stands bytes s × (kept_at bytes s ≡ kept) }
 {}
 
 /// Each file that stands in an image stands apart: it has a name, an id and blocks of its own, all within their bounds.
