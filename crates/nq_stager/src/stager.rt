@@ -89,6 +89,7 @@ impl Stager {
     /// # Errors
     ///
     /// `NoMemory` where memory is wanting; then nothing was offered.
+    #[tactic(auto, using(crate::proofs::Offered::unknown_has_body))]
     pub fn offer(&mut self, alloc: Global, dirty: &Dirty) -> Result<Option<Vec<u8>>, NoMemory>
         ensures offers { Offers dirty.now.dirty dirty.now.push result self.old self.new }
     {
@@ -96,7 +97,7 @@ impl Stager {
             return Ok(None);
         };
         let Some(body) = dirty.get(written.file, written.block) else {
-            return Ok(None);
+            unreachable!()
         };
         Ok(Some(self.stage(alloc, written, body)?))
     }
