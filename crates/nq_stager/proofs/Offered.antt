@@ -79,11 +79,11 @@ here who p ps w h = let e : written_by who p ≡ w = cc in subst (λ (z : Writte
 -- one that is not acknowledged is delayed
 unknown-is-delayed : (who : Who) (acked : List (Written × ℕ)) (ps : List Push) (w : Written) → first_unknown who acked ps ≡ Some w → is_some (dirty_at w.file w.block ps) ≡ true
 unknown-is-delayed who acked [] w h = absurd cc
-unknown-is-delayed who acked (p ∷ ps) w h = first (is_some (verifier_of (written_by who p) acked)) h
+unknown-is-delayed who acked (p ∷ ps) w h = first (is_some (verifier_of (written_by who p) acked)) (unknown-is-delayed who acked ps w) h
   where
-    first : (b : Bool) → (if b then first_unknown who acked ps else Some (written_by who p)) ≡ Some w → is_some (dirty_at w.file w.block (p ∷ ps)) ≡ true
-    first true e = behind (p.file == w.file && p.block == w.block) p (dirty_at w.file w.block ps) (unknown-is-delayed who acked ps w e)
-    first false e = here who p ps w e
+    first : (b : Bool) → (first_unknown who acked ps ≡ Some w → is_some (dirty_at w.file w.block ps) ≡ true) → (if b then first_unknown who acked ps else Some (written_by who p)) ≡ Some w → is_some (dirty_at w.file w.block (p ∷ ps)) ≡ true
+    first true rest e = behind (p.file == w.file && p.block == w.block) p (dirty_at w.file w.block ps) (rest e)
+    first false rest e = here who p ps w e
 
 held : (o : Option Push) (pushed : Option (List ℕ)) → is_some o ≡ true → held_body o pushed None ≡ None → ⊥
 held None pushed there none = cc

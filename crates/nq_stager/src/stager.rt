@@ -89,7 +89,6 @@ impl Stager {
     /// # Errors
     ///
     /// `NoMemory` where memory is wanting; then nothing was offered.
-    #[tactic(auto, using(crate::proofs::Offered::unknown_has_body))]
     pub fn offer(&mut self, alloc: Global, dirty: &Dirty) -> Result<Option<Vec<u8>>, NoMemory>
         ensures offers { Offers dirty.now.dirty dirty.now.push result self.old self.new }
     {
