@@ -3,10 +3,11 @@
 ghost use Rattle.std.specs.Prelude.{◌≡◌, ◌+◌, ℕ, Some, IfOk, length, vec_len};
 ghost use Rattle.nq_command.specs.Commands.{command_of};
 ghost use Rattle.nq_command.specs.declared.Command.{Command};
+ghost use Rattle.nq_keeper.specs.StoredKeeper.{empty_kept, told_of};
 
 use anyhow::{Context, Result};
 use nq_base::{Change, Heads, Host, Party};
-use nq_keeper::{Keeper, ListKeeper};
+use nq_keeper::{KeepFault, Keeper, ListKeeper};
 use nq_link::MemLink;
 use nq_run::{Command, Fate, HostileFate, NoMemory, SteadyFate, Words};
 use std::alloc::Global;
@@ -47,23 +48,30 @@ pub(crate) fn fates(alloc: Global) -> Result<Vec<Box<dyn Fate>>, NoMemory> {
     Ok(fates)
 }
 
+/// Keeps in an empty keeper that the last boot that there can be was made.
+fn keep_last_boot(keeper: &mut ListKeeper) -> Result<(), KeepFault>
+    requires { told_of keeper.old.kept ≡ empty_kept }
+{
+    keeper.commit(Change {
+        file: None,
+        block: None,
+        host: None,
+        heads: Some(Heads {
+            boot: 0x7fff_ffff,
+            opened: 1,
+            longest: 60,
+            next: 1,
+        }),
+        removed: None,
+    })
+}
+
 /// The keeper of a scene.
 pub(crate) fn keeper_of(alloc: Global, scene: &str) -> Result<ListKeeper> {
-    let mut keeper = ListKeeper::new(alloc, failing(alloc, scene.ends_with("unkept"))?)?;
+    let failing = failing(alloc, scene.ends_with("unkept"))?;
+    let mut keeper = ListKeeper::new(alloc, failing)?;
     if scene.starts_with("spent") {
-        let last = Change {
-            file: None,
-            block: None,
-            host: None,
-            heads: Some(Heads {
-                boot: 0x7fff_ffff,
-                opened: 1,
-                longest: 60,
-                next: 1,
-            }),
-            removed: None,
-        };
-        keeper.commit(last).ok().context("nothing is kept")?;
+        keep_last_boot(&mut keeper).ok().context("nothing is kept")?;
     }
     Ok(keeper)
 }
