@@ -26,15 +26,10 @@ pub(crate) fn failing(alloc: Global, first: bool) -> Result<Vec<u32>, NoMemory> 
     Ok(numbers)
 }
 
-/// A text whose line feeds are told by `;`, with the blank that stands before it left out; or so many bytes `a`.
-pub(crate) fn text_of(alloc: Global, told: &str) -> Result<Vec<u8>> {
-    let told = told.trim_start();
-    if let Some(count) = told.strip_prefix("* ") {
-        let count: u32 = count.parse().ok().context("no number")?;
-        return Ok(vec![in alloc; b'a'; count as usize]?);
-    }
+/// A text whose line feeds are told by `;`, with the blank that stands before it left out.
+pub(crate) fn text_of(alloc: Global, told: &str) -> Result<Vec<u8>, NoMemory> {
     let mut text = Vec::new(alloc);
-    for byte in told.bytes() {
+    for byte in told.bytes().skip(1) {
         text.push(if byte == b';' { b'\n' } else { byte })?;
     }
     Ok(text)
