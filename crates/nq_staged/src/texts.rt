@@ -1,0 +1,101 @@
+//! The text of a staged schedule.
+
+ghost use Rattle.std.specs.Prelude.{◌≡◌, ◌<◌, ◌^◌, ◌++◌, ◌∷◌, ℕ, List, [], codes, is_some, length, IfOk, OnOk, if◌then◌else◌};
+ghost use Rattle.nq_script.specs.Faults.{Answers};
+ghost use Rattle.nq_script.specs.declared.heads.Head.{Head};
+ghost use Rattle.nq_staged.specs.Running.{IsReadyStaged};
+ghost use Rattle.nq_staged.specs.Text.{FirstBadStaged, SpellsStaged, StagedLine, mixed, plain_bytes, stages_in};
+
+use nq_base::{Host, NoMemory};
+use nq_commit::parse_stage;
+use nq_script::{Head, HeadOut, Script, ScriptFault, parse, parse_head};
+use nq_words::cut;
+use std::alloc::Global;
+
+/// The version of a staged schedule.
+const VERSION: u32 = 2;
+
+/// How many bytes a text has at most, and one more.
+const TOO_LONG: usize = 0x8000_0000;
+
+/// A staged schedule as its text gives it.
+#[derive(Drop)]
+pub(crate) struct StagedScript {
+    /// The schedule in which a line `flow` stands for each offer.
+    pub(crate) script: Script,
+    /// Of each line the host whose side offers, if one does.
+    pub(crate) stages: Vec<Option<Host>>,
+}
+
+/// A text in which a line `flow` stands for each offer.
+#[derive(Drop)]
+struct PlainText {
+    bytes: Vec<u8>,
+    stages: Vec<Option<Host>>,
+}
+
+/// Reads a whole text, which is shorter than 2^31 bytes.
+///
+/// # Errors
+///
+/// `Bad` with the number of the first line at which the text is outside the grammar: also line 1 of a schedule of version 1,
+/// a line without its line feed, the line that is missing where the text ends before `end`, and the one behind `end` where bytes
+/// follow.
+pub(crate) fn read_script(alloc: Global, text: &[u8]) -> Result<StagedScript, ScriptFault>
+    requires { length text.now < 2 ^ 31 }
+    ensures found { Answers result (λ s. SpellsStaged s.script.head (mixed s.stages.items s.script.lines) text.now) (λ number. FirstBadStaged text.now number) }
+    ensures only { (head : Head) (lines : List StagedLine) → SpellsStaged head lines text.now
+        → Answers result (λ s. (s.script.head ≡ head) × (mixed s.stages.items s.script.lines ≡ lines)) (λ number. ⊥) }
+    ensures bad { (number : ℕ) → FirstBadStaged text.now number → Answers result (λ s. ⊥) (λ place. place ≡ number) }
+    ensures ready { Answers result (λ s. IsReadyStaged s.script s.stages.items) (λ number. Unit {0}) }
+{
+    let HeadOut {
+        head,
+        lines: _,
+        bytes,
+    } = parse_head(alloc, text)?;
+    if head.version != VERSION {
+        return Err(ScriptFault::Bad(1));
+    }
+    let (front, body) = text.split_at(bytes);
+    let PlainText { bytes, stages } = plain_text(alloc, head.hosts, front, body)?;
+    if bytes.len() >= TOO_LONG {
+        return Err(ScriptFault::Memory);
+    }
+    let script = parse(alloc, &bytes)?;
+    Ok(StagedScript { script, stages })
+}
+
+/// A front, and bytes behind it in which a line `flow` stands for each offer.
+fn plain_text(alloc: Global, hosts: u32, front: &[u8], body: &[u8]) -> Result<PlainText, NoMemory>
+    ensures plain { IfOk result (λ p. p.bytes.items ≡ front.now ++ plain_bytes hosts body.now) }
+    ensures stages { IfOk result (λ p. p.stages.items ≡ stages_in hosts body.now) }
+{
+    let mut bytes = Vec::from_slice(alloc, front)?;
+    let mut stages = Vec::new(alloc);
+    let mut rest = body;
+    'lines: loop {
+        let Some((line, after)) = cut(rest, b'\n') else {
+            bytes.extend_from_slice(rest)?;
+            return Ok(PlainText { bytes, stages });
+        };
+        let stage = parse_stage(line, hosts);
+        put_line(&mut bytes, line, stage)?;
+        stages.push(stage)?;
+        rest = after;
+    }
+}
+
+/// Appends a line as it would stand in a schedule, with its line feed.
+fn put_line(bytes: &mut Vec<u8>, line: &[u8], stage: Option<Host>) -> Result<(), NoMemory>
+    ensures { OnOk result (bytes.new.items ≡ bytes.old.items ++ (if is_some stage then codes "flow" else line.now) ++ 10 ∷ []) }
+{
+    match stage {
+        Some(_) => bytes.extend_from_slice(b"flow\n")?,
+        None => {
+            bytes.extend_from_slice(line)?;
+            bytes.push(b'\n')?;
+        }
+    }
+    Ok(())
+}
