@@ -110,7 +110,8 @@ impl<K: Keeper> StagedWorld<K> {
     }
 
     /// Takes an event in. The answers and their order are those of [`World::step`], over the packets that travel outside and the events
-    /// of the staged schedule.
+    /// of the staged schedule. Each WRITE that the pool rebuilds is byte for byte the packet of the inner world for which its COMMIT
+    /// stands, and the inner run is a lawful one: `specs/Playing.antt` says so of each world that plays a staged run.
     ///
     /// # Errors
     ///
