@@ -14,8 +14,7 @@ use Rattle.nq_script.specs.declared.heads.Head.{Head}
 use Rattle.nq_script.specs.declared.lines.Line.{Line}
 use Rattle.nq_staged.proofs.Tellable.{IsPlainly, run-all}
 use Rattle.nq_staged.specs.Going.{Comes, RanTo}
-use Rattle.nq_staged.specs.Running.{IsTellable}
-use Rattle.nq_staged.specs.Text.{StagedLine, mixed, plain, stage}
+use Rattle.nq_staged.specs.Text.{IsTellable, StagedLine, mixed, plain, stage}
 use Rattle.nq_staged_run.specs.Outside.{outside_run}
 use Rattle.nq_base.specs.declared.Event.{Event}
 use Rattle.nq_staged_run.specs.declared.StagedEvent.{StagedEvent}

@@ -14,8 +14,7 @@ use Rattle.nq_script.specs.Schedule.{SpellsSchedule}
 use Rattle.nq_script.specs.Text.{Lacks, text_of}
 use Rattle.nq_script.specs.declared.heads.Head.{Head}
 use Rattle.nq_script.specs.declared.lines.Line.{Line}
-use Rattle.nq_staged.specs.Going.{AreForHosts, IsForHosts}
-use Rattle.nq_staged.specs.Text.{in_front, lines_in, new_line, plain_bytes, plain_line, plain_text, stages_in}
+use Rattle.nq_staged.specs.Text.{AreForHosts, IsForHosts, in_front, lines_in, new_line, plain_bytes, plain_line, plain_text, stages_in}
 
 other-byte : (b : ℕ) → b ≢ 10 → (b == 10) ≡ false
 other-byte b no = grind (nat_tests)

@@ -1,21 +1,15 @@
 -- The lines of a staged schedule, place by place.
 use Rattle.std.proofs.Common.{◌≡◌, ◌<◌, ◌≤◌, ℕ, zero, suc, ◌+◌, ◌-◌, List, [], ◌∷◌, length, drop, map, Option, Some, None, refl, sym, ap, subst, ◌∙◌, arith}
+use Rattle.std.proofs.lemmas.Option.{same_Some}
 use Rattle.std.specs.List.{AllByRecursion}
 use Rattle.std.specs.Prelude.{slice_get}
 use Rattle.nq_script.specs.declared.lines.Line.{Line}
-use Rattle.nq_staged.specs.Going.{AreForHosts, IsForHosts}
-use Rattle.nq_staged.specs.Text.{StagedLine, mixed, plain, stage}
+use Rattle.nq_staged.specs.Text.{AreForHosts, IsForHosts, StagedLine, mixed, plain, stage, stage_at}
 
 -- what a line is, by whether it offers
 abbrev pub line_as : Option ℕ → Line → StagedLine
 line_as None line = plain line
 line_as (Some host) line = stage host
-
--- a stage at a place, if the list is so long
-abbrev pub stage_at : List (Option ℕ) → ℕ → Option ℕ
-stage_at [] place = None
-stage_at (s ∷ stages) zero = s
-stage_at (s ∷ stages) (suc place) = stage_at stages place
 
 pub mixed-at : (stages : List (Option ℕ)) (lines : List Line) (place : ℕ) (line : Line) → slice_get lines place ≡ Some line → slice_get (mixed stages lines) place ≡ Some (line_as (stage_at stages place) line)
 mixed-at stages [] place line there = absurd (cc)
@@ -46,3 +40,23 @@ pub host-there : (hosts : ℕ) (stages : List (Option ℕ)) (place host : ℕ) �
 host-there hosts [] place host all there = absurd (cc)
 host-there hosts (s ∷ stages) zero host all there = let e : s ≡ Some host = cc in subst (IsForHosts hosts) e all.0
 host-there hosts (s ∷ stages) (suc place) host all there = host-there hosts stages place host all.1 there
+
+pub host-at : (hosts : ℕ) (stages : List (Option ℕ)) (place host : ℕ) → AreForHosts hosts stages → stage_at stages place ≡ Some host → host < hosts
+host-at hosts [] place host all there = absurd (cc)
+host-at hosts (s ∷ stages) zero host all there = subst (IsForHosts hosts) there all.0
+host-at hosts (s ∷ stages) (suc place) host all there = host-at hosts stages place host all.1 there
+
+-- the line at a place, where it offers and where it does not
+pub line-offers : (stages : List (Option ℕ)) (lines : List Line) (place host : ℕ) (l : Line) (line : StagedLine) → slice_get lines place ≡ Some l → stage_at stages place ≡ Some host → slice_get (mixed stages lines) place ≡ Some line → stage host ≡ line
+line-offers stages lines place host l line there offers here =
+    same_Some (stage host) line (sym (mixed-at stages lines place l there ∙ ap (λ s. Some (line_as s l)) offers) ∙ here)
+
+pub line-plain : (stages : List (Option ℕ)) (lines : List Line) (place : ℕ) (l : Line) (line : StagedLine) → slice_get lines place ≡ Some l → stage_at stages place ≡ None → slice_get (mixed stages lines) place ≡ Some line → plain l ≡ line
+line-plain stages lines place l line there offers here =
+    same_Some (plain l) line (sym (mixed-at stages lines place l there ∙ ap (λ s. Some (line_as s l)) offers) ∙ here)
+
+-- there is a line at each place below their number
+pub line-there : (lines : List Line) (place : ℕ) → place < length lines → (l : Line) × (slice_get lines place ≡ Some l)
+line-there [] place below = absurd (omega arith)
+line-there (l ∷ lines) zero below = (l, refl)
+line-there (l ∷ lines) (suc place) below = line-there lines place (omega arith)

@@ -4,8 +4,9 @@ use Rattle.nq_base.specs.declared.Event.{Event}
 use Rattle.nq_staged_run.specs.declared.StagedEvent.{StagedEvent}
 use Rattle.nq_model.specs.World.{Head}
 use Rattle.nq_staged.specs.Going.{Comes, Goes, RanTo, StoppedAt, WasRefused, WentTo}
-use Rattle.nq_staged.specs.Playing.{Ended, Played as Due, and_then, at_line, next_packet, play_event, play_flow, play_line, play_lines, play_ticks, ran, refused, repeated, stopped, took, with_packet}
+use Rattle.nq_staged.specs.Playing.{Ended, Played as Due, and_then, at_line, next_packet, play_event, play_flow, play_line, play_lines, play_plain, play_ticks, ran, refused, repeated, stopped, took, with_packet}
 use Rattle.nq_play.specs.declared.Played.{Played}
+use Rattle.nq_script.specs.declared.lines.Line.{Line}
 use Rattle.nq_staged.specs.Text.{StagedLine}
 use Rattle.nq_world.specs.declared.stepped.Stepped.{Stepped}
 
@@ -29,6 +30,16 @@ done-here P events due here same = subst (λ d. WentTo d P) same here
 
 pub goes-same : (said : Stepped) (first due : Due) (P : List StagedEvent → Type 0) → first ≡ due → Goes said first P → Goes said due P
 goes-same said first due P same goes = subst (λ d. Goes said d P) same goes
+
+-- what is played once
+then-took : (first : Due) (play : List StagedEvent → Due) → and_then first (repeated 0 play) ≡ first
+then-took (took events) play = refl
+then-took (refused answer) play = refl
+
+pub played-once : (head : Head) (most : ℕ) (line : Line) (event : Event) (events : List StagedEvent) → line ≡ Line.Events event 1
+    → play_event head (StagedEvent.Plain event) events ≡ play_plain head most line events
+played-once head most line event events is =
+    sym (ap (λ l. play_plain head most l events) is ∙ then-took (play_event head (StagedEvent.Plain event) events) (play_event head (StagedEvent.Plain event)))
 
 -- ---- it stopped
 

@@ -1,7 +1,6 @@
 -- What playing over a staged world does, beside what it is to do by the protocol. Below, `told` is what the world's keeper tells of its
 -- content, and `flags` tells which packets were delivered.
-use Rattle.std.specs.List.{AllByRecursion}
-use Rattle.std.specs.Prelude.{◌≡◌, ◌<◌, ℕ, Bool, List, Option, Some, None}
+use Rattle.std.specs.Prelude.{◌≡◌, ◌<◌, ℕ, Bool, List, Option}
 use Rattle.nq_base.specs.declared.Event.{Event}
 use Rattle.nq_commit.specs.Playing.{PlaysOutside, StagedOver}
 use Rattle.nq_model.specs.Kept.{Kept}
@@ -58,11 +57,3 @@ Comes (Played.Stopped line Stepped.Done) due P = ⊥
 Comes (Played.Stopped line Stepped.Fault) due P = Unit {0}
 Comes (Played.Stopped line Stepped.Memory) due P = Unit {0}
 Comes (Played.Stopped line said) due P = StoppedAt due line said
-
--- a host that is there, if one is told
-abbrev pub IsForHosts : (hosts : ℕ) → Option ℕ → Type 0
-IsForHosts hosts None = Unit {0}
-IsForHosts hosts (Some host) = host < hosts
-
-abbrev pub AreForHosts : (hosts : ℕ) → List (Option ℕ) → Type 0
-AreForHosts hosts stages = AllByRecursion (IsForHosts hosts) stages

@@ -2,8 +2,7 @@
 -- source tells them; `held` is what the sink held before it and `now` is what it holds after it, where the sink tells them; `r` and `r'`
 -- are the source's counts of faults before and after, and `w` and `w'` the sink's.
 use Rattle.std.specs.Fmt.{decimal}
-use Rattle.std.specs.Prelude.{◌≡◌, ◌⊎◌, ◌+◌, ◌<◌, ◌^◌, ℕ, List, ◌++◌, Option, codes, length, map, reverse}
-use Rattle.nq_base.specs.declared.Event.{Event}
+use Rattle.std.specs.Prelude.{◌≡◌, ◌⊎◌, ℕ, List, ◌++◌, Option, codes, map, reverse}
 use Rattle.nq_base.specs.declared.SkewBroken.{SkewBroken}
 use Rattle.nq_ending.specs.declared.Ending.{Ending}
 use Rattle.nq_io.specs.Faults.{Rose}
@@ -18,12 +17,9 @@ use Rattle.nq_replay.specs.Lines.{PrintsLine, limit_line, script_line, skew_line
 use Rattle.nq_replay.specs.Replay.{OfInput, PrintsLimit, TakesInput}
 use Rattle.nq_replay.specs.declared.Bound.{Bound}
 use Rattle.nq_replay.specs.Schedules.{PrintsBytes, TellsStop}
-use Rattle.nq_script.specs.Heads.{head_lines}
-use Rattle.nq_script.specs.Lines.{Allows, HasEvent, once}
+use Rattle.nq_script.specs.Lines.{once}
 use Rattle.nq_script.specs.Schedule.{SpellsSchedule}
 use Rattle.nq_script.specs.declared.heads.Head.{Head}
-use Rattle.nq_script.specs.declared.scripts.Script.{Script}
-use Rattle.nq_staged.specs.Going.{AreForHosts}
 use Rattle.nq_staged.specs.Playing.{Ended, play, ran, stopped}
 use Rattle.nq_staged.specs.Text.{FirstBadStaged, SpellsStaged, StagedLine}
 use Rattle.nq_staged_run.specs.declared.StagedEvent.{StagedEvent}
@@ -145,10 +141,6 @@ EndsStaged other limit left rest held now r r' w w' = ⊥
 
 -- ---- the parts of a run
 
--- an event that a schedule of version 2 with this head can tell
-abbrev pub IsTellable : Head → Event → Type 0
-IsTellable head event = Allows head event × HasEvent 2 event
-
 -- all that a staged run prints was printed, or a front of it, or nothing, by the end
 pub record PrintsRun (end : Ending) (head : Head) (events : List StagedEvent) (held now : Option (List ℕ)) (w w' : ℕ) : Type 0 where
   pub bytes : List ℕ
@@ -159,12 +151,3 @@ pub record PrintsRun (end : Ending) (head : Head) (events : List StagedEvent) (h
 abbrev pub EndsStagedPlayed : Ending → Head → Ended → (held now : Option (List ℕ)) → (w w' : ℕ) → Type 0
 EndsStagedPlayed end head (ran events) held now w w' = PrintsRun end head events held now w w' ⊎ ((end ≡ Ending.Memory) × (now ≡ held))
 EndsStagedPlayed end head (stopped line answer) held now w w' = TellsStop end line (answer_of answer) held now w w'
-
--- a staged schedule as a text of fewer than 2^31 bytes gives it
-pub record IsReadyStaged (s : Script) (stages : List (Option ℕ)) : Type 0 where
-  pub text : List ℕ
-  pub spelled : SpellsSchedule s.head s.lines text
-  pub short : length text < 2 ^ 31
-  pub version : s.head.version ≡ 2
-  pub first : s.first ≡ length (head_lines s.head) + 1
-  pub stages_are : AreForHosts s.head.hosts stages

@@ -1,11 +1,15 @@
 -- The text of a staged schedule: that of a schedule of version 2 in which lines `stage H` may stand where lines `flow` may.
-use Rattle.std.specs.Prelude.{◌≡◌, ◌⊎◌, ℕ, ◌==◌, List, [], ◌∷◌, ◌++◌, map, Option, Some, None, is_some, codes, if◌then◌else◌}
+use Rattle.std.specs.List.{AllByRecursion}
+use Rattle.std.specs.Prelude.{◌≡◌, ◌⊎◌, ◌<◌, ◌^◌, ℕ, ◌+◌, ◌==◌, List, [], ◌∷◌, ◌++◌, length, map, Option, Some, None, is_some, codes, if◌then◌else◌, zero, suc}
+use Rattle.nq_base.specs.declared.Event.{Event}
 use Rattle.nq_commit.specs.Line.{stage_line}
 use Rattle.nq_script.specs.Heads.{FitsHead, head_lines}
+use Rattle.nq_script.specs.Lines.{Allows, HasEvent}
 use Rattle.nq_script.specs.Schedule.{FirstBadHeadLine, FirstBadLine, SpellsSchedule}
 use Rattle.nq_script.specs.Text.{text_of}
 use Rattle.nq_script.specs.declared.heads.Head.{Head}
 use Rattle.nq_script.specs.declared.lines.Line.{Line}
+use Rattle.nq_script.specs.declared.scripts.Script.{Script}
 
 -- a line of a staged schedule: one of a schedule, or the offer of a host's side
 pub data StagedLine : Type 0 where
@@ -52,6 +56,12 @@ mixed [] (line ∷ lines) = plain line ∷ mixed [] lines
 mixed (None ∷ stages) (line ∷ lines) = plain line ∷ mixed stages lines
 mixed (Some host ∷ stages) (line ∷ lines) = stage host ∷ mixed stages lines
 
+-- of the line at a place the host whose side offers, if one does
+abbrev pub stage_at : List (Option ℕ) → (place : ℕ) → Option ℕ
+stage_at [] place = None
+stage_at (stage ∷ stages) zero = stage
+stage_at (stage ∷ stages) (suc place) = stage_at stages place
+
 -- the text of a schedule with this head, and these bytes behind it as they would stand there
 abbrev pub plain_text : Head → (body : List ℕ) → List ℕ
 plain_text head body = text_of (head_lines head) ++ plain_bytes head.hosts body
@@ -91,3 +101,26 @@ pub record GoesWrongBehind (text : List ℕ) (number : ℕ) : Type 0 where
 -- the first line that is wrong in a text that is no staged schedule
 abbrev pub FirstBadStaged : (text : List ℕ) → (number : ℕ) → Type 0
 FirstBadStaged text number = FirstBadHeadLine text number ⊎ (IsOfVersionOne text number ⊎ GoesWrongBehind text number)
+
+-- ---- as the program has it
+
+-- a host that is there, if one is told
+abbrev pub IsForHosts : (hosts : ℕ) → Option ℕ → Type 0
+IsForHosts hosts None = Unit {0}
+IsForHosts hosts (Some host) = host < hosts
+
+abbrev pub AreForHosts : (hosts : ℕ) → List (Option ℕ) → Type 0
+AreForHosts hosts stages = AllByRecursion (IsForHosts hosts) stages
+
+-- an event that a schedule of version 2 with this head can tell
+abbrev pub IsTellable : Head → Event → Type 0
+IsTellable head event = Allows head event × HasEvent 2 event
+
+-- a staged schedule as a text of fewer than 2^31 bytes gives it: a schedule, and of each line the host whose side offers, if one does
+pub record IsReadyStaged (s : Script) (stages : List (Option ℕ)) : Type 0 where
+  pub text : List ℕ
+  pub spelled : SpellsSchedule s.head s.lines text
+  pub short : length text < 2 ^ 31
+  pub version : s.head.version ≡ 2
+  pub first : s.first ≡ length (head_lines s.head) + 1
+  pub stages_are : AreForHosts s.head.hosts stages

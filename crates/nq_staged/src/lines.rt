@@ -6,13 +6,13 @@ ghost use Rattle.nq_model.specs.World.{Head};
 ghost use Rattle.nq_play.specs.Going.{AreForWorld, IsForWorld, said};
 ghost use Rattle.nq_play.specs.declared.Played.{Played};
 ghost use Rattle.nq_script.specs.declared.lines.Line.{Line};
-ghost use Rattle.nq_staged.specs.Going.{AreForHosts, Comes, Goes, IsAt};
-ghost use Rattle.nq_staged.specs.Playing.{play_line, play_lines, play_plain};
-ghost use Rattle.nq_staged.specs.Text.{StagedLine, mixed, stage};
+ghost use Rattle.nq_staged.specs.Going.{Comes, Goes, IsAt};
+ghost use Rattle.nq_staged.specs.Playing.{play_event, play_line, play_lines, play_plain};
+ghost use Rattle.nq_staged.specs.Text.{AreForHosts, StagedLine, mixed, stage_at};
 ghost use Rattle.nq_staged_run.specs.declared.StagedEvent.{StagedEvent};
 ghost use Rattle.nq_world.specs.Playing.{CountsFaults, HasSettings};
 
-use crate::events::{flow, rounds, take, take_times};
+use crate::events::{deliver, flow, rounds, take, take_times};
 use nq_base::Host;
 use nq_commit::StagedWorld;
 use nq_keeper::Keeper;
@@ -32,7 +32,8 @@ fn play_plain<K: Keeper>(
 ) -> Stepped
     requires hosts { hosts ≤ length world.old.inner.clients }
     requires can { IsForWorld (length world.old.inner.clients) world.old.inner.skew.window line }
-    ensures goes { (head : Head) (events : List StagedEvent) → head.hosts ≡ hosts → IsAt head events world.old (K.content world.old.inner.server.keeper) delivered.old
+    ensures goes { (head : Head) (events : List StagedEvent) → head.hosts ≡ hosts
+        → IsAt head events world.old (K.content world.old.inner.server.keeper) delivered.old
         → Goes result (play_plain head most line events) (λ es. IsAt head es world.new (K.content world.new.inner.server.keeper) delivered.new) }
     ensures faults { CountsFaults result (K.faults world.old.inner.server.keeper) (K.faults world.new.inner.server.keeper) }
     ensures follows { K.follows world.old.inner.server.keeper world.new.inner.server.keeper }
@@ -49,17 +50,77 @@ fn play_plain<K: Keeper>(
     }
 }
 
+/// Plays the line of a schedule at a place, of which a second one is made.
+fn play_second<K: Keeper>(
+    world: &mut StagedWorld<K>,
+    delivered: &mut Delivered,
+    hosts: u32,
+    most: u32,
+    lines: &Lines,
+    place: usize,
+) -> Stepped
+    requires hosts { hosts ≤ length world.old.inner.clients }
+    requires can { AreForWorld (length world.old.inner.clients) world.old.inner.skew.window lines.now }
+    requires below { place < length lines.now }
+    ensures goes { (line : Line) → slice_get lines.now place ≡ Some line → (head : Head) (events : List StagedEvent) → head.hosts ≡ hosts
+        → IsAt head events world.old (K.content world.old.inner.server.keeper) delivered.old
+        → Goes result (play_plain head most line events) (λ es. IsAt head es world.new (K.content world.new.inner.server.keeper) delivered.new) }
+    ensures faults { CountsFaults result (K.faults world.old.inner.server.keeper) (K.faults world.new.inner.server.keeper) }
+    ensures follows { K.follows world.old.inner.server.keeper world.new.inner.server.keeper }
+    ensures settings { HasSettings (length world.old.inner.clients) world.old.inner.skew.window world.old.inner.term world.new.inner }
+{
+    match lines.get(place) {
+        Some(line) => play_plain(world, delivered, hosts, most, line),
+        None => unreachable!(),
+    }
+}
+
+/// Plays the line of a schedule at a place. A delivery, which most lines are, makes no second line.
+fn play_plain_at<K: Keeper>(
+    world: &mut StagedWorld<K>,
+    delivered: &mut Delivered,
+    hosts: u32,
+    most: u32,
+    lines: &Lines,
+    place: usize,
+) -> Stepped
+    requires hosts { hosts ≤ length world.old.inner.clients }
+    requires can { AreForWorld (length world.old.inner.clients) world.old.inner.skew.window lines.now }
+    requires below { place < length lines.now }
+    ensures goes { (line : Line) → slice_get lines.now place ≡ Some line → (head : Head) (events : List StagedEvent) → head.hosts ≡ hosts
+        → IsAt head events world.old (K.content world.old.inner.server.keeper) delivered.old
+        → Goes result (play_plain head most line events) (λ es. IsAt head es world.new (K.content world.new.inner.server.keeper) delivered.new) }
+    ensures faults { CountsFaults result (K.faults world.old.inner.server.keeper) (K.faults world.new.inner.server.keeper) }
+    ensures follows { K.follows world.old.inner.server.keeper world.new.inner.server.keeper }
+    ensures settings { HasSettings (length world.old.inner.clients) world.old.inner.skew.window world.old.inner.term world.new.inner }
+{
+    match lines.packet_at(place) {
+        Some(packet) => deliver(world, delivered, packet),
+        None => play_second(world, delivered, hosts, most, lines, place),
+    }
+}
+
 /// A host's side offers a body.
 fn offer<K: Keeper>(world: &mut StagedWorld<K>, delivered: &mut Delivered, host: Host) -> Stepped
     requires { host < length world.old.inner.clients }
     ensures goes { (head : Head) (events : List StagedEvent) → IsAt head events world.old (K.content world.old.inner.server.keeper) delivered.old
-        → Goes result (play_line head 0 (stage host) events) (λ es. IsAt head es world.new (K.content world.new.inner.server.keeper) delivered.new) }
+        → Goes result (play_event head (StagedEvent.Stage host) events) (λ es. IsAt head es world.new (K.content world.new.inner.server.keeper) delivered.new) }
     ensures faults { CountsFaults result (K.faults world.old.inner.server.keeper) (K.faults world.new.inner.server.keeper) }
     ensures follows { K.follows world.old.inner.server.keeper world.new.inner.server.keeper }
     ensures settings { HasSettings (length world.old.inner.clients) world.old.inner.skew.window world.old.inner.term world.new.inner }
 {
     let event = StagedEvent::Stage(host);
     take(world, delivered, &event)
+}
+
+/// The host whose side offers in the line at a place, if one does.
+fn stage_at(stages: &[Option<Host>], place: usize) -> Option<Host>
+    ensures { result ≡ stage_at stages.now place }
+{
+    match stages.get(place) {
+        Some(stage) => *stage,
+        None => None,
+    }
 }
 
 /// Plays the line at a place.
@@ -76,18 +137,16 @@ fn play_at<K: Keeper>(
     requires stages { AreForHosts (length world.old.inner.clients) stages.now }
     requires can { AreForWorld (length world.old.inner.clients) world.old.inner.skew.window lines.now }
     requires below { place < length lines.now }
-    ensures goes { (line : StagedLine) → slice_get (mixed stages.now lines.now) place ≡ Some line → (head : Head) (events : List StagedEvent) → head.hosts ≡ hosts → IsAt head events world.old (K.content world.old.inner.server.keeper) delivered.old
+    ensures goes { (line : StagedLine) → slice_get (mixed stages.now lines.now) place ≡ Some line → (head : Head) (events : List StagedEvent) → head.hosts ≡ hosts
+        → IsAt head events world.old (K.content world.old.inner.server.keeper) delivered.old
         → Goes result (play_line head most line events) (λ es. IsAt head es world.new (K.content world.new.inner.server.keeper) delivered.new) }
     ensures faults { CountsFaults result (K.faults world.old.inner.server.keeper) (K.faults world.new.inner.server.keeper) }
     ensures follows { K.follows world.old.inner.server.keeper world.new.inner.server.keeper }
     ensures settings { HasSettings (length world.old.inner.clients) world.old.inner.skew.window world.old.inner.term world.new.inner }
 {
-    match stages.get(place) {
-        Some(Some(host)) => offer(world, delivered, *host),
-        _ => match lines.get(place) {
-            Some(line) => play_plain(world, delivered, hosts, most, line),
-            None => unreachable!(),
-        },
+    match stage_at(stages, place) {
+        Some(host) => offer(world, delivered, host),
+        None => play_plain_at(world, delivered, hosts, most, lines, place),
     }
 }
 
@@ -102,8 +161,8 @@ fn stopped(first: u32, place: usize, answer: Stepped) -> Played
     }
 }
 
-/// Plays lines over a world of so many hosts, in which nothing was played before. Of each line `stages` has the host whose side offers, if one does. The
-/// first line has this number in its text, and a flow may have so many deliveries.
+/// Plays lines over a world of so many hosts, in which nothing was played before. Of each line `stages` has the host whose side
+/// offers, if one does. The first line has this number in its text, and a flow may have so many deliveries.
 pub(crate) fn play<K: Keeper>(
     alloc: Global,
     world: &mut StagedWorld<K>,

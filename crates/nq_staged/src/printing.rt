@@ -10,7 +10,7 @@ use crate::schedules::VERSION;
 use nq_base::{Journal, NoMemory};
 use nq_ending::Ending;
 use nq_io::{Put, Sink};
-use nq_journal::{Printed, is_in, print};
+use nq_journal::{Printed, print};
 use nq_staged_run::StagedCounts;
 use std::alloc::Global;
 
@@ -30,11 +30,11 @@ pub(crate) fn count_text(alloc: Global, counts: StagedCounts) -> Result<String, 
     }
 }
 
-/// Prints a text, a journal in version 2, and another text. How it ends:
+/// Prints a text, a journal in version 2, which has each entry, and another text. How it ends:
 ///
 /// - `Done`: all of that was printed.
 /// - `WriteFault`: the sink failed, which it has counted; a front of that is printed.
-/// - `Memory`: memory was wanting, or version 2 lacks an entry; a front of that is printed.
+/// - `Memory`: memory was wanting; a front of that is printed.
 pub(crate) fn print_parts<K: Sink>(
     alloc: Global,
     before: &[u8],
@@ -45,9 +45,6 @@ pub(crate) fn print_parts<K: Sink>(
     ensures { PrintsBytes result (before.now ++ (journal_text 2 journal.now.entries ++ after.now))
         (K.held out.old) (K.held out.new) (K.faults out.old) (K.faults out.new) }
 {
-    if !is_in(journal, VERSION) {
-        return Ending::Memory;
-    }
     match out.put(before) {
         Put::All => {}
         Put::Failed => return Ending::WriteFault,

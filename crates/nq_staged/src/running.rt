@@ -16,15 +16,14 @@ ghost use Rattle.nq_script.specs.Heads.{FitsHead};
 ghost use Rattle.nq_script.specs.declared.heads.Head.{Head};
 ghost use Rattle.nq_staged.specs.Going.{Comes};
 ghost use Rattle.nq_staged.specs.Playing.{Ended, play};
-ghost use Rattle.nq_staged.specs.Running.{EndsStaged, EndsStagedPlayed, EndsStagedText, FaultyStaged, IsReadyStaged, IsTellable, PassesStaged, PrintsRun, RunsStaged, StopsStaged};
-ghost use Rattle.nq_staged.specs.Text.{mixed};
+ghost use Rattle.nq_staged.specs.Running.{EndsStaged, EndsStagedPlayed, EndsStagedText, FaultyStaged, PassesStaged, PrintsRun, RunsStaged, StopsStaged};
+ghost use Rattle.nq_staged.specs.Text.{IsReadyStaged, IsTellable, mixed};
 ghost use Rattle.nq_staged_run.specs.declared.StagedEvent.{StagedEvent};
 ghost use Rattle.nq_world.specs.Playing.{HasSettings};
 
 use crate::lines::play;
 use crate::printing::{count_text, print_parts};
 use crate::schedules::schedule_text;
-use crate::telling::{tell_over, tell_script, tell_stop};
 use crate::texts::{StagedScript, read_script};
 use nq_base::NoMemory;
 use nq_commit::StagedWorld;
@@ -32,7 +31,7 @@ use nq_ending::Ending;
 use nq_io::{Sink, Source, Whole, read_all};
 use nq_keeper::{Keeper, ListKeeper};
 use nq_play::Played;
-use nq_replay::begin_surely;
+use nq_replay::{begin_surely, tell_over, tell_script, tell_stop};
 use nq_script::{Head, ScriptFault};
 use nq_world::{MOST_EVENTS, NewFault};
 use std::alloc::Global;
@@ -160,7 +159,8 @@ fn begin_staged<L: Keeper + Drop>(
     let world = begin_surely(alloc, head, keeper)?;
     match StagedWorld::new(alloc, world, head.hosts) {
         Ok(world) => Ok(world),
-        Err(NewFault::Memory(_keeper) | NewFault::Failed(_keeper)) => Err(NoMemory::Memory),
+        Err(NewFault::Memory(_keeper)) => Err(NoMemory::Memory),
+        Err(NewFault::Failed(_keeper)) => unreachable!(),
     }
 }
 

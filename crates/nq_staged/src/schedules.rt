@@ -6,7 +6,7 @@ ghost use Rattle.nq_script.specs.Heads.{FitsHead};
 ghost use Rattle.nq_script.specs.Lines.{AreSpelled, once};
 ghost use Rattle.nq_script.specs.Schedule.{SpellsSchedule};
 ghost use Rattle.nq_script.specs.Text.{text_of};
-ghost use Rattle.nq_staged.specs.Running.{IsTellable};
+ghost use Rattle.nq_staged.specs.Text.{IsTellable};
 
 use nq_base::NoMemory;
 use nq_script::{Head, Schedule, print_head};

@@ -1,22 +1,18 @@
 //! The text of a staged schedule.
 
-ghost use Rattle.std.specs.Prelude.{◌≡◌, ◌<◌, ◌^◌, ◌++◌, ◌∷◌, ℕ, List, [], codes, is_some, length, IfOk, OnOk, if◌then◌else◌};
+ghost use Rattle.std.specs.Prelude.{◌≡◌, ◌<◌, ◌^◌, ◌+◌, ◌++◌, ◌∷◌, ℕ, List, [], codes, is_some, length, IfOk, OnOk, if◌then◌else◌};
 ghost use Rattle.nq_script.specs.Faults.{Answers};
+ghost use Rattle.nq_script.specs.Heads.{head_lines};
+ghost use Rattle.nq_script.specs.Schedule.{FirstBadLine, SpellsSchedule};
 ghost use Rattle.nq_script.specs.declared.heads.Head.{Head};
-ghost use Rattle.nq_staged.specs.Running.{IsReadyStaged};
-ghost use Rattle.nq_staged.specs.Text.{FirstBadStaged, SpellsStaged, StagedLine, mixed, plain_bytes, stages_in};
+ghost use Rattle.nq_staged.specs.Text.{FirstBadStaged, IsReadyStaged, SpellsStaged, StagedLine, mixed, plain_bytes, stages_in};
 
+use crate::schedules::VERSION;
 use nq_base::{Host, NoMemory};
 use nq_commit::parse_stage;
-use nq_script::{Head, HeadOut, Script, ScriptFault, parse, parse_head};
+use nq_script::{HeadOut, Script, ScriptFault, parse, parse_head};
 use nq_words::cut;
 use std::alloc::Global;
-
-/// The version of a staged schedule.
-const VERSION: u32 = 2;
-
-/// How many bytes a text has at most, and one more.
-const TOO_LONG: usize = 0x8000_0000;
 
 /// A staged schedule as its text gives it.
 #[derive(Drop)]
@@ -49,6 +45,15 @@ pub(crate) fn read_script(alloc: Global, text: &[u8]) -> Result<StagedScript, Sc
     ensures bad { (number : ℕ) → FirstBadStaged text.now number → Answers result (λ s. ⊥) (λ place. place ≡ number) }
     ensures ready { Answers result (λ s. IsReadyStaged s.script s.stages.items) (λ number. Unit {0}) }
 {
+    read_whole(alloc, text)
+}
+
+/// Reads the head, and behind it the lines.
+fn read_whole(alloc: Global, text: &[u8]) -> Result<StagedScript, ScriptFault>
+    requires { length text.now < 2 ^ 31 }
+    ensures found { Answers result (λ s. SpellsStaged s.script.head (mixed s.stages.items s.script.lines) text.now) (λ number. FirstBadStaged text.now number) }
+    ensures ready { Answers result (λ s. IsReadyStaged s.script s.stages.items) (λ number. Unit {0}) }
+{
     let HeadOut {
         head,
         lines: _,
@@ -58,10 +63,17 @@ pub(crate) fn read_script(alloc: Global, text: &[u8]) -> Result<StagedScript, Sc
         return Err(ScriptFault::Bad(1));
     }
     let (front, body) = text.split_at(bytes);
-    let PlainText { bytes, stages } = plain_text(alloc, head.hosts, front, body)?;
-    if bytes.len() >= TOO_LONG {
-        return Err(ScriptFault::Memory);
-    }
+    let plain = plain_text(alloc, head.hosts, front, body)?;
+    read_plain(alloc, plain)
+}
+
+/// Reads a text in which a line `flow` stands for each offer.
+fn read_plain(alloc: Global, plain: PlainText) -> Result<StagedScript, ScriptFault>
+    requires { length plain.bytes.items < 2 ^ 31 }
+    ensures found { Answers result (λ s. SpellsSchedule s.script.head s.script.lines plain.bytes.items × (s.stages.items ≡ plain.stages.items)) (λ number. FirstBadLine plain.bytes.items number) }
+    ensures first { Answers result (λ s. s.script.first ≡ length (head_lines s.script.head) + 1) (λ number. Unit {0}) }
+{
+    let PlainText { bytes, stages } = plain;
     let script = parse(alloc, &bytes)?;
     Ok(StagedScript { script, stages })
 }

@@ -3,7 +3,7 @@ use Rattle.nq_staged.proofs.Outcomes.{ends_done, ends_faulty, ends_skew, ends_pa
 use Rattle.nq_staged.proofs.running.run_text.Goals as goal
 
 pub run_in_memory-requires : goal.run_in_memory-requires
-run_in_memory-requires g c = record { text = c.args.text.now; spelled = c.in-Ok.ensures.found; short = c.requires; first = c.in-Ok.ensures.first }
+run_in_memory-requires g c = c.in-Ok.ensures.ready
 
 pub returns-in-Ok-clause-ends : goal.returns-in-Ok-clause-ends
 returns-in-Ok-clause-ends g c = text_of_schedule c.run_in_memory.result c.in-Ok.script.script.head (mixed c.in-Ok.script.stages.items c.in-Ok.script.script.lines) c.args.text.now _ _ _ _ c.in-Ok.ensures.found c.run_in_memory.ensures
