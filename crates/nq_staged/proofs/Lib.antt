@@ -6,7 +6,7 @@ pub mod Tellable
 pub mod Keeping
 pub mod Outcomes
 pub mod Endings
-pub mod Texts
-pub mod Printing
+pub mod Grammar
+pub mod Printed
 pub mod Readied
 pub mod Spelling

@@ -61,19 +61,18 @@ same-head g h rest text lines fits split spelled =
 
 -- ---- line by line
 
-pub plain-more : (hosts : ℕ) (bytes more rest line after : List ℕ) (stage : Option ℕ) → cut_at 10 rest ≡ Some (line, after) → stage ≡ stage_line hosts line → more ≡ bytes ++ ((if is_some stage then codes "flow" else line) ++ 10 ∷ []) → more ++ plain_bytes hosts after ≡ bytes ++ plain_bytes hosts rest
-plain-more hosts bytes more rest line after stage is read put =
+pub plain-more : (hosts : ℕ) (bytes more rest line after : List ℕ) → cut_at 10 rest ≡ Some (line, after) → more ≡ bytes ++ (plain_line hosts line ++ 10 ∷ []) → more ++ plain_bytes hosts after ≡ bytes ++ plain_bytes hosts rest
+plain-more hosts bytes more rest line after is put =
     let found = cut-found 10 rest line after is in
     let l : List ℕ = plain_line hosts line in
-    let here : (if is_some stage then codes "flow" else line) ≡ l = ap (λ s. if is_some s then codes "flow" else line) read in
-    ap (λ m. m ++ plain_bytes hosts after) (put ∙ ap (λ x. bytes ++ (x ++ 10 ∷ [])) here)
+    ap (λ m. m ++ plain_bytes hosts after) put
     ∙ append_assoc bytes (l ++ 10 ∷ []) (plain_bytes hosts after)
     ∙ ap (λ x. bytes ++ x) (append_assoc l (10 ∷ []) (plain_bytes hosts after) ∙ sym (plain-step hosts line after found.1) ∙ ap (plain_bytes hosts) (sym found.0))
 
-pub stages-more : (hosts : ℕ) (stages more : List (Option ℕ)) (rest line after : List ℕ) (stage : Option ℕ) → cut_at 10 rest ≡ Some (line, after) → stage ≡ stage_line hosts line → more ≡ stages ++ stage ∷ [] → more ++ stages_in hosts after ≡ stages ++ stages_in hosts rest
-stages-more hosts stages more rest line after stage is read put =
+pub stages-more : (hosts : ℕ) (stages more : List (Option ℕ)) (rest line after : List ℕ) → cut_at 10 rest ≡ Some (line, after) → more ≡ stages ++ stage_line hosts line ∷ [] → more ++ stages_in hosts after ≡ stages ++ stages_in hosts rest
+stages-more hosts stages more rest line after is put =
     let found = cut-found 10 rest line after is in
-    ap (λ m. m ++ stages_in hosts after) (put ∙ ap (λ s. stages ++ s ∷ []) read)
+    ap (λ m. m ++ stages_in hosts after) put
     ∙ append_assoc stages (stage_line hosts line ∷ []) (stages_in hosts after)
     ∙ ap (λ x. stages ++ x) (sym (stages-step hosts line after found.1) ∙ ap (stages_in hosts) (sym found.0))
 

@@ -1,11 +1,12 @@
 //! The text of a staged schedule.
 
-ghost use Rattle.std.specs.Prelude.{◌≡◌, ◌<◌, ◌^◌, ◌+◌, ◌++◌, ◌∷◌, ℕ, List, [], codes, is_some, length, IfOk, OnOk, if◌then◌else◌};
+ghost use Rattle.std.specs.Prelude.{◌≡◌, ◌<◌, ◌^◌, ◌+◌, ◌++◌, ◌∷◌, ℕ, List, [], length, IfOk, OnOk};
+ghost use Rattle.nq_commit.specs.Line.{stage_line};
 ghost use Rattle.nq_script.specs.Faults.{Answers};
 ghost use Rattle.nq_script.specs.Heads.{head_lines};
 ghost use Rattle.nq_script.specs.Schedule.{FirstBadLine, SpellsSchedule};
 ghost use Rattle.nq_script.specs.declared.heads.Head.{Head};
-ghost use Rattle.nq_staged.specs.Text.{FirstBadStaged, IsReadyStaged, SpellsStaged, StagedLine, mixed, plain_bytes, stages_in};
+ghost use Rattle.nq_staged.specs.Text.{FirstBadStaged, IsReadyStaged, SpellsStaged, StagedLine, mixed, plain_bytes, plain_line, stages_in};
 
 use crate::schedules::VERSION;
 use nq_base::{Host, NoMemory};
@@ -85,28 +86,50 @@ fn plain_text(alloc: Global, hosts: u32, front: &[u8], body: &[u8]) -> Result<Pl
 {
     let mut bytes = Vec::from_slice(alloc, front)?;
     let mut stages = Vec::new(alloc);
+    push_lines(&mut bytes, &mut stages, hosts, body)?;
+    Ok(PlainText { bytes, stages })
+}
+
+/// Appends bytes in which a line `flow` stands for each offer, and of each line the host whose side offers, if one does.
+fn push_lines(
+    bytes: &mut Vec<u8>,
+    stages: &mut Vec<Option<Host>>,
+    hosts: u32,
+    body: &[u8],
+) -> Result<(), NoMemory>
+    ensures plain { OnOk result (bytes.new.items ≡ bytes.old.items ++ plain_bytes hosts body.now) }
+    ensures stages { OnOk result (stages.new.items ≡ stages.old.items ++ stages_in hosts body.now) }
+{
     let mut rest = body;
     'lines: loop {
         let Some((line, after)) = cut(rest, b'\n') else {
             bytes.extend_from_slice(rest)?;
-            return Ok(PlainText { bytes, stages });
+            return Ok(());
         };
-        let stage = parse_stage(line, hosts);
-        put_line(&mut bytes, line, stage)?;
-        stages.push(stage)?;
+        push_line(bytes, stages, hosts, line)?;
         rest = after;
     }
 }
 
-/// Appends a line as it would stand in a schedule, with its line feed.
-fn put_line(bytes: &mut Vec<u8>, line: &[u8], stage: Option<Host>) -> Result<(), NoMemory>
-    ensures { OnOk result (bytes.new.items ≡ bytes.old.items ++ (if is_some stage then codes "flow" else line.now) ++ 10 ∷ []) }
+/// Appends a line as it would stand in a schedule, with its line feed, and the host whose side offers in it, if one does.
+fn push_line(
+    bytes: &mut Vec<u8>,
+    stages: &mut Vec<Option<Host>>,
+    hosts: u32,
+    line: &[u8],
+) -> Result<(), NoMemory>
+    ensures plain { OnOk result (bytes.new.items ≡ bytes.old.items ++ (plain_line hosts line.now ++ 10 ∷ [])) }
+    ensures stage { OnOk result (stages.new.items ≡ stages.old.items ++ stage_line hosts line.now ∷ []) }
 {
-    match stage {
-        Some(_) => bytes.extend_from_slice(b"flow\n")?,
+    match parse_stage(line, hosts) {
+        Some(host) => {
+            bytes.extend_from_slice(b"flow\n")?;
+            stages.push(Some(host))?;
+        }
         None => {
             bytes.extend_from_slice(line)?;
             bytes.push(b'\n')?;
+            stages.push(None)?;
         }
     }
     Ok(())

@@ -1,4 +1,4 @@
-use Rattle.nq_staged.proofs.Texts.{staged-bad, staged-only}
+use Rattle.nq_staged.proofs.Grammar.{staged-bad, staged-only}
 use Rattle.nq_staged.proofs.texts.read_script.Goals as goal
 
 pub returns-clause-only : goal.returns-clause-only
