@@ -1,5 +1,5 @@
 -- What is spelled is read again.
-use Rattle.std.proofs.Common.{◌≡◌, ℕ, ◌<◌, ◌^◌, ◌==◌, ◌||◌, ◌⊎◌, Bool, true, false, List, [], ◌∷◌, Option, Some, None, refl, ap, sym, codes, inl, inr}
+use Rattle.std.proofs.Common.{◌≡◌, ℕ, ◌<◌, ◌^◌, ◌==◌, ◌||◌, ◌⊎◌, Bool, true, false, List, [], ◌∷◌, Option, Some, None, refl, ap, sym, inl, inr}
 use Rattle.std.specs.Fmt.{decimal}
 use Rattle.std.proofs.lemmas.Bool.{eq-eqb}
 use Rattle.std.proofs.lemmas.Bool.Decides.{eqb_tells}
@@ -7,7 +7,6 @@ use Rattle.nq_base.specs.declared.Entry.{Entry}
 use Rattle.nq_base.specs.declared.Mode.{Mode}
 use Rattle.nq_base.specs.Plain.{plain}
 use Rattle.nq_words.specs.Forms.{told_words, said_words}
-use Rattle.nq_words.specs.ReadingCalls.{has_told}
 use Rattle.nq_words.proofs.Again.{take_u64, take_u32, take_who, take_place, take_tag, told_again, said_again, has_told_again}
 use Rattle.nq_journal.specs.ReadingEntries.{mode_of, mode_at, way_of, way_at, source_at, longest_at, kind_of, c_at, w_at, r_at, s_at, l_at, g_at, f_at, o_at, b_at, x_at, z_at, a_at, entry_of}
 use Rattle.nq_journal.specs.Text.{mode_word, way_word, source_words, longest_words, entry_words, FitsSource, Fits, Has}
@@ -31,7 +30,8 @@ take_source (Some packet) fits = rw (take_u64 packet [] fits) refl
 -- entries
 
 -- the longest term of a version, as it is read
-longest_again : (version longest : ℕ) → longest < 2 ^ 32 → (version ≡ 2) ⊎ (longest ≡ 60) → (longest_at version (longest_words version longest) ≡ Some (longest, [])) × (((version == 2) || (longest == 60)) ≡ true)
+longest_again : (version longest : ℕ) → longest < 2 ^ 32 → (version ≡ 2) ⊎ (longest ≡ 60)
+    → (longest_at version (longest_words version longest) ≡ Some (longest, [])) × (((version == 2) || (longest == 60)) ≡ true)
 unfolding longest_at
 longest_again version longest fits (inl two) =
     let test = eq-eqb version 2 two in (rw test (take_u32 longest [] fits), rw test refl)

@@ -48,7 +48,8 @@ journal_head bytes journal = record {
 }
 
 -- a text whose first line names no version is faulty there
-pub no_head : (bytes : List ℕ) → ((line after : List ℕ) → IsFree 10 line → bytes ≡ ended line ++ after → (version : ℕ) → IsVersion version → line ≢ head version) → IsFaultyAt 1 bytes
+pub no_head : (bytes : List ℕ) → ((line after : List ℕ) → IsFree 10 line → bytes ≡ ended line ++ after → (version : ℕ) → IsVersion version
+    → line ≢ head version) → IsFaultyAt 1 bytes
 no_head bytes none = record {
   count = 0;
   numbered = omega arith;
@@ -81,7 +82,8 @@ bodies_free version (entry ∷ entries) are =
     (unbroken (body version entry) (body_free version entry are.0.1), bodies_free version entries are.1)
 
 -- the first line and those of some entries are whole lines
-front_lines : (version : ℕ) (entries : List Entry) → IsVersion version → AllByRecursion (IsEntry version) entries → AreLines (length entries + 1) (ended (head version) ++ lines version entries)
+front_lines : (version : ℕ) (entries : List Entry) → IsVersion version → AllByRecursion (IsEntry version) entries
+    → AreLines (length entries + 1) (ended (head version) ++ lines version entries)
 front_lines version entries is are = record {
   lines = head version ∷ bodies version entries;
   counted = omega (arith, length-map entries (body version));
@@ -107,7 +109,8 @@ same_lines m n xs ys are count same =
     record { lines = are.lines; counted = are.counted ∙ count; unbroken = are.unbroken; whole = sym same ∙ are.whole }
 
 -- a journal of these entries
-journal_of : (version : ℕ) (entries : List Entry) (bytes : List ℕ) → IsVersion version → AreEntries version entries → bytes ≡ ended (head version) ++ (lines version entries ++ end_line) → IsJournal bytes
+journal_of : (version : ℕ) (entries : List Entry) (bytes : List ℕ) → IsVersion version → AreEntries version entries
+    → bytes ≡ ended (head version) ++ (lines version entries ++ end_line) → IsJournal bytes
 journal_of version entries bytes is are split = record {
   version = version;
   entries = entries;
@@ -120,7 +123,8 @@ journal_of version entries bytes is are split = record {
 }
 
 -- what a journal has behind some of its lines
-behind : (version : ℕ) (entries : List Entry) (left bytes : List ℕ) → IsVersion version → bytes ≡ ended (head version) ++ (lines version entries ++ left) → IsJournal bytes → IsTail version (lines version entries ++ left)
+behind : (version : ℕ) (entries : List Entry) (left bytes : List ℕ) → IsVersion version
+    → bytes ≡ ended (head version) ++ (lines version entries ++ left) → IsJournal bytes → IsTail version (lines version entries ++ left)
 behind version entries left bytes is split journal =
     let P : List ℕ → Type 0 = IsJournal in
     journal_tail version (lines version entries ++ left) is (subst P split journal)
@@ -134,7 +138,8 @@ never_wrong version left line after wrong is split (inr found) =
     (ap ended found.2 ∙ sym (entry_is version found.0))
 
 -- a line that is no entry's and not the last is the first faulty one
-pub wrong_line : (version : ℕ) (entries : List Entry) (left bytes : List ℕ) → IsVersion version → AreEntries version entries → bytes ≡ ended (head version) ++ (lines version entries ++ left) → IsWrong version left → IsFaultyAt (length entries + 2) bytes
+pub wrong_line : (version : ℕ) (entries : List Entry) (left bytes : List ℕ) → IsVersion version → AreEntries version entries
+    → bytes ≡ ended (head version) ++ (lines version entries ++ left) → IsWrong version left → IsFaultyAt (length entries + 2) bytes
 wrong_line version entries left bytes is are split wrong =
     let good = each version entries are in
     let front = ended (head version) ++ lines version entries in
@@ -170,7 +175,8 @@ not_empty [] more none = cc
 not_empty (b ∷ line) more none = cc
 
 -- what stands behind the last line is in a faulty one
-pub long_text : (version : ℕ) (entries : List Entry) (left bytes : List ℕ) → IsVersion version → AreEntries version entries → bytes ≡ ended (head version) ++ (lines version entries ++ left) → IsTooLong left → IsFaultyAt (length entries + 3) bytes
+pub long_text : (version : ℕ) (entries : List Entry) (left bytes : List ℕ) → IsVersion version → AreEntries version entries
+    → bytes ≡ ended (head version) ++ (lines version entries ++ left) → IsTooLong left → IsFaultyAt (length entries + 3) bytes
 long_text version entries left bytes is are split long =
     let good = each version entries are in
     let front = ended (head version) ++ lines version entries in
@@ -214,7 +220,8 @@ record NextLine (fewer more : List (List ℕ)) (rest after : List ℕ) : Type 0 
   front : flat_map ended more ≡ flat_map ended fewer ++ (ended line ++ flat_map ended lines_after)
   split : rest ≡ ended line ++ (flat_map ended lines_after ++ after)
 
-next_line : (fewer more : List (List ℕ)) (rest after : List ℕ) → AllByRecursion IsUnbroken fewer → AllByRecursion IsUnbroken more → flat_map ended fewer ++ rest ≡ flat_map ended more ++ after → length fewer < length more → NextLine fewer more rest after
+next_line : (fewer more : List (List ℕ)) (rest after : List ℕ) → AllByRecursion IsUnbroken fewer → AllByRecursion IsUnbroken more
+    → flat_map ended fewer ++ rest ≡ flat_map ended more ++ after → length fewer < length more → NextLine fewer more rest after
 next_line fewer [] rest after are_fewer are_more same less = absurd (omega arith)
 next_line [] (line ∷ more) rest after are_fewer are_more same less = record {
   line = line;
@@ -249,7 +256,8 @@ no_earlier m n bytes x y less =
     ∙ y.split
     ∙ ap (λ xs. xs ++ y.rest) y.before.whole in
     let shorter : length fewer < length more = omega (arith, x.before.counted, y.before.counted) in
-    let next = next_line fewer more x.rest y.rest (recursion_from_All IsUnbroken fewer x.before.unbroken) (recursion_from_All IsUnbroken more y.before.unbroken) same shorter in
+    let next = next_line fewer more x.rest y.rest (recursion_from_All IsUnbroken fewer x.before.unbroken)
+    (recursion_from_All IsUnbroken more y.before.unbroken) same shorter in
     let tail = flat_map ended next.lines_after in
     let regrouped =
     ap (λ xs. xs ++ y.begins.more) (y.before.whole ∙ next.front)

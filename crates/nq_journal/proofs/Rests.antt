@@ -30,7 +30,8 @@ shorter rest line after cuts =
     omega (arith, ap length split, length-append line (10 ∷ after))
 
 -- the text ends here
-pub ends_here : (version : ℕ) (entries : List Entry) (bytes rest line after : List ℕ) → AreEntries version entries → bytes ≡ lines version entries ++ rest → Some (line, after) ≡ cut 10 rest → line ≡ codes "end" → after ≡ [] → Ends version entries bytes
+pub ends_here : (version : ℕ) (entries : List Entry) (bytes rest line after : List ℕ) → AreEntries version entries
+    → bytes ≡ lines version entries ++ rest → Some (line, after) ≡ cut 10 rest → line ≡ codes "end" → after ≡ [] → Ends version entries bytes
 ends_here version entries bytes rest line after are split cuts last none = record {
   are = are;
   split =
@@ -40,7 +41,9 @@ ends_here version entries bytes rest line after are split cuts last none = recor
 }
 
 -- something stands behind the end
-pub goes_on : (version : ℕ) (entries : List Entry) (number next : ℕ) (bytes rest line after : List ℕ) → AreEntries version entries → number ≡ named (length entries + 2) → next ≡ min (number + 1) (2 ^ 32 - 1) → bytes ≡ lines version entries ++ rest → Some (line, after) ≡ cut 10 rest → line ≡ codes "end" → after ≢ [] → StopsAt version next bytes
+pub goes_on : (version : ℕ) (entries : List Entry) (number next : ℕ) (bytes rest line after : List ℕ) → AreEntries version entries
+    → number ≡ named (length entries + 2) → next ≡ min (number + 1) (2 ^ 32 - 1) → bytes ≡ lines version entries ++ rest
+    → Some (line, after) ≡ cut 10 rest → line ≡ codes "end" → after ≢ [] → StopsAt version next bytes
 goes_on version entries number next bytes rest line after are at next_is split cuts last some = record {
   entries = entries;
   are = are;
@@ -58,7 +61,9 @@ goes_on version entries number next bytes rest line after are at next_is split c
 }
 
 -- a line that is not read
-pub not_read : (version : ℕ) (entries : List Entry) (number : ℕ) (bytes rest line after : List ℕ) → AreEntries version entries → number ≡ named (length entries + 2) → bytes ≡ lines version entries ++ rest → Some (line, after) ≡ cut 10 rest → line ≢ codes "end" → entry_of version (words_of line) ≡ None → StopsAt version number bytes
+pub not_read : (version : ℕ) (entries : List Entry) (number : ℕ) (bytes rest line after : List ℕ) → AreEntries version entries
+    → number ≡ named (length entries + 2) → bytes ≡ lines version entries ++ rest → Some (line, after) ≡ cut 10 rest → line ≢ codes "end"
+    → entry_of version (words_of line) ≡ None → StopsAt version number bytes
 not_read version entries number bytes rest line after are at split cuts other none =
     let cut_here = cut_line rest line after cuts in
     let same = λ (line' after' : List ℕ) (is : IsUnbroken line') (split' : rest ≡ ended line' ++ after').
@@ -90,7 +95,8 @@ not_free [] after is = is.0 refl
 not_free (b ∷ line) after is = not_free line after is.1
 
 -- no whole line is left
-pub unfinished : (version : ℕ) (entries : List Entry) (number : ℕ) (bytes rest : List ℕ) → AreEntries version entries → number ≡ named (length entries + 2) → bytes ≡ lines version entries ++ rest → None ≡ cut 10 rest → StopsAt version number bytes
+pub unfinished : (version : ℕ) (entries : List Entry) (number : ℕ) (bytes rest : List ℕ) → AreEntries version entries
+    → number ≡ named (length entries + 2) → bytes ≡ lines version entries ++ rest → None ≡ cut 10 rest → StopsAt version number bytes
 unfinished version entries number bytes rest are at split none =
     let P : Option (List ℕ × List ℕ) → Type 0 = IsCut 10 rest in
     let whole : IsFree 10 rest = subst P (sym none) (cut_found 10 rest) in
@@ -113,7 +119,8 @@ unfinished version entries number bytes rest are at split none =
     }
 
 -- a line that is read
-pub one_more : (version : ℕ) (entries : List Entry) (entry : Entry) (bytes rest line after : List ℕ) → bytes ≡ lines version entries ++ rest → Some (line, after) ≡ cut 10 rest → words_of line ≡ entry_words version entry ++ [] → bytes ≡ lines version (entries ++ entry ∷ []) ++ after
+pub one_more : (version : ℕ) (entries : List Entry) (entry : Entry) (bytes rest line after : List ℕ) → bytes ≡ lines version entries ++ rest
+    → Some (line, after) ≡ cut 10 rest → words_of line ≡ entry_words version entry ++ [] → bytes ≡ lines version (entries ++ entry ∷ []) ++ after
 one_more version entries entry bytes rest line after split cuts spelled =
     let is : line ≡ body version entry =
     sym (joined-words_of line) ∙ ap joined (spelled ∙ append-nil (entry_words version entry)) in
@@ -124,7 +131,8 @@ one_more version entries entry bytes rest line after split cuts spelled =
     ∙ ap (λ xs. (lines version entries ++ xs) ++ after) (sym (append-nil (entry_line version entry)))
     ∙ ap (λ xs. xs ++ after) (sym (flat_map-append (entry_line version) entries (entry ∷ [])))
 
-pub entries_more : (version : ℕ) (entries : List Entry) (entry : Entry) → AreEntries version entries → Has version entry → Fits entry → AreEntries version (entries ++ entry ∷ [])
+pub entries_more : (version : ℕ) (entries : List Entry) (entry : Entry) → AreEntries version entries → Has version entry → Fits entry
+    → AreEntries version (entries ++ entry ∷ [])
 entries_more version entries entry are has fits = record {
   has = All-push (Has version) entries entry are.has has;
   fits = All-push Fits entries entry are.fits fits;
@@ -133,7 +141,8 @@ entries_more version entries entry are has fits = record {
 -- whole texts
 
 -- a rest that stops makes a text that does
-pub stops : (version number : ℕ) (bytes line rest : List ℕ) → IsVersion version → ended line ≡ head_line version → bytes ≡ ended line ++ rest → StopsAt version number rest → IsFault number bytes
+pub stops : (version number : ℕ) (bytes line rest : List ℕ) → IsVersion version → ended line ≡ head_line version → bytes ≡ ended line ++ rest
+    → StopsAt version number rest → IsFault number bytes
 stops version number bytes line rest is first split stop =
     let whole =
     split
@@ -153,7 +162,8 @@ stops version number bytes line rest is first split stop =
     ]
 
 -- a rest that ends makes a text
-pub ends : (version : ℕ) (entries : List Entry) (bytes line rest : List ℕ) → IsVersion version → ended line ≡ head_line version → bytes ≡ ended line ++ rest → Ends version entries rest → IsTextOf entries bytes
+pub ends : (version : ℕ) (entries : List Entry) (bytes line rest : List ℕ) → IsVersion version → ended line ≡ head_line version
+    → bytes ≡ ended line ++ rest → Ends version entries rest → IsTextOf entries bytes
 ends version entries bytes line rest is first split end = record {
   version = version;
   text = record {

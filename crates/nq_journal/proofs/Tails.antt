@@ -18,7 +18,8 @@ abbrev pub lines : ℕ → List Entry → List ℕ
 lines version entries = flat_map (entry_line version) entries
 
 -- the first of some lines
-pub lines_cons : (version : ℕ) (entry : Entry) (entries : List Entry) (rest : List ℕ) → lines version (entry ∷ entries) ++ rest ≡ ended (body version entry) ++ (lines version entries ++ rest)
+pub lines_cons : (version : ℕ) (entry : Entry) (entries : List Entry) (rest : List ℕ)
+    → lines version (entry ∷ entries) ++ rest ≡ ended (body version entry) ++ (lines version entries ++ rest)
 lines_cons version entry entries rest =
     ap (λ xs. (xs ++ lines version entries) ++ rest) (entry_is version entry)
     ∙ append_assoc (ended (body version entry)) (lines version entries) rest
@@ -42,7 +43,8 @@ pub record HasLine (version : ℕ) (bytes : List ℕ) : Type 0 where
   pub is : IsLine version line
 
 -- behind some lines of a journal stands a line of it
-pub left_line : (version : ℕ) (front entries : List Entry) (left : List ℕ) → AllByRecursion (IsEntry version) front → AllByRecursion (IsEntry version) entries → lines version front ++ left ≡ lines version entries ++ end_line → HasLine version left
+pub left_line : (version : ℕ) (front entries : List Entry) (left : List ℕ) → AllByRecursion (IsEntry version) front
+    → AllByRecursion (IsEntry version) entries → lines version front ++ left ≡ lines version entries ++ end_line → HasLine version left
 left_line version [] [] left fronts are same =
     record { line = codes "end"; after = []; free = free_end; split = same ∙ end_cons; is = inl refl }
 left_line version [] (entry ∷ entries) left fronts are same = record {
@@ -58,11 +60,13 @@ left_line version (first ∷ front) [] left fronts are same =
     absurd (body_no_end version first fronts.0 parts.0)
 left_line version (first ∷ front) (entry ∷ entries) left fronts are same =
     let split = sym (lines_cons version first front left) ∙ same ∙ lines_cons version entry entries end_line in
-    let parts = first_line (body version first) (body version entry) (lines version front ++ left) (lines version entries ++ end_line) (body_free version first fronts.0.1) (body_free version entry are.0.1) split in
+    let parts = first_line (body version first) (body version entry) (lines version front ++ left) (lines version entries ++ end_line)
+    (body_free version first fronts.0.1) (body_free version entry are.0.1) split in
     left_line version front entries left fronts.1 are.1 parts.1
 
 -- nothing stands behind the last line
-pub nothing_after : (version : ℕ) (front entries : List Entry) (after : List ℕ) → AllByRecursion (IsEntry version) front → AllByRecursion (IsEntry version) entries → lines version front ++ (end_line ++ after) ≡ lines version entries ++ end_line → after ≡ []
+pub nothing_after : (version : ℕ) (front entries : List Entry) (after : List ℕ) → AllByRecursion (IsEntry version) front
+    → AllByRecursion (IsEntry version) entries → lines version front ++ (end_line ++ after) ≡ lines version entries ++ end_line → after ≡ []
 nothing_after version [] [] after fronts are same =
     let split = ap (λ xs. xs ++ after) (sym end_is) ∙ same ∙ end_cons in
     (first_line (codes "end") (codes "end") after [] free_end free_end split).1
@@ -72,11 +76,13 @@ nothing_after version [] (entry ∷ entries) after fronts are same =
     absurd (body_no_end version entry are.0 (sym parts.0))
 nothing_after version (first ∷ front) [] after fronts are same =
     let split = sym (lines_cons version first front (end_line ++ after)) ∙ same ∙ end_cons in
-    let parts = first_line (body version first) (codes "end") (lines version front ++ (end_line ++ after)) [] (body_free version first fronts.0.1) free_end split in
+    let parts = first_line (body version first) (codes "end") (lines version front ++ (end_line ++ after)) [] (body_free version first fronts.0.1)
+    free_end split in
     absurd (body_no_end version first fronts.0 parts.0)
 nothing_after version (first ∷ front) (entry ∷ entries) after fronts are same =
     let split = sym (lines_cons version first front (end_line ++ after)) ∙ same ∙ lines_cons version entry entries end_line in
-    let parts = first_line (body version first) (body version entry) (lines version front ++ (end_line ++ after)) (lines version entries ++ end_line) (body_free version first fronts.0.1) (body_free version entry are.0.1) split in
+    let parts = first_line (body version first) (body version entry) (lines version front ++ (end_line ++ after)) (lines version entries ++ end_line)
+    (body_free version first fronts.0.1) (body_free version entry are.0.1) split in
     nothing_after version front entries after fronts.1 are.1 parts.1
 
 same_body : (version : ℕ) (x y : Entry) → IsEntry version x → IsEntry version y → body version x ≡ body version y → plain x ≡ plain y
@@ -86,7 +92,8 @@ same_body version x y is_x is_y same =
     cc
 
 -- the same lines are those of the same entries
-pub same_entries : (version : ℕ) (xs ys : List Entry) → AllByRecursion (IsEntry version) xs → AllByRecursion (IsEntry version) ys → lines version xs ++ end_line ≡ lines version ys ++ end_line → map plain xs ≡ map plain ys
+pub same_entries : (version : ℕ) (xs ys : List Entry) → AllByRecursion (IsEntry version) xs → AllByRecursion (IsEntry version) ys
+    → lines version xs ++ end_line ≡ lines version ys ++ end_line → map plain xs ≡ map plain ys
 same_entries version [] [] are_xs are_ys same = refl
 same_entries version [] (y ∷ ys) are_xs are_ys same =
     let split = sym end_cons ∙ same ∙ lines_cons version y ys end_line in
@@ -98,7 +105,8 @@ same_entries version (x ∷ xs) [] are_xs are_ys same =
     absurd (body_no_end version x are_xs.0 parts.0)
 same_entries version (x ∷ xs) (y ∷ ys) are_xs are_ys same =
     let split = sym (lines_cons version x xs end_line) ∙ same ∙ lines_cons version y ys end_line in
-    let parts = first_line (body version x) (body version y) (lines version xs ++ end_line) (lines version ys ++ end_line) (body_free version x are_xs.0.1) (body_free version y are_ys.0.1) split in
+    let parts = first_line (body version x) (body version y) (lines version xs ++ end_line) (lines version ys ++ end_line)
+    (body_free version x are_xs.0.1) (body_free version y are_ys.0.1) split in
     let first = same_body version x y are_xs.0 are_ys.0 parts.0 in
     let rest = same_entries version xs ys are_xs.1 are_ys.1 parts.1 in
     ap (λ e. e ∷ map plain xs) first ∙ ap (λ es. plain y ∷ es) rest
@@ -134,7 +142,8 @@ text_split version entries =
     ∙ ap (λ xs. xs ++ (lines version entries ++ end_line)) (head_is version)
 
 -- the version of a text, and what stands behind its first line
-pub text_tail : (v w : ℕ) (tail : List ℕ) (entries : List Entry) → IsVersion v → IsVersion w → ended (head v) ++ tail ≡ journal_text w entries → (v ≡ w) × (tail ≡ lines w entries ++ end_line)
+pub text_tail : (v w : ℕ) (tail : List ℕ) (entries : List Entry) → IsVersion v → IsVersion w → ended (head v) ++ tail ≡ journal_text w entries
+    → (v ≡ w) × (tail ≡ lines w entries ++ end_line)
 text_tail v w tail entries is_v is_w same =
     let parts = first_line (head v) (head w) tail (lines w entries ++ end_line) (head_free v is_v) (head_free w is_w) (same ∙ text_split w entries) in
     (same_head v w is_v is_w parts.0, parts.1)

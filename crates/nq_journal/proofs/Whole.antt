@@ -33,7 +33,8 @@ no_line bytes none =
     (no_head bytes (λ line after is split. absurd (not_free line after (subst Q (split ∙ line_in_front line after) whole))))
 
 -- so is one whose first line names no version
-pub no_version : (bytes first rest : List ℕ) → Some (first, rest) ≡ cut 10 bytes → ((version : ℕ) → IsVersion version → ended first ≢ head_line version) → IsFault 1 bytes
+pub no_version : (bytes first rest : List ℕ) → Some (first, rest) ≡ cut 10 bytes → ((version : ℕ) → IsVersion version → ended first ≢ head_line version)
+    → IsFault 1 bytes
 no_version bytes first rest cuts none =
     let at = cut_line bytes first rest cuts in
     at_first bytes
@@ -43,7 +44,8 @@ no_version bytes first rest cuts none =
     none version is_version (ap ended (parts.0 ∙ same) ∙ sym (head_is version))))
 
 -- behind a first line the rest decides
-pub by_rest : (version : ℕ) (bytes first rest : List ℕ) (r : Result Journal JournalFault) → IsVersion version → ended first ≡ head_line version → Some (first, rest) ≡ cut 10 bytes → ParsesRest version rest r → Parses bytes r
+pub by_rest : (version : ℕ) (bytes first rest : List ℕ) (r : Result Journal JournalFault) → IsVersion version → ended first ≡ head_line version
+    → Some (first, rest) ≡ cut 10 bytes → ParsesRest version rest r → Parses bytes r
 by_rest version bytes first rest (Ok journal) is names cuts parsed =
     ends version journal.entries bytes first rest is names (cut_line bytes first rest cuts).0 parsed
 by_rest version bytes first rest (Err (fault.Line number)) is names cuts parsed =
@@ -65,7 +67,8 @@ journal_of : (version : ℕ) (entries : List Entry) (bytes : List ℕ) → IsTex
 journal_of version entries bytes text = record { version = version; entries = entries; text = text }
 
 -- what is spelled is parsed
-pub only : (bytes : List ℕ) (r : Result Journal JournalFault) → Parses bytes r → (version : ℕ) (entries : List Entry) → IsText version entries bytes → GivesEntries entries r
+pub only : (bytes : List ℕ) (r : Result Journal JournalFault) → Parses bytes r → (version : ℕ) (entries : List Entry) → IsText version entries bytes
+    → GivesEntries entries r
 only bytes (Ok journal) parsed version entries text =
     (one_journal parsed.version version journal.entries entries bytes parsed.text text).1
 only bytes (Err (fault.Line number)) parsed version entries text =

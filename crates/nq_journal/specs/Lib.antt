@@ -1,4 +1,5 @@
 pub mod Fault
+pub mod Groups
 pub mod Parsing
 pub mod Printing
 pub mod ReadingEntries

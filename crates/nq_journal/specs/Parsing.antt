@@ -50,7 +50,8 @@ pub record AreEntries (version : ℕ) (entries : List Entry) : Type 0 where
 -- no whole line in front of these bytes is an entry's or the last
 pub record IsWrong (version : ℕ) (bytes : List ℕ) : Type 0 where
   pub no_end : (line after : List ℕ) → IsUnbroken line → bytes ≡ ended line ++ after → ended line ≢ end_line
-  pub no_entry : (line after : List ℕ) (entry : Entry) → IsUnbroken line → bytes ≡ ended line ++ after → Fits entry → Has version entry → ended line ≢ entry_line version entry
+  pub no_entry : (line after : List ℕ) (entry : Entry) → IsUnbroken line → bytes ≡ ended line ++ after → Fits entry → Has version entry
+      → ended line ≢ entry_line version entry
 
 -- the last line is in front of these bytes, and something stands behind it
 pub record IsTooLong (bytes : List ℕ) : Type 0 where

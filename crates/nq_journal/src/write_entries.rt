@@ -1,9 +1,10 @@
 //! Writing the entries of a journal, a line each.
 
-ghost use Rattle.std.specs.Prelude.{◌≡◌, ◌<◌, ◌^◌, [], ◌++◌, OnOk};
+ghost use Rattle.std.specs.Prelude.{◌≡◌, ◌<◌, ◌^◌, ℕ, [], ◌++◌, true, OnOk};
 ghost use Rattle.std.specs.Fmt.{decimal};
 ghost use Rattle.std.specs.List.{flat_map};
 ghost use Rattle.nq_words.specs.Words.{joined, spaced};
+ghost use Rattle.nq_journal.specs.Groups.{is_of_block, is_of_call, is_of_lease, is_of_span, is_of_start};
 ghost use Rattle.nq_journal.specs.Text.{Fits, FitsSource, entry_words, entry_line, of_who, way_word, mode_word, source_words, longest_words};
 ghost use Rattle.nq_words.specs.Forms.{FitsWho, FitsTold, FitsSaid, told_words, said_words};
 
@@ -87,10 +88,11 @@ fn push_answer(out: &mut Vec<u8>, said: &Said) -> Result<(), NoMemory>
     push_said(out, said)
 }
 
-// Appends the words of an entry.
+// Appends the words of an entry of a call.
 #[tactic(auto, unfolding(nq_words::specs::Words::joined))]
-fn push_words(out: &mut Vec<u8>, version: u32, entry: &Entry) -> Result<(), NoMemory>
-    ensures written { OnOk result (out.new.items ≡ out.old.items ++ joined (entry_words version entry.now)) }
+fn push_of_call(out: &mut Vec<u8>, entry: &Entry) -> Result<(), NoMemory>
+    requires { is_of_call entry.now ≡ true }
+    ensures written { (version : ℕ) → OnOk result (out.new.items ≡ out.old.items ++ joined (entry_words version entry.now)) }
     ensures fits { OnOk result (Fits entry.now) }
 {
     match entry {
@@ -99,6 +101,36 @@ fn push_words(out: &mut Vec<u8>, version: u32, entry: &Entry) -> Result<(), NoMe
             push_numbers(out, &[*q])?;
             push_call(out, told)
         }
+        Entry::Z {
+            who,
+            q,
+            file,
+            from,
+            to,
+        } => {
+            push_who(out, b"Z", who)?;
+            push_numbers(
+                out,
+                &[*q, u64::from(file.0), u64::from(*from), u64::from(*to)],
+            )
+        }
+        Entry::A { who, q, said } => {
+            push_who(out, b"A", who)?;
+            push_numbers(out, &[*q])?;
+            push_answer(out, said)
+        }
+        _ => Ok(()),
+    }
+}
+
+// Appends the words of a write or a read.
+#[tactic(auto, unfolding(nq_words::specs::Words::joined))]
+fn push_of_block(out: &mut Vec<u8>, entry: &Entry) -> Result<(), NoMemory>
+    requires { is_of_block entry.now ≡ true }
+    ensures written { (version : ℕ) → OnOk result (out.new.items ≡ out.old.items ++ joined (entry_words version entry.now)) }
+    ensures fits { OnOk result (Fits entry.now) }
+{
+    match entry {
         Entry::W {
             who,
             file,
@@ -126,6 +158,18 @@ fn push_words(out: &mut Vec<u8>, version: u32, entry: &Entry) -> Result<(), NoMe
             push_numbers(out, &[u64::from(*value)])?;
             push_source(out, *served)
         }
+        _ => Ok(()),
+    }
+}
+
+// Appends the words of delayed writes that were stored or lost.
+#[tactic(auto, unfolding(nq_words::specs::Words::joined))]
+fn push_of_span(out: &mut Vec<u8>, entry: &Entry) -> Result<(), NoMemory>
+    requires { is_of_span entry.now ≡ true }
+    ensures written { (version : ℕ) → OnOk result (out.new.items ≡ out.old.items ++ joined (entry_words version entry.now)) }
+    ensures fits { OnOk result (Fits entry.now) }
+{
+    match entry {
         Entry::S {
             who,
             file,
@@ -149,6 +193,18 @@ fn push_words(out: &mut Vec<u8>, version: u32, entry: &Entry) -> Result<(), NoMe
             push_place(out, *file, *block)?;
             push_numbers(out, &[first.0, last.0])
         }
+        _ => Ok(()),
+    }
+}
+
+// Appends the words of a grant, or of a lease that ended in silence.
+#[tactic(auto, unfolding(nq_words::specs::Words::joined))]
+fn push_of_lease(out: &mut Vec<u8>, entry: &Entry) -> Result<(), NoMemory>
+    requires { is_of_lease entry.now ≡ true }
+    ensures written { (version : ℕ) → OnOk result (out.new.items ≡ out.old.items ++ joined (entry_words version entry.now)) }
+    ensures fits { OnOk result (Fits entry.now) }
+{
+    match entry {
         Entry::G {
             who,
             file,
@@ -175,6 +231,19 @@ fn push_words(out: &mut Vec<u8>, version: u32, entry: &Entry) -> Result<(), NoMe
             push_who(out, b"F", who)?;
             push_numbers(out, &[u64::from(file.0), until.0, heard.0, now.0])
         }
+        _ => Ok(()),
+    }
+}
+
+// Appends the words of a beginning, or of the end of a recovery.
+#[tactic(auto, unfolding(nq_words::specs::Words::joined))]
+fn push_of_start(out: &mut Vec<u8>, version: u32, entry: &Entry) -> Result<(), NoMemory>
+    requires { is_of_start entry.now ≡ true }
+    ensures written { OnOk result (out.new.items ≡ out.old.items ++ joined (entry_words version entry.now)) }
+    ensures fits { OnOk result (Fits entry.now) }
+{
+    match entry {
+        Entry::B { who } => push_who(out, b"B", who),
         Entry::O {
             boot,
             until,
@@ -184,30 +253,26 @@ fn push_words(out: &mut Vec<u8>, version: u32, entry: &Entry) -> Result<(), NoMe
             push_bytes(out, b"O")?;
             push_numbers(out, &[u64::from(*boot), until.0, heard.0, now.0])
         }
-        Entry::B { who } => push_who(out, b"B", who),
         Entry::X { boot, now, longest } => {
             push_bytes(out, b"X")?;
             push_numbers(out, &[u64::from(*boot), now.0])?;
             push_longest(out, version, *longest)
         }
-        Entry::Z {
-            who,
-            q,
-            file,
-            from,
-            to,
-        } => {
-            push_who(out, b"Z", who)?;
-            push_numbers(
-                out,
-                &[*q, u64::from(file.0), u64::from(*from), u64::from(*to)],
-            )
-        }
-        Entry::A { who, q, said } => {
-            push_who(out, b"A", who)?;
-            push_numbers(out, &[*q])?;
-            push_answer(out, said)
-        }
+        _ => Ok(()),
+    }
+}
+
+// Appends the words of an entry.
+fn push_words(out: &mut Vec<u8>, version: u32, entry: &Entry) -> Result<(), NoMemory>
+    ensures written { OnOk result (out.new.items ≡ out.old.items ++ joined (entry_words version entry.now)) }
+    ensures fits { OnOk result (Fits entry.now) }
+{
+    match entry {
+        Entry::C { .. } | Entry::Z { .. } | Entry::A { .. } => push_of_call(out, entry),
+        Entry::W { .. } | Entry::R { .. } => push_of_block(out, entry),
+        Entry::S { .. } | Entry::L { .. } => push_of_span(out, entry),
+        Entry::G { .. } | Entry::F { .. } => push_of_lease(out, entry),
+        Entry::B { .. } | Entry::O { .. } | Entry::X { .. } => push_of_start(out, version, entry),
     }
 }
 

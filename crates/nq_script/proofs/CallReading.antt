@@ -66,7 +66,7 @@ filled-same body is =
 
 -- ---- from what is told to the call
 
-told-called : (t : Told) → t ≡ told (call_of t)
+told-called : (saying : Told) → saying ≡ told (call_of saying)
 told-called (Told.Create name blocks) = refl
 told-called (Told.Lookup name) = refl
 told-called (Told.Attr file) = refl
@@ -138,10 +138,10 @@ has-filled version (Call.Remove file) has = tt
 
 -- what is spelled is read, as that call
 pub told-again : (version : ℕ) (call : Call) (words : List ℕ) → SpellsCall version call words
-    → (told : Told) × (told_of version words ≡ Some told) × (call_of told ≡ call)
+    → (saying : Told) × (told_of version words ≡ Some saying) × (call_of saying ≡ call)
 told-again version call words s =
-    let parts = told-of-call version call s.0 s.1 in
-    let spelled : SpellsTold version (told call) words = (parts.0, parts.1, s.2 ∙ spaced-joined (call_words call)) in
+    let tells = told-of-call version call s.0 s.1 in
+    let spelled : SpellsTold version (told call) words = (tells.0, tells.1, s.2 ∙ spaced-joined (call_words call)) in
     (told call, told_spelled version (told call) words spelled, call-filled call (has-filled version call s.0))
 
 -- what is read is the one call that is spelled

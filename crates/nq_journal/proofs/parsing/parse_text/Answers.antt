@@ -12,4 +12,5 @@ returns-in_default-version_of c =
 pub returns : goal.returns
 returns c =
     let known = c.in-Some-version_of.ensures.found in
-    by_rest c.in-Some-version_of.version c.args.bytes.now c.in-Some.head.now c.in-Some.rest.now c.parse_rest.result known.0 known.1 c.in-Some.ensures c.parse_rest.ensures
+    by_rest c.in-Some-version_of.version c.args.bytes.now c.in-Some.head.now c.in-Some.rest.now c.parse_rest.result known.0 known.1 c.in-Some.ensures
+    c.parse_rest.ensures
