@@ -59,8 +59,8 @@ mixed (Some host ∷ stages) (line ∷ lines) = stage host ∷ mixed stages line
 -- of the line at a place the host whose side offers, if one does
 abbrev pub stage_at : List (Option ℕ) → (place : ℕ) → Option ℕ
 stage_at [] place = None
-stage_at (stage ∷ stages) zero = stage
-stage_at (stage ∷ stages) (suc place) = stage_at stages place
+stage_at (first ∷ stages) zero = first
+stage_at (first ∷ stages) (suc place) = stage_at stages place
 
 -- the text of a schedule with this head, and these bytes behind it as they would stand there
 abbrev pub plain_text : Head → (body : List ℕ) → List ℕ
