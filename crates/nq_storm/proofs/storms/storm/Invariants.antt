@@ -14,9 +14,9 @@ invariant-loop-earlier g l = record {
   words : l.words ≡ generator l.start l.earlier;
   many : length l.ran ≡ l.earlier;
   storm : (head : Head) → Plays head [] l.fn.world (g.K.Keeper.content l.fn.world.server.keeper)
-      → IsInStorm head l.start ((goal.Fate-dyn g l.fn.fate).told l.fn.fate.1) (reverse l.ran)
-      ((goal.Fate-dyn g l.fate).told l.fate.1) l.world (g.K.Keeper.content l.world.server.keeper) l.delivered;
-  asks : (goal.Fate-dyn g l.fate).asks l.fate.1 ≡ asked_for l.earlier ((goal.Fate-dyn g l.fn.fate).asks l.fn.fate.1);
+      → IsInStorm head l.start ((goal.Fate-dyn g l.fn.fate.now).told l.fn.fate.now.1) (reverse l.ran)
+      ((goal.Fate-dyn g l.fate.now).told l.fate.now.1) l.world (g.K.Keeper.content l.world.server.keeper) l.delivered;
+  asks : (goal.Fate-dyn g l.fate.now).asks l.fate.now.1 ≡ asked_for l.earlier ((goal.Fate-dyn g l.fn.fate.now).asks l.fn.fate.now.1);
   stormy : AllByRecursion IsStormy l.ran;
   faults : g.K.Keeper.faults l.world.server.keeper ≡ g.K.Keeper.faults l.fn.world.server.keeper;
   follows : g.K.Keeper.follows l.fn.world.server.keeper l.world.server.keeper;
