@@ -71,12 +71,18 @@ fn read(kind: Kind, bytes: &[u8], room: &mut Spare) -> Option<u64>
 fn asked(bytes: &[u8], room: &mut Spare) -> Option<u64>
     requires { room.old ≡ true }
 {
-    match read_incoming(bytes, room) {
-        Incoming::Request {
-            xid,
-            request: Request::Lookup { who, .. },
-        } => Some(u64::from(xid) + u64::from(who.host.0)),
+    let incoming = read_incoming(bytes, room);
+    match &incoming {
+        Incoming::Request { xid, request } => Some(u64::from(*xid) + u64::from(asker(request))),
         _ => None,
+    }
+}
+
+/// The host that asks by a LOOKUP.
+fn asker(request: &Request) -> u32 {
+    match request {
+        Request::Lookup { who, .. } => who.host.0,
+        _ => 0,
     }
 }
 
@@ -84,9 +90,9 @@ fn asked(bytes: &[u8], room: &mut Spare) -> Option<u64>
 fn answered(procedure: Procedure, bytes: &[u8], room: &mut Spare) -> Option<u64>
     requires { room.old ≡ true }
 {
-    let awaited = Some(Awaited { xid: 1, procedure });
-    match read_heard(awaited, bytes, room) {
-        Some(Heard::Reply { xid, reply }) => Some(u64::from(xid) + u64::from(brought(&reply))),
+    let heard = read_heard(Some(Awaited { xid: 1, procedure }), bytes, room);
+    match &heard {
+        Some(Heard::Reply { xid, reply }) => Some(u64::from(*xid) + u64::from(brought(reply))),
         _ => None,
     }
 }
