@@ -39,9 +39,9 @@ abbrev pub offered : Staged → Written → (body : List ℕ) → List ℕ × St
 offered s w body =
     (stage_bytes s.next w body, record s { next = min (s.next + 1) 4294967295; offered = Some (record { xid = s.next; written = w }) })
 
--- What was offered of these delayed writes, and what is kept then. Where nothing is offered, and where memory is wanting,
--- nothing changes.
+-- What was offered of these delayed writes, and what is kept then. Nothing is offered exactly where the bodies of all are acknowledged.
+-- Then, and where memory is wanting, nothing changes.
 abbrev pub Offers : {E : Type 0} → List Push → Option Push → Result (Option (Vec ℕ Global)) E → (old new : Staged) → Type 0
-Offers dirty push (Ok None) old new = (offer_of old dirty push ≡ None) × (new ≡ old)
+Offers dirty push (Ok None) old new = (first_unknown old.who old.acknowledged dirty ≡ None) × (new ≡ old)
 Offers dirty push (Ok (Some v)) old new = option_map (λ o. offered old o.0 o.1) (offer_of old dirty push) ≡ Some (v.items, new)
 Offers dirty push (Err e) old new = new ≡ old

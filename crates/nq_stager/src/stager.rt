@@ -96,7 +96,7 @@ impl Stager {
             return Ok(None);
         };
         let Some(body) = dirty.get(written.file, written.block) else {
-            return Ok(None);
+            unreachable!()
         };
         Ok(Some(self.stage(alloc, written, body)?))
     }
