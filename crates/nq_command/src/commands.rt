@@ -12,6 +12,8 @@ pub enum Command {
     Replay,
     /// Judges a journal.
     Check,
+    /// Reads a staged schedule, and prints the inner schedule that was run, its journal and counts.
+    Staged,
     /// Runs events that a fate chooses.
     Storm {
         /// The kind of the fate: 0 steady, 1 lossy, 2 cut, 3 hostile.
@@ -62,6 +64,8 @@ pub(crate) fn alone(name: &[u8]) -> Option<Command>
         Some(Command::Replay)
     } else if name == b"check".as_slice() {
         Some(Command::Check)
+    } else if name == b"staged".as_slice() {
+        Some(Command::Staged)
     } else {
         None
     }

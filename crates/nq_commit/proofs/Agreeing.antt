@@ -21,7 +21,7 @@ use Rattle.nq_commit.specs.Playing.{IsLeft, IsTested, stepped_outside, tested_ou
 
 -- ---- tests
 
-left-first : (few : Bool) (x : Answer) → IsLeft (if few then x else too_many_events) → (few ≡ true) × IsLeft x
+pub left-first : (few : Bool) (x : Answer) → IsLeft (if few then x else too_many_events) → (few ≡ true) × IsLeft x
 left-first true x left = (refl, left)
 left-first false x left = absurd left
 

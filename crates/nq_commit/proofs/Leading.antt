@@ -11,18 +11,15 @@ use Rattle.nq_model.specs.Client.{Client}
 use Rattle.nq_model.specs.Kept.{Kept}
 use Rattle.nq_model.specs.Stepped.{done, no_packet, most_events, stepped, tested_room}
 use Rattle.nq_model.specs.World.{Head, World, run}
-use Rattle.nq_stager.specs.Offering.{FitsOffering, offer_of}
-use Rattle.nq_stager.specs.Staged.{Staged}
-use Rattle.nq_stage.specs.declared.Written.{Written}
 use Rattle.nq_staged_run.specs.declared.StagedEvent.{StagedEvent}
 use Rattle.nq_staged_run.specs.Outer.{Outer, Outside, Side}
 use Rattle.nq_staged_run.specs.Outside.{delivers, inner, offers, outside_run, outside_step, takes}
-use Rattle.nq_staged_run.specs.Theorem.{FitsEvent, FitsOffer}
+use Rattle.nq_staged_run.specs.Theorem.{EventBrings}
 use Rattle.nq_world.specs.Answering.{IsOfTests}
 use Rattle.nq_world.specs.Playing.{Plays, WorldOver}
 use Rattle.nq_world.specs.declared.Stepped.{Stepped}
 use Rattle.nq_commit.proofs.Agreeing.{NoDelivery, deliver-agrees, deliver-done, deliver-there, inner-agrees, stage-done}
-use Rattle.nq_commit.proofs.Reaching.{inner-leads, reached-over, reached-ran, reaches-beside, reaches-same}
+use Rattle.nq_commit.proofs.Reaching.{inner-leads, reached-over, reached-ran, reaches-beside, reaches-same, schedule-more}
 use Rattle.nq_commit.proofs.Sending.{there}
 use Rattle.nq_commit.specs.Around.{AroundOver, once_sent, over}
 use Rattle.nq_commit.specs.Playing.{IsLeft, IsReady, IsTested, Leads, Reaches, RunsInner, StagedOver, stepped_outside}
@@ -39,15 +36,16 @@ plain-step o (Event.ClientTick host) free = refl
 plain-step o (Event.Restart host) free = refl
 plain-step o (Event.Crash longest) free = refl
 
-pub plain-leads : {K : Type 0} (head : Head) (events : List StagedEvent) (event : Event) (said : Stepped) (old new : StagedOver K) (told tells : Option Kept) → NoDelivery event → IsReady old → Reaches head events old told
+pub plain-leads : {K : Type 0} (head : Head) (events : List StagedEvent) (event : Event) (said : Stepped) (old new : StagedOver K) (told tells : Option Kept) → NoDelivery event → EventBrings event → IsReady old → Reaches head events old told
     → IsLeft (stepped_outside head events (StagedEvent.Plain event))
     → (Plays head (reverse old.ran) old.inner told → RunsInner head event false said old new told tells)
     → Leads head events (StagedEvent.Plain event) said told tells (λ es kept. Reaches head es new kept)
-plain-leads head events event said old new told tells free ready r left runs =
+plain-leads head events event said old new told tells free brings ready r left runs =
     let rn = reverse old.ran in
     let agree : stepped head rn event ≡ stepped_outside head events (StagedEvent.Plain event) =
     subst (λ l. stepped head l event ≡ stepped_outside head events (StagedEvent.Plain event)) (reached-ran head events old told r) (inner-agrees head events event free left) in
-    inner-leads head events (StagedEvent.Plain event) event false said old new told tells ready r agree (plain-step (over (run head rn) rn old.around) event free) tt (runs r.inner)
+    inner-leads head events (StagedEvent.Plain event) event false said old new told tells ready r agree (plain-step (over (run head rn) rn old.around) event free)
+    (schedule-more head events (StagedEvent.Plain event) r.schedule brings left) (runs r.inner)
 
 -- ---- a delivery
 
@@ -71,7 +69,8 @@ delivered-beside head events n old new told ready r inner ran less taken left =
     subst (λ o. IfSome o (λ p. IsTakenIn Taken.Beside p.stands old.around new.around (λ w ran. takes (over w ran old.around) p p.to))) x.1 taken in (
       deliver-done head events n left,
       reaches-beside head events (StagedEvent.Plain (Event.Deliver n)) old new told ready r inner ran is.0
-          (is.1 v rn ∙ sym (delivers-some (over v rn old.around) n x.0 x.1)) tt,
+          (is.1 v rn ∙ sym (delivers-some (over v rn old.around) n x.0 x.1))
+          (schedule-more head events (StagedEvent.Plain (Event.Deliver n)) r.schedule tt left),
     )
 
 pub delivered-memory : {K : Type 0} (head : Head) (events : List StagedEvent) (n : ℕ) (old new : StagedOver K) (told : Option Kept) → Reaches head events old told
@@ -102,23 +101,10 @@ delivered-inner head events n k commit said old mid new told tells ready r less 
     let agree : stepped head rn (Event.Deliver k) ≡ stepped_outside head events (StagedEvent.Plain (Event.Deliver n)) =
     subst (λ l. stepped head l (Event.Deliver k) ≡ stepped_outside head events (StagedEvent.Plain (Event.Deliver n))) (reached-ran head events old told r) (deliver-agrees head events n k x.0 sent is.1 left) in
     inner-leads head events (StagedEvent.Plain (Event.Deliver n)) (Event.Deliver k) commit said old new told tells ready r agree
-    (delivers-some (over v rn old.around) n x.0 x.1 ∙ sym (is.2 v rn)) tt (back r.inner)
+    (delivers-some (over v rn old.around) n x.0 x.1 ∙ sym (is.2 v rn))
+    (schedule-more head events (StagedEvent.Plain (Event.Deliver n)) r.schedule tt left) (back r.inner)
 
 -- ---- an offer
-
-fits-same : (s : Staged) (o : Option (Written × List ℕ)) → FitsOffering s o → FitsOffer s o
-fits-same s None fits = tt
-fits-same s (Some b) fits = fits
-
-fits-at : (sides : List Side) (host : ℕ) (c : Client) (dirty : Delayed) (side : Side) → IfSome (slice_get sides host) (λ s. FitsOffering s.stager (offer_of s.stager dirty.dirty dirty.push)) → c.dirty ≡ dirty.dirty → c.push ≡ dirty.push → slice_get sides host ≡ Some side → FitsOffer side.stager (offer_of side.stager c.dirty c.push)
-fits-at sides host c dirty side fits d p is =
-    let here : FitsOffering side.stager (offer_of side.stager dirty.dirty dirty.push) = subst (λ o. IfSome o (λ s. FitsOffering s.stager (offer_of s.stager dirty.dirty dirty.push))) is fits in
-    let there : FitsOffering side.stager (offer_of side.stager c.dirty c.push) =
-    subst (λ l. FitsOffering side.stager (offer_of side.stager l c.push)) (sym d) (subst (λ q. FitsOffering side.stager (offer_of side.stager dirty.dirty q)) (sym p) here) in
-    fits-same side.stager (offer_of side.stager c.dirty c.push) there
-
-some-same : {X : Type 0} (x y : X) → Some x ≡ Some y → x ≡ y
-some-same x y is = cc
 
 pub offered-leads : {K : Type 0} (head : Head) (events : List StagedEvent) (host : ℕ) (old new : StagedOver K) (told : Option Kept) (dirty : Delayed) → IsReady old → Reaches head events old told
     → host < length old.inner.clients
@@ -126,10 +112,9 @@ pub offered-leads : {K : Type 0} (head : Head) (events : List StagedEvent) (host
     → IfSome (slice_get old.inner.clients host) (λ c. dirty.push ≡ c.client.push)
     → new.inner ≡ old.inner → new.ran ≡ old.ran → new.around.gone ≡ old.around.gone
     → ((w : World) (ran : List Event) (c : Client) → c.dirty ≡ dirty.dirty → c.push ≡ dirty.push → once_sent w ran new.around ≡ offers (over w ran old.around) host (slice_get old.around.sides host) (Some c))
-    → IfSome (slice_get old.around.sides host) (λ s. FitsOffering s.stager (offer_of s.stager dirty.dirty dirty.push))
     → IsLeft (stepped_outside head events (StagedEvent.Stage host))
     → (stepped_outside head events (StagedEvent.Stage host) ≡ done) × Reaches head (StagedEvent.Stage host ∷ events) new told
-offered-leads head events host old new told dirty ready r below d p inner ran gone leads fits left =
+offered-leads head events host old new told dirty ready r below d p inner ran gone leads left =
     let rn = reverse old.ran in
     let v = run head rn in
     let x = there old.inner.clients host below in
@@ -138,15 +123,11 @@ offered-leads head events host old new told dirty ready r below d p inner ran go
     let push-is : c.push ≡ dirty.push = sym (subst (λ o. IfSome o (λ y. dirty.push ≡ y.client.push)) x.1 p) in
     let client : slice_get v.clients host ≡ Some c =
     ap (λ l. slice_get l host) (sym r.inner.shown.shows.clients) ∙ slice_get-map (λ y. y.client) old.inner.clients host ∙ ap (option_map (λ y. y.client)) x.1 in
-    let o = over v rn old.around in
-    let is = reached-over head events old told ready r in
-    let fit : FitsEvent o (StagedEvent.Stage host) = λ side cl at there-c.
-    let same : c ≡ cl = some-same c cl (sym client ∙ there-c) in
-    subst (λ (k : Client). FitsOffer side.stager (offer_of side.stager k.dirty k.push)) same (fits-at old.around.sides host c dirty side fits dirty-is push-is at) in (
+    let o = over v rn old.around in (
       stage-done head events host left,
       reaches-beside head events (StagedEvent.Stage host) old new told ready r inner ran gone
           (leads v rn c dirty-is push-is ∙ ap (offers o host (slice_get old.around.sides host)) (sym client))
-          (subst (λ x. FitsEvent x (StagedEvent.Stage host)) (sym is) fit),
+          (schedule-more head events (StagedEvent.Stage host) r.schedule tt left),
     )
 
 -- ---- what the tests refuse

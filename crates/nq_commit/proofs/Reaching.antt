@@ -1,19 +1,18 @@
 -- The parts of a world come to the end of a staged run, and go on.
 use Rattle.std.proofs.Common.{◌≡◌, ◌≤◌, ◌<◌, ℕ, ◌+◌, Bool, true, false, List, [], ◌∷◌, ◌++◌, length, drop, take, map, reverse, Option, Some, None, refl, sym, ap, subst, ◌∙◌, arith}
 use Rattle.std.proofs.lemmas.List.{length-map, map_more, reverse-append, take_all}
-use Rattle.std.proofs.lemmas.List.Elements.{All-head, All-tail}
+use Rattle.std.proofs.lemmas.Bool.Decides.{nat_tests}
 use Rattle.std.proofs.lemmas.Option.{get_or_from_slice_get}
-use Rattle.std.specs.Prelude.{All, IfSome, slice_get}
+use Rattle.std.specs.Prelude.{IfSome, nat_lt, slice_get}
 use Rattle.nq_base.specs.declared.Event.{Event}
 use Rattle.nq_base.specs.declared.Party.{Party}
 use Rattle.nq_client.specs.Counted.{Counted}
-use Rattle.nq_datagrams.specs.Messages.{FitsMessage, bytes_of}
+use Rattle.nq_datagrams.specs.Messages.{bytes_of}
 use Rattle.nq_keeper.specs.Keeping.{StaysOrEnds}
 use Rattle.nq_model.specs.Client.{Client}
-use Rattle.nq_model.specs.Journal.{Each}
 use Rattle.nq_model.specs.Kept.{Kept}
 use Rattle.nq_model.specs.Message.{Packet}
-use Rattle.nq_model.specs.Stepped.{Stepped as Answer, done, stepped}
+use Rattle.nq_model.specs.Stepped.{Stepped as Answer, done, most_events, stepped}
 use Rattle.nq_model.specs.World.{Head, World, run, start, step}
 use Rattle.nq_stage.specs.declared.Pushed.{Pushed}
 use Rattle.nq_stager.specs.Shortening.{shortening}
@@ -21,21 +20,21 @@ use Rattle.nq_stager.specs.Staged.{new_stager}
 use Rattle.nq_staged_run.specs.declared.StagedEvent.{StagedEvent}
 use Rattle.nq_staged_run.specs.Outer.{Outer, Outside, Side, outside_start}
 use Rattle.nq_staged_run.specs.Outside.{inner, outside_run, outside_step, renewed, sends, sends_all, sends_as, sends_by, sends_from}
-use Rattle.nq_staged_run.specs.Theorem.{AreFit, FitsEvent}
-use Rattle.nq_staged_run.proofs.Inner.{Inner, sent-all}
+use Rattle.nq_staged_run.specs.Theorem.{IsStagedSchedule, StagedBrings}
+use Rattle.nq_staged_run.proofs.Inner.{Inner, runs-inside, sent-all}
+use Rattle.law_staged.proofs.Rebuilt.{each-is-delivered, each-stands, rebuilds-what-was-meant}
+use Rattle.law_staged.specs.Lawful.{IsLawful}
+use Rattle.nq_world.proofs.Going.{runs-are-lawful}
 use Rattle.nq_world.specs.Answering.{told as answer_of}
-use Rattle.nq_world.specs.Playing.{Plays, WorldOver}
-use Rattle.nq_world.specs.Shown.{FitsPacket, datagram}
+use Rattle.nq_world.specs.Playing.{Plays, WorldOver, seen_of}
+use Rattle.nq_world.specs.Shown.{datagram}
 use Rattle.nq_world.specs.declared.Stepped.{Stepped}
+use Rattle.nq_commit.proofs.Agreeing.{left-first}
 use Rattle.nq_commit.proofs.Growing.{grows}
 use Rattle.nq_commit.proofs.Sending.{settled-shows, there}
 use Rattle.nq_commit.specs.Around.{AroundOver, IsSettled, counted, new_around, once_sent, over, renewed_around, shown, with_due}
-use Rattle.nq_commit.specs.Playing.{IsReady, Leads, PlaysOutside, Reaches, RunsInner, StagedOver, stepped_outside}
+use Rattle.nq_commit.specs.Playing.{IsFaithful, IsLeft, IsReady, Leads, PlaysOutside, Reaches, RunsInner, StagedOver, stepped_outside, tested_outside}
 use Rattle.nq_commit.specs.Taking.{running}
-
-all-each : {X : Type 0} (F : X → Type 0) (xs : List X) → All F xs → Each F xs
-all-each F [] h = tt
-all-each F (x ∷ xs) h = (All-head F x xs h, all-each F xs (All-tail F x xs h))
 
 -- there are as many datagrams as packets
 pub as-many : {K : Type 0} (head : Head) (events : List Event) (w : WorldOver K) (told : Option Kept) → Plays head events w told → length w.datagrams ≡ length (run head events).packets
@@ -80,22 +79,41 @@ reaches-same head events old new told tells r plays ran around =
       inner = subst (λ l. Plays head (reverse l) new.inner tells) (sym ran) plays;
       shows = ap (λ l. shown (run head (reverse l)) (reverse l) new.around) ran ∙ ap (shown (run head (reverse old.ran)) (reverse old.ran)) around ∙ r.shows;
       gone = subst (λ (a : AroundOver). a.gone ≤ length new.inner.datagrams) (sym around) (omega arith);
-      fit = r.fit;
+      schedule = r.schedule;
+      faithful = r.faithful;
     }
 
 -- ---- with an event
 
-fits-more : (head : Head) (events : List StagedEvent) (event : StagedEvent) (w : World) → FitsEvent (outside_run head events) event → (outside_run head (event ∷ events)).world ≡ w → All FitsPacket w.packets → AreFit head events → AreFit head (event ∷ events)
-fits-more head events event w offer world fit before =
-    (offer, subst (λ (v : World). Each (λ q. FitsMessage q.message) v.packets) (sym world) (all-each (λ q. FitsMessage q.message) w.packets fit), before)
+one-fewer : (n most : ℕ) → nat_lt n most ≡ true → n + 1 ≤ most
+one-fewer n most is = grind (arith, nat_tests)
+
+-- a staged schedule goes on with an event that was to be taken and brings a block
+pub schedule-more : (head : Head) (events : List StagedEvent) (event : StagedEvent) → IsStagedSchedule head events → StagedBrings event → IsLeft (stepped_outside head events event) → IsStagedSchedule head (event ∷ events)
+schedule-more head events event s brings left =
+    let few : nat_lt (length events) most_events ≡ true = (left-first (nat_lt (length events) most_events) (tested_outside head (outside_run head events) event) left).0 in
+    let one : length events + 1 ≤ most_events = one-fewer (length events) most_events few in
+    record { hosts = s.hosts; few = omega arith; brings = (brings, s.brings) }
+
+-- the staged run around a world that plays its inner run is faithful
+faithful-run : {K : Type 0} (head : Head) (events : List StagedEvent) (w : WorldOver K) (ran : List Event) (told : Option Kept) → Plays head ran w told → (outside_run head events).ran ≡ ran → IsStagedSchedule head events → IsFaithful head (outside_run head events)
+faithful-run head events w ran told plays is schedule =
+    let lawful = runs-are-lawful head ran (seen_of w) w.skew plays.shown in
+    record {
+      runs = runs-inside head events;
+      lawful = subst (IsLawful head.longest head) (sym is) (record { bounds = lawful.1; skew = lawful.2 });
+      rebuilds = rebuilds-what-was-meant head events schedule;
+      stands = each-stands head events schedule;
+      delivers = each-is-delivered head events schedule;
+    }
 
 -- an event that is none of the inner world
 pub reaches-beside : {K : Type 0} (head : Head) (events : List StagedEvent) (event : StagedEvent) (old new : StagedOver K) (told : Option Kept) → IsReady old → Reaches head events old told
     → new.inner ≡ old.inner → new.ran ≡ old.ran → new.around.gone ≡ old.around.gone
     → once_sent (run head (reverse old.ran)) (reverse old.ran) new.around ≡ outside_step (over (run head (reverse old.ran)) (reverse old.ran) old.around) event
-    → FitsEvent (outside_run head events) event
+    → IsStagedSchedule head (event ∷ events)
     → Reaches head (event ∷ events) new told
-reaches-beside head events event old new told ready r inner ran gone leads offer =
+reaches-beside head events event old new told ready r inner ran gone leads schedule =
     let rn = reverse old.ran in
     let w = run head rn in
     let many : length old.inner.datagrams ≡ length w.packets = as-many head rn old.inner told r.inner in
@@ -103,13 +121,14 @@ reaches-beside head events event old new told ready r inner ran gone leads offer
     let none : drop new.around.gone w.packets ≡ [] = ap (λ n. drop n w.packets) (gone ∙ sym all ∙ many) ∙ nothing-left w.packets in
     let here : shown w rn new.around ≡ once_sent w rn new.around = ap (λ ps. sends_all (once_sent w rn new.around) new.around.gone ps) none in
     let next : shown w rn new.around ≡ outside_run head (event ∷ events) = here ∙ leads ∙ ap (λ o. outside_step o event) (sym (reached-over head events old told ready r)) in
-    let world : (outside_run head (event ∷ events)).world ≡ w = ap (λ o. o.world) (sym next) ∙ ap (λ i. i.0) (shown-inner w rn new.around) in
+    let events-are : (outside_run head (event ∷ events)).ran ≡ rn = ap (λ o. o.ran) (sym next) ∙ ap (λ i. i.1) (shown-inner w rn new.around) in
     let plays : Plays head rn new.inner told = subst (λ i. Plays head rn i told) (sym inner) r.inner in
     record {
       inner = subst (λ l. Plays head (reverse l) new.inner told) (sym ran) plays;
       shows = ap (λ l. shown (run head (reverse l)) (reverse l) new.around) ran ∙ next;
       gone = subst (λ (i : WorldOver _). new.around.gone ≤ length i.datagrams) (sym inner) (omega arith);
-      fit = fits-more head events event w offer world r.inner.shown.shows.fit r.fit;
+      schedule = schedule;
+      faithful = faithful-run head (event ∷ events) new.inner rn told plays events-are schedule;
     }
 
 -- an event of the inner world
@@ -151,9 +170,9 @@ pub reaches-inner : {K : Type 0} (head : Head) (events : List StagedEvent) (even
     → outside_step (over (run head (reverse old.ran)) (reverse old.ran) old.around) event ≡ inner (running commit (run head (reverse old.ran)) (reverse old.ran) old.around) e
     → Plays head (e ∷ reverse old.ran) new.inner tells → new.ran ≡ old.ran ++ e ∷ []
     → new.around ≡ renewed_around e (step (run head (reverse old.ran)) e) (record old.around { counts = counted commit old.around.counts })
-    → FitsEvent (outside_run head events) event
+    → IsStagedSchedule head (event ∷ events)
     → Reaches head (event ∷ events) new tells
-reaches-inner head events event e commit old new told tells ready r leads plays ran around offer =
+reaches-inner head events event e commit old new told tells ready r leads plays ran around schedule =
     let rn = reverse old.ran in
     let w = run head rn in
     let v = step w e in
@@ -163,7 +182,7 @@ reaches-inner head events event e commit old new told tells ready r leads plays 
     let gone : old.around.gone ≡ length w.packets = sym ready.all_gone ∙ many in
     let here : shown v (e ∷ rn) new.around ≡ inner (over w rn a) e = ap (shown v (e ∷ rn)) around ∙ inner-shown e w rn a ready.none_due gone in
     let next : shown v (e ∷ rn) new.around ≡ outside_run head (event ∷ events) = here ∙ sym leads ∙ ap (λ o. outside_step o event) (sym (reached-over head events old told ready r)) in
-    let world : (outside_run head (event ∷ events)).world ≡ v = ap (λ o. o.world) (sym next) ∙ ap (λ i. i.0) (shown-inner v (e ∷ rn) new.around) in
+    let events-are : (outside_run head (event ∷ events)).ran ≡ e ∷ rn = ap (λ o. o.ran) (sym next) ∙ ap (λ i. i.1) (shown-inner v (e ∷ rn) new.around) in
     let now : length new.inner.datagrams ≡ length v.packets = as-many head (e ∷ rn) new.inner tells plays in
     let grown : length w.packets ≤ length v.packets = grows w e in
     let went : new.around.gone ≡ length w.packets = ap (λ (b : AroundOver). b.gone) around ∙ renewed-gone e v a ∙ gone in
@@ -171,27 +190,28 @@ reaches-inner head events event e commit old new told tells ready r leads plays 
       inner = subst (λ l. Plays head l new.inner tells) (sym more) plays;
       shows = ap (λ l. shown (run head l) l new.around) more ∙ next;
       gone = omega arith;
-      fit = fits-more head events event v offer world plays.shown.shows.fit r.fit;
+      schedule = schedule;
+      faithful = faithful-run head (event ∷ events) new.inner (e ∷ rn) tells plays events-are schedule;
     }
 
 -- what running an inner event leads to, by its answer
 pub inner-leads : {K : Type 0} (head : Head) (events : List StagedEvent) (event : StagedEvent) (e : Event) (commit : Bool) (said : Stepped) (old new : StagedOver K) (told tells : Option Kept) → IsReady old → Reaches head events old told
     → stepped head (reverse old.ran) e ≡ stepped_outside head events event
     → outside_step (over (run head (reverse old.ran)) (reverse old.ran) old.around) event ≡ inner (running commit (run head (reverse old.ran)) (reverse old.ran) old.around) e
-    → FitsEvent (outside_run head events) event
+    → IsStagedSchedule head (event ∷ events)
     → RunsInner head e commit said old new told tells
     → Leads head events event said told tells (λ es kept. Reaches head es new kept)
-inner-leads head events event e commit Stepped.Done old new told tells ready r agree leads offer ran =
-    (sym agree ∙ ran.0, reaches-inner head events event e commit old new told tells ready r leads ran.1 ran.2 ran.3 offer)
-inner-leads head events event e commit Stepped.Fault old new told tells ready r agree leads offer ran =
+inner-leads head events event e commit Stepped.Done old new told tells ready r agree leads schedule ran =
+    (sym agree ∙ ran.0, reaches-inner head events event e commit old new told tells ready r leads ran.1 ran.2 ran.3 schedule)
+inner-leads head events event e commit Stepped.Fault old new told tells ready r agree leads schedule ran =
     (sym agree ∙ ran.0, λ same. reaches-same head events old new told tells r (ran.1 same) ran.3 ran.4, ran.2)
-inner-leads head events event e commit Stepped.Memory old new told tells ready r agree leads offer ran =
+inner-leads head events event e commit Stepped.Memory old new told tells ready r agree leads schedule ran =
     (reaches-same head events old new told tells r ran.0 ran.2 ran.3, ran.1)
-inner-leads head events event e commit Stepped.NoPacket old new told tells ready r agree leads offer ran =
+inner-leads head events event e commit Stepped.NoPacket old new told tells ready r agree leads schedule ran =
     (ap answer_of (sym agree) ∙ ran.0, reaches-same head events old new told tells r ran.1 ran.3 ran.4, ran.2)
-inner-leads head events event e commit (Stepped.SkewBroken broken) old new told tells ready r agree leads offer ran =
+inner-leads head events event e commit (Stepped.SkewBroken broken) old new told tells ready r agree leads schedule ran =
     (ap answer_of (sym agree) ∙ ran.0, reaches-same head events old new told tells r ran.1 ran.3 ran.4, ran.2)
-inner-leads head events event e commit (Stepped.Limit limit) old new told tells ready r agree leads offer ran =
+inner-leads head events event e commit (Stepped.Limit limit) old new told tells ready r agree leads schedule ran =
     (ap answer_of (sym agree) ∙ ran.0, reaches-same head events old new told tells r ran.1 ran.3 ran.4, ran.2)
 
 -- ---- sending what is due
@@ -204,7 +224,7 @@ settled-plays head events w a told same gone p =
     let r = p.reaches in
     let v = run head (reverse w.ran) in
     record {
-      reaches = record { inner = r.inner; shows = same v (reverse w.ran) r.inner.shown.shows.datagrams ∙ r.shows; gone = gone r.gone; fit = r.fit };
+      reaches = record { inner = r.inner; shows = same v (reverse w.ran) r.inner.shown.shows.datagrams ∙ r.shows; gone = gone r.gone; schedule = r.schedule; faithful = r.faithful };
       counted = p.counted;
     }
 
@@ -260,18 +280,24 @@ begins-outside : (head : Head) (boot : ℕ) (sides : List Side) → boot ≡ (st
 unfolding outside_start
 begins-outside head boot sides b s = rw (b, s) refl
 
+nothing-ran : (head : Head) → (outside_start head).ran ≡ []
+unfolding outside_start
+nothing-ran head = refl
+
 pub begins-plays : {K : Type 0} (head : Head) (w : WorldOver K) (told : Option Kept) → Plays head [] w told → PlaysOutside head [] (record { inner = w; around = new_around w.server.beside.table.boot (first-sides w.clients); ran = []; events = 0 }) told
 begins-plays head w told plays =
     let a = new_around w.server.beside.table.boot (first-sides w.clients) in
     let boot : w.server.beside.table.boot ≡ (start head).server.table.boot = ap (λ b. b.table.boot) plays.holds in
     let sides : first-sides w.clients ≡ map (λ (c : Client). record { stager = new_stager c.who; last = None }) (start head).clients =
     sides-of w.clients ∙ ap (map (λ (c : Client). record { stager = new_stager c.who; last = None })) plays.shown.shows.clients in
+    let schedule : IsStagedSchedule head [] = record { hosts = plays.shown.within.hosts; few = omega arith; brings = tt } in
     record {
       reaches = record {
         inner = plays;
         shows = ap (λ ps. sends_all (over (start head) [] a) 0 ps) (start-packets head) ∙ begins-outside head w.server.beside.table.boot (first-sides w.clients) boot sides;
         gone = omega arith;
-        fit = tt;
+        schedule = schedule;
+        faithful = faithful-run head [] w [] told plays (nothing-ran head) schedule;
       };
       counted = refl;
     }

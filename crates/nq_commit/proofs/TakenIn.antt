@@ -15,7 +15,7 @@ use Rattle.nq_stage.specs.declared.Written.{Written}
 use Rattle.nq_stage.specs.Reading.{Stage}
 use Rattle.nq_stager.specs.declared.HeardStage.{HeardStage}
 use Rattle.nq_stager.specs.Hearing.{Told, acknowledged, again, other, Tells, told_by, kept_by}
-use Rattle.nq_stager.specs.Offering.{offer_of, offered}
+use Rattle.nq_stager.specs.Offering.{body_among, first_unknown, offer_of, offered}
 use Rattle.nq_stager.specs.Staged.{Staged}
 use Rattle.nq_staged_run.specs.Outer.{Outer, Side, Outside}
 use Rattle.nq_staged_run.specs.Outside.{beside, heard_by, inner, inner_delivery, offers, offers_body, sends, sends_stage, served_commit, served_stage, takes_commit, takes_stage, told_side}
@@ -96,9 +96,9 @@ some-as side (Some b) stage kept is =
 pub offers_some : (side : Side) (dirty : List Push) (push : Option Push) (stage : List ℕ) (kept : Staged) → option_map (λ x. offered side.stager x.0 x.1) (offer_of side.stager dirty push) ≡ Some (stage, kept) → (Some stage, record side { stager = kept }) ≡ side_offers side dirty push
 offers_some side dirty push stage kept is = some-as side (offer_of side.stager dirty push) stage kept is
 
-pub offers_nothing : (side : Side) (dirty : List Push) (push : Option Push) (kept : Staged) → offer_of side.stager dirty push ≡ None → kept ≡ side.stager → (let r : Option (List ℕ) × Side = (None, record side { stager = kept }) in r) ≡ side_offers side dirty push
+pub offers_nothing : (side : Side) (dirty : List Push) (push : Option Push) (kept : Staged) → first_unknown side.stager.who side.stager.acknowledged dirty ≡ None → kept ≡ side.stager → (let r : Option (List ℕ) × Side = (None, record side { stager = kept }) in r) ≡ side_offers side dirty push
 offers_nothing side dirty push kept none same =
-    ap (λ (k : Staged). let r : Option (List ℕ) × Side = (None, record side { stager = k }) in r) same ∙ ap (side_offers_as side) (sym none)
+    ap (λ (k : Staged). let r : Option (List ℕ) × Side = (None, record side { stager = k }) in r) same ∙ ap (λ w. side_offers_as side (body_among dirty push w)) (sym none)
 
 -- what is due behind an offer
 abbrev pub stage_due : (host : ℕ) → Option (List ℕ) → Option Outer

@@ -10,7 +10,8 @@ use Rattle.nq_model.specs.World.{Head, run, step}
 use Rattle.nq_staged_run.specs.declared.StagedEvent.{StagedEvent}
 use Rattle.nq_staged_run.specs.Outer.{Outside}
 use Rattle.nq_staged_run.specs.Outside.{outside_run}
-use Rattle.nq_staged_run.specs.Theorem.{AreFit}
+use Rattle.nq_staged_run.specs.Theorem.{IsStagedSchedule, RebuildsMeant, EachStands, EachIsDelivered}
+use Rattle.law_staged.specs.Lawful.{IsLawful}
 use Rattle.nq_world.specs.Answering.{told as answer_of}
 use Rattle.nq_world.specs.Playing.{WorldOver, Plays, CanCome}
 use Rattle.nq_world.specs.declared.Stepped.{Stepped}
@@ -24,13 +25,24 @@ pub record StagedOver (K : Type 0) : Type 0 where
   pub ran : List Event
   pub events : ℕ
 
+-- A staged run is faithful to its inner run: the inner world is the run of the inner events, which keep to the bounds and are within skew,
+-- so the headline holds of it. Each WRITE that the pool rebuilds is byte for byte the inner packet for which its COMMIT stands. A packet
+-- that stands for an inner one carries its bytes, or is its COMMIT, and its delivery is that one's, but for a COMMIT without its body.
+pub record IsFaithful (head : Head) (o : Outside) : Type 0 where
+  pub runs : o.world ≡ run head o.ran
+  pub lawful : IsLawful head.longest head o.ran
+  pub rebuilds : RebuildsMeant o
+  pub stands : EachStands o
+  pub delivers : EachIsDelivered o
+
 -- An inner world and what stands around it have come to the end of the staged run of these events: the inner world plays the run of the
--- inner events, what is shown is what the staged run says, and all numbers that it told were within their fields.
+-- inner events, what is shown is what the staged run says, and that is faithful to its inner run.
 pub record Reaches {K : Type 0} (head : Head) (events : List StagedEvent) (w : StagedOver K) (told : Option Kept) : Type 0 where
   pub inner : Plays head (reverse w.ran) w.inner told
   pub shows : shown (run head (reverse w.ran)) (reverse w.ran) w.around ≡ outside_run head events
   pub gone : w.around.gone ≤ length w.inner.datagrams
-  pub fit : AreFit head events
+  pub schedule : IsStagedSchedule head events
+  pub faithful : IsFaithful head (outside_run head events)
 
 -- a world plays the staged run of these events from this head
 pub record PlaysOutside {K : Type 0} (head : Head) (events : List StagedEvent) (w : StagedOver K) (told : Option Kept) : Type 0 where

@@ -3,7 +3,7 @@
 ghost use Rattle.std.specs.Prelude.{◌≡◌, ◌<◌, ◌≤◌, ◌+◌, [], ◌∷◌, ◌++◌, List, None, Some, length, map, slice_get, IfOk, IfSome, OnOk, OnErr};
 ghost use Rattle.nq_base.specs.declared.Event.{Event};
 ghost use Rattle.nq_base.specs.declared.Party.{Party};
-ghost use Rattle.nq_commit.specs.Around.{counted, due_as, flushed, new_around, passed, passed_at, prepared, prepared_from, shown, travelling};
+ghost use Rattle.nq_commit.specs.Around.{counted, datagram_of, due_as, flushed, new_around, passed, passed_at, prepared, prepared_from, shown, travelling};
 ghost use Rattle.nq_model.specs.World.{World};
 ghost use Rattle.nq_net.specs.Packets.{Datagram};
 ghost use Rattle.nq_world.specs.Shown.{datagram};
@@ -112,6 +112,14 @@ impl Around {
         ensures { result ≡ length self.now.sent }
     {
         self.packets.len()
+    }
+
+    /// The packets that have gone out.
+    #[tactic(auto, using(crate::proofs::Travelling::datagrams_travelling))]
+    pub(crate) fn packets(&self) -> &Packets
+        ensures { result.now.datagrams ≡ map datagram_of self.now.sent }
+    {
+        &self.packets
     }
 
     /// The packet of a number that travels.

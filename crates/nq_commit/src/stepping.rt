@@ -10,6 +10,7 @@ ghost use Rattle.nq_model.specs.Stepped.{most_events, no_packet, tested_room, te
 ghost use Rattle.nq_model.specs.World.{Head, World as Model};
 ghost use Rattle.nq_staged_run.specs.declared.StagedEvent.{StagedEvent};
 ghost use Rattle.nq_staged_run.specs.Outside.{outside_run};
+ghost use Rattle.nq_staged_run.specs.Theorem.{EventBrings};
 ghost use Rattle.nq_world.specs.Answering.{IsOfTests, told};
 ghost use Rattle.nq_world.specs.Moving.{clients_in};
 ghost use Rattle.nq_world.specs.Playing.{CanCome, GoesOn, Plays};
@@ -20,7 +21,7 @@ use crate::taking::Taken;
 use crate::world::StagedWorld;
 use nq_base::{Event, Host, NoMemory};
 use nq_keeper::Keeper;
-use nq_staged_run::StagedEvent;
+use nq_staged_run::{StagedEvent, event_brings};
 use nq_world::{Limit, MOST_EVENTS, MOST_SENT, Stepped};
 
 impl<K: Keeper> StagedWorld<K> {
@@ -146,6 +147,7 @@ impl<K: Keeper> StagedWorld<K> {
         ensures goes { GoesOn K.faults K.follows result self.old.inner self.new.inner }
         ensures count { self.new.events ≡ self.old.events }
     {
+        event_brings(event);
         match event {
             StagedEvent::Stage(host) => self.offer(*host),
             StagedEvent::Plain(event) => self.play_plain(event),
@@ -154,6 +156,7 @@ impl<K: Keeper> StagedWorld<K> {
 
     /// Takes in an event of the inner world, or a delivery, that passed the tests.
     fn play_plain(&mut self, event: &Event) -> Stepped
+        requires brings { EventBrings event.now }
         requires can { CanCome (length self.old.inner.clients) self.old.inner.skew.window event.now }
         requires settled { self.old.around.due ≡ None }
         ensures leads { (head : Head) (events : List StagedEvent) → IsReady self.old → Reaches head events self.old (K.content self.old.inner.server.keeper)

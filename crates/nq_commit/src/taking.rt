@@ -10,7 +10,6 @@ ghost use Rattle.nq_model.specs.Client.{Client};
 ghost use Rattle.nq_model.specs.World.{World};
 ghost use Rattle.nq_pool.specs.Answering.{own_commit, own_stage};
 ghost use Rattle.nq_staged_run.specs.Outside.{beside, heard_by, inner_delivery, offers, served_commit, served_stage, takes};
-ghost use Rattle.nq_stager.specs.Offering.{FitsOffering, offer_of};
 ghost use Rattle.nq_stager.specs.Staged.{new_stager};
 
 use crate::around::{Around, HostSide, Outgoing};
@@ -159,7 +158,6 @@ impl Around {
         requires { self.old.due ≡ None }
         ensures offers { OnOk result ((w : World) (ran : List Event) (c : Client) → c.dirty ≡ dirty.now.dirty → c.push ≡ dirty.now.push
             → once_sent w ran self.new ≡ offers (over w ran self.old) host (slice_get self.old.sides host) (Some c)) }
-        ensures fits { OnOk result (IfSome (slice_get self.old.sides host) (λ s. FitsOffering s.stager (offer_of s.stager dirty.now.dirty dirty.now.push))) }
         ensures gone { self.new.gone ≡ self.old.gone }
         ensures refused { OnErr result (self.new ≡ self.old) }
     {
@@ -227,7 +225,6 @@ fn offer_at(
     dirty: &Dirty,
 ) -> Result<Option<Vec<u8>>, NoMemory>
     ensures offers { IfOk result (λ o. (option_map (λ v. v.items) o, sides.new.items) ≡ offers_at sides.old.items host dirty.now.dirty dirty.now.push (slice_get sides.old.items host)) }
-    ensures fits { OnOk result (IfSome (slice_get sides.old.items host) (λ s. FitsOffering s.stager (offer_of s.stager dirty.now.dirty dirty.now.push))) }
     ensures refused { OnErr result (sides.new.items ≡ sides.old.items) }
 {
     let place = host.0 as usize;
@@ -241,7 +238,6 @@ fn offer_at(
 #[tactic(auto, using(crate::proofs::TakenIn::offers_some, crate::proofs::TakenIn::offers_nothing))]
 fn offer_by(side: &mut HostSide, alloc: Global, dirty: &Dirty) -> Result<Option<Vec<u8>>, NoMemory>
     ensures offers { IfOk result (λ o. (option_map (λ v. v.items) o, side.new) ≡ side_offers side.old dirty.now.dirty dirty.now.push) }
-    ensures fits { OnOk result (FitsOffering side.old.stager (offer_of side.old.stager dirty.now.dirty dirty.now.push)) }
     ensures refused { OnErr result (side.new ≡ side.old) }
 {
     match side.stager.offer(alloc, dirty)? {

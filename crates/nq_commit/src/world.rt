@@ -1,9 +1,9 @@
 //! The staged world.
 
-ghost use Rattle.std.specs.Prelude.{◌≡◌, ◌<◌, [], List, Option, None, length, map, reverse, slice_get, IfErr, IfOk, IfSome};
+ghost use Rattle.std.specs.Prelude.{◌≡◌, ◌<◌, [], List, Option, None, length, map, reverse, slice_get, IfErr, IfOk, IfSome, OnOk};
 ghost use Rattle.nq_base.specs.Plain.{plain};
-ghost use Rattle.nq_commit.specs.Around.{counts_of, new_around};
-ghost use Rattle.nq_commit.specs.Playing.{CanComeOutside, PlaysOutside, StepsOutside};
+ghost use Rattle.nq_commit.specs.Around.{counts_of, datagram_of, new_around};
+ghost use Rattle.nq_commit.specs.Playing.{CanComeOutside, IsReady, PlaysOutside, StepsOutside};
 ghost use Rattle.nq_model.specs.Kept.{Kept};
 ghost use Rattle.nq_model.specs.World.{Head};
 ghost use Rattle.nq_staged_run.specs.declared.StagedEvent.{StagedEvent};
@@ -15,6 +15,7 @@ ghost use Rattle.nq_world.specs.declared.NewFault.{NewFault};
 use crate::around::{Around, HostSide};
 use nq_base::{Host, Journal, NoMemory};
 use nq_keeper::Keeper;
+use nq_net::Packets;
 use nq_script::Schedule;
 use nq_staged_run::{StagedCounts, StagedEvent};
 use nq_stager::Stager;
@@ -110,7 +111,8 @@ impl<K: Keeper> StagedWorld<K> {
     }
 
     /// Takes an event in. The answers and their order are those of [`World::step`], over the packets that travel outside and the events
-    /// of the staged schedule.
+    /// of the staged schedule. Each WRITE that the pool rebuilds is byte for byte the packet of the inner world for which its COMMIT
+    /// stands, and the inner run is a lawful one: `specs/Playing.antt` says so of each world that plays a staged run.
     ///
     /// # Errors
     ///
@@ -138,10 +140,20 @@ impl<K: Keeper> StagedWorld<K> {
     pub fn sent(&mut self) -> Result<u64, NoMemory>
         ensures same { (head : Head) (events : List StagedEvent) (told : Option Kept) → PlaysOutside head events self.old told → PlaysOutside head events self.new told }
         ensures packets { IfOk result (λ packets. (head : Head) (events : List StagedEvent) (told : Option Kept) → PlaysOutside head events self.old told → packets ≡ length (outside_run head events).sent) }
+        ensures ready { (head : Head) (events : List StagedEvent) (told : Option Kept) → PlaysOutside head events self.old told → OnOk result (IsReady self.new) }
         ensures inner { self.new.inner ≡ self.old.inner }
     {
         self.settle()?;
         Ok(self.around.sent())
+    }
+
+    /// The packets that travel outside, in the order in which they were sent, where all that was made has gone out: so it is after
+    /// `Ok` of [`StagedWorld::sent`].
+    pub fn packets(&self) -> &Packets
+        ensures { (head : Head) (events : List StagedEvent) (told : Option Kept) → IsReady self.now → PlaysOutside head events self.now told
+            → result.now.datagrams ≡ map datagram_of (outside_run head events).sent }
+    {
+        self.around.packets()
     }
 
     /// What was counted.

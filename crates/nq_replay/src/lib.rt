@@ -11,5 +11,5 @@ pub use commands::replay;
 pub use judging::judge;
 pub use nq_base::NoMemory;
 pub use parts::print_parts;
-pub use printing::{Bound, put_line};
-pub use schedules::{begin, begin_surely, print_journal, tell_limit};
+pub use printing::{Bound, put_line, tell_over};
+pub use schedules::{begin, begin_surely, print_journal, tell_limit, tell_script, tell_stop};

@@ -67,7 +67,7 @@ pub(crate) fn limit_text(alloc: Global, number: usize, bound: Bound) -> Result<S
 }
 
 /// Tells in which line the input passes the limit on bytes. The front has one byte more than the limit.
-pub(crate) fn tell_over<K: Sink>(alloc: Global, front: &[u8], out: &mut K) -> Ending
+pub fn tell_over<K: Sink>(alloc: Global, front: &[u8], out: &mut K) -> Ending
     requires { 0 < length front.now }
     ensures { TellsOver result front.now (K.held out.old) (K.held out.new) (K.faults out.old) (K.faults out.new) }
 {

@@ -199,7 +199,7 @@ pub fn print_journal<K: Sink>(alloc: Global, journal: &Journal, version: u32, ou
 }
 
 /// Tells at which line a schedule stopped, and why.
-fn tell_stop<K: Sink>(alloc: Global, line: u32, answer: Stepped, out: &mut K) -> Ending
+pub fn tell_stop<K: Sink>(alloc: Global, line: u32, answer: Stepped, out: &mut K) -> Ending
     requires { IsReason answer }
     ensures { TellsStop result line answer (K.held out.old) (K.held out.new) (K.faults out.old) (K.faults out.new) }
 {
@@ -213,7 +213,7 @@ fn tell_stop<K: Sink>(alloc: Global, line: u32, answer: Stepped, out: &mut K) ->
 }
 
 /// Tells a faulty line.
-fn tell_script<K: Sink>(alloc: Global, line: u32, out: &mut K) -> Ending
+pub fn tell_script<K: Sink>(alloc: Global, line: u32, out: &mut K) -> Ending
     ensures { TellsStop result line Stepped.NoPacket (K.held out.old) (K.held out.new) (K.faults out.old) (K.faults out.new) }
 {
     match script_text(alloc, line as usize) {

@@ -3,3 +3,4 @@ pub mod HostPromises
 pub mod LoopPromises
 pub mod Promises
 pub mod StormPromises
+pub mod StagedPromises

@@ -3,3 +3,4 @@ pub mod Hosting
 pub mod Storming
 pub mod Looping
 pub mod Frames
+pub mod Staging

@@ -21,6 +21,7 @@ use Rattle.nq_storm_rules.specs.Rules.{Rule}
 -- words that say none of the commands that are run, or a storm for which each fate that tells its rule is of another kind
 abbrev pub RunsNothing : Option Command → (told : List (Option Rule)) → Type 0
 RunsNothing (Some Command.Replay) told = ⊥
+RunsNothing (Some Command.Staged) told = ⊥
 RunsNothing (Some Command.Check) told = ⊥
 RunsNothing (Some (Command.Serve turns longest)) told = ⊥
 RunsNothing (Some (Command.Client host inc turns)) told = ⊥

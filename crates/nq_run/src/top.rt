@@ -3,7 +3,7 @@
 ghost use Rattle.std.specs.Prelude.{◌≡◌, ◌+◌, ◌<◌, ◌≤◌, ℕ, List, Some, false, length, map};
 ghost use Rattle.nq_base.specs.declared.Event.{Event};
 ghost use Rattle.nq_base.specs.declared.SkewBroken.{SkewBroken};
-ghost use Rattle.nq_command.specs.Commands.{IsCheck, IsReplay, command_of};
+ghost use Rattle.nq_command.specs.Commands.{IsCheck, IsReplay, IsStaged, command_of};
 ghost use Rattle.nq_command.specs.declared.Command.{Command};
 ghost use Rattle.nq_ending.specs.Status.{WithStatus, status_of};
 ghost use Rattle.nq_ending.specs.declared.Ending.{Ending};
@@ -21,9 +21,11 @@ ghost use Rattle.nq_run.specs.Frames.{reads_clock, reads_input, uses_link, uses_
 ghost use Rattle.nq_run.specs.Hosting.{Attends, ServesFor};
 ghost use Rattle.nq_run.specs.Looping.{LoopsFor, LoopsLawfully};
 ghost use Rattle.nq_run.specs.Promised.{PrintsLawfully, PrintsSound, most_bytes};
+ghost use Rattle.nq_run.specs.Staging.{StagesFor};
 ghost use Rattle.nq_run.specs.Storming.{DoesStorm, NeverRuns, RunsNothing, StormsLawfully, StormsUnlessFault};
 ghost use Rattle.nq_script.specs.declared.heads.Head.{Head};
 
+use crate::staged::staged;
 use nq_base::{Host, Inc, Who};
 use nq_clock::Clock;
 use nq_command::{Command, Words};
@@ -42,8 +44,8 @@ use std::alloc::Global;
 // The most bytes of a schedule, a journal or a list of calls that are read.
 const MOST_BYTES: usize = 16_777_216;
 
-/// Runs what the words say, with input of at most 16,777,216 bytes: `replay` and `check`, as [`replay`] and [`judge`] tell, `serve` over
-/// the keeper, the link and the clock, as [`serve`] tells, `client` over the link and the clock, as [`client`] tells, `storm` by the
+/// Runs what the words say, with input of at most 16,777,216 bytes: `replay` and `check`, as [`replay`] and [`judge`] tell, `staged`, as
+/// `run_staged` of `nq_staged` tells, `serve` over the keeper, the link and the clock, as [`serve`] tells, `client` over the link and the clock, as [`client`] tells, `storm` by the
 /// first fate of the kind, as [`run_storm`] tells, and `loop` over the clock and the links, of which the server's is the first, as
 /// [`run_loop`] tells. The headline of `nq_laws` holds at each moment of the run whose journal `replay`, `storm` or `loop` printed, and that
 /// journal is sound for `check`: leases, ticks, restarts and crashes included. That the schedule is within skew and keeps to the bounds
@@ -51,7 +53,7 @@ const MOST_BYTES: usize = 16_777_216;
 /// clock.
 ///
 /// The answer is the exit status. `docs/commands.md` says when each comes, and what is printed then.
-#[tactic(auto, using(crate::proofs::Commands::says_replay, crate::proofs::Commands::says_check), unfolding(crate::specs::Promised::most_bytes))]
+#[tactic(auto, using(crate::proofs::Commands::says_replay, crate::proofs::Commands::says_check, crate::proofs::Commands::says_staged), unfolding(crate::specs::Promised::most_bytes))]
 pub fn run<S: Source, K: Sink, P: Keeper + Drop, L: Link, C: Clock>(
     alloc: Global,
     words: &Words,
@@ -107,6 +109,9 @@ pub fn run<S: Source, K: Sink, P: Keeper + Drop, L: Link, C: Clock>(
         → OfInput most_bytes (S.left input.old) (S.left input.new) (λ text. PrintsLawfully text (K.held out.old) (K.held out.new)) }
     ensures sound { IsReplay words.now → result ≡ status_of Ending.Done
         → OfInput most_bytes (S.left input.old) (S.left input.new) (λ text. PrintsSound (K.held out.old) (K.held out.new)) }
+    ensures stages { IsStaged words.now
+        → StagesFor most_bytes result (S.left input.old) (S.left input.new) (K.held out.old) (K.held out.new)
+        (S.faults input.old) (S.faults input.new) (K.faults out.old) (K.faults out.new) }
     ensures serves { (turns longest : ℕ) → command_of words.now ≡ Some (Command.Serve turns longest)
         → ServesFor P.content P.faults P.follows result longest turns keeper (clock_told C.floor C.readings clock.old) (clock_told C.floor C.readings clock.new)
         (link_told L.sent L.waiting L.faults L.receives link.old)
@@ -143,6 +148,7 @@ pub fn run<S: Source, K: Sink, P: Keeper + Drop, L: Link, C: Clock>(
     match words.command() {
         Some(Command::Replay) => replay(alloc, input, out, MOST_BYTES).status(),
         Some(Command::Check) => judge(alloc, input, out, MOST_BYTES).status(),
+        Some(Command::Staged) => staged(alloc, input, out, MOST_BYTES),
         Some(Command::Serve { turns, longest }) => {
             served(alloc, keeper, turns, longest, link, clock, out)
         }

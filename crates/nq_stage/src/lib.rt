@@ -2,7 +2,8 @@
 //!
 //! A STAGE sends the body of a delayed write ahead, and the server keeps it in memory alone, as NFS version 3 keeps an
 //! UNSTABLE write (RFC 1813 section 3.3.7). A short COMMIT then stands for the push of that body (section 3.3.21). The
-//! verifier is the server's boot, so it changes exactly when bodies that are not stored are lost.
+//! verifier is the server's boot, so it changes exactly when all bodies that are not stored are lost. A single body may go
+//! before that, since a server keeps only so many.
 //!
 //! Each message has one spelling with AUTH_NULL (`specs/Messages.antt`). What any bytes are as such a message, says
 //! `specs/Reading.antt`. Nothing here takes memory but the datagrams that are written.

@@ -24,7 +24,7 @@ struct Asked<'a> {
     arguments: &'a [u8],
 }
 
-/// What a push and its COMMIT_PROCEDURE begin with.
+/// What a push and its COMMIT begin with.
 #[derive(Clone, Copy)]
 struct Front {
     who: Who,
@@ -48,7 +48,7 @@ pub fn read_stage(datagram: &[u8]) -> Option<LentStage<'_>>
     }
 }
 
-/// The COMMIT_PROCEDURE that a datagram is; None where it is none.
+/// The COMMIT that a datagram is; None where it is none.
 #[tactic(auto, unfolding(crate::specs::Reading::commit_in))]
 pub fn read_commit(datagram: &[u8]) -> Option<Commit>
     ensures { result ≡ commit_in datagram.now }
@@ -85,7 +85,7 @@ pub fn read_verifier(xid: u32, inc: u32, datagram: &[u8]) -> Option<u32>
     }
 }
 
-/// Whether a datagram is the reply UNSTAGED to the COMMIT_PROCEDURE of this number and incarnation.
+/// Whether a datagram is the reply UNSTAGED to the COMMIT of this number and incarnation.
 #[tactic(auto, unfolding(crate::specs::Reading::is_unstaged_in))]
 pub fn is_unstaged(xid: u32, inc: u32, datagram: &[u8]) -> bool
     ensures { result ≡ is_unstaged_in xid inc datagram.now }
@@ -217,7 +217,7 @@ fn base(reader: &mut Reader) -> Result<PushBase, XdrFault>
     })
 }
 
-/// What a push and its COMMIT_PROCEDURE begin with.
+/// What a push and its COMMIT begin with.
 #[tactic(auto, unfolding(crate::specs::Reading::front_at))]
 fn front_of(reader: &mut Reader) -> Result<Front, XdrFault>
     ensures { Gives (λ f. (f, reader.new)) result (front_at reader.old) }
@@ -272,7 +272,7 @@ fn stage_of(call: Asked<'_>) -> Result<LentStage<'_>, XdrFault>
     Ok(LentStage { xid, written, body })
 }
 
-/// The COMMIT_PROCEDURE of a call's arguments.
+/// The COMMIT of a call's arguments.
 #[tactic(auto, unfolding(crate::specs::Reading::commit_at))]
 fn commit_of(call: Asked<'_>) -> Result<Commit, XdrFault>
     ensures { Gives (λ c. c) result (commit_at call.entry.xid call.entry.arguments.now) }

@@ -3,8 +3,7 @@ use Rattle.std.specs.Prelude.{◌≡◌, ◌≤◌, ◌<◌, ◌⊎◌, ◌^◌,
 use Rattle.nq_base.specs.declared.Call.{Call}
 use Rattle.nq_base.specs.declared.Event.{Event}
 use Rattle.nq_base.specs.declared.Party.{Party}
-use Rattle.nq_datagrams.specs.Messages.{FitsMessage, bytes_of}
-use Rattle.nq_model.specs.Client.{Client}
+use Rattle.nq_datagrams.specs.Messages.{bytes_of}
 use Rattle.nq_model.specs.Journal.{Each}
 use Rattle.nq_model.specs.Message.{Message, Packet}
 use Rattle.nq_model.specs.Profile.{most_hosts}
@@ -13,12 +12,9 @@ use Rattle.nq_model.specs.World.{Head, World, run, step}
 use Rattle.nq_pool.specs.Answering.{write, unstaged, own_commit, answered}
 use Rattle.nq_stage.specs.declared.Commit.{Commit}
 use Rattle.nq_stage.specs.declared.Pushed.{Pushed}
-use Rattle.nq_stage.specs.declared.Written.{Written}
-use Rattle.nq_stage.specs.Messages.{commit_bytes, write_bytes, IsWritten}
-use Rattle.nq_stager.specs.Offering.{offer_of}
-use Rattle.nq_stager.specs.Staged.{Staged}
+use Rattle.nq_stage.specs.Messages.{commit_bytes, write_bytes}
 use Rattle.nq_staged_run.specs.declared.event.StagedEvent.{StagedEvent}
-use Rattle.nq_staged_run.specs.Outer.{Outer, Side, Outside}
+use Rattle.nq_staged_run.specs.Outer.{Outer, Outside}
 use Rattle.nq_staged_run.specs.Outside.{outside_run, outside_step}
 
 -- The inner world is the run of the inner events: so its journal is that run's, and all that is promised of runs holds of it.
@@ -129,26 +125,3 @@ RebuildsMeant o =
 
 abbrev pub RebuildsWhatWasMeant : Type 0
 RebuildsWhatWasMeant = InEveryStagedRun RebuildsMeant
-
--- ---- what a world of bytes keeps of its numbers
-
--- what a side offers has numbers that are words and hyper integers, and a block
-abbrev pub FitsOffer : Staged → Option (Written × List ℕ) → Type 0
-FitsOffer s None = Unit {0}
-FitsOffer s (Some b) = (s.next < 2 ^ 32) × IsWritten b.0 × (length b.1 ≡ 4096)
-
--- so has what an event offers
-abbrev pub FitsEvent : Outside → StagedEvent → Type 0
-FitsEvent o (StagedEvent.Stage host) =
-    (side : Side) (c : Client) → slice_get o.sides host ≡ Some side → slice_get o.world.clients host ≡ Some c
-    → FitsOffer side.stager (offer_of side.stager c.dirty c.push)
-FitsEvent o (StagedEvent.Plain event) = Unit {0}
-
--- The numbers of all packets and of all that was offered were within their fields, as numbers of the code are. The newest event is
--- told first.
-abbrev pub AreFit : Head → List StagedEvent → Type 0
-AreFit head [] = Unit {0}
-AreFit head (event ∷ earlier) =
-    FitsEvent (outside_run head earlier) event
-    × Each (λ q. FitsMessage q.message) (outside_run head (event ∷ earlier)).world.packets
-    × AreFit head earlier

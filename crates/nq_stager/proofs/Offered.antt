@@ -1,11 +1,14 @@
 -- The first delayed write that is not acknowledged, looked for place by place.
-use Rattle.std.proofs.Common.{◌≡◌, ℕ, List, [], ◌∷◌, drop, Option, Some, None, is_some, zero, suc, ◌+◌, Bool, true, false, refl, sym, subst, ap, ◌∙◌, add-one, if◌then◌else◌}
+use Rattle.std.proofs.Common.{◌≡◌, ℕ, List, [], ◌∷◌, drop, Option, Some, None, is_some, zero, suc, ◌+◌, Bool, true, false, refl, sym, subst, ap, ◌∙◌, add-one, ◌==◌, ◌&&◌, if◌then◌else◌, arith}
+use Rattle.std.proofs.lemmas.Bool.Decides.{nat_tests}
 use Rattle.std.specs.List.{slice_get}
 use Rattle.std.specs.Option.{option_map}
 use Rattle.nq_base.specs.declared.Loss.{Loss}
 use Rattle.nq_base.specs.declared.Push.{Push}
 use Rattle.nq_base.specs.declared.Who.{Who}
+use Rattle.nq_model.specs.Client.{dirty_at}
 use Rattle.nq_model.specs.Hear.{loss_of}
+use Rattle.nq_model.specs.Settle.{dirty_body, held_body, pushed_body}
 use Rattle.nq_stage.specs.declared.Written.{Written}
 use Rattle.nq_stager.specs.Acknowledged.{verifier_of}
 use Rattle.nq_stager.specs.Offering.{written_by, first_unknown}
@@ -57,3 +60,35 @@ module _ (who : Who) (acked : List (Written × ℕ)) where
   -- of one that is acknowledged the first stands behind it
   pub unknown-behind : (ps : List Push) (i : ℕ) (l : Loss) (w : Written) (v : Option ℕ) → Some l ≡ option_map loss_of (slice_get ps i) → w ≡ record { host = who.host; inc = who.inc; file = l.file; block = l.block; last = l.last } → v ≡ verifier_of w acked → is_some v ≡ true → first_unknown who acked (drop (i + 1) ps) ≡ first_unknown who acked (drop i ps)
   unknown-behind ps i l w v there is found known = ap (λ n. first_unknown who acked (drop n ps)) (add-one i) ∙ sym (at-place ps i l w v true there is found known)
+
+-- ---- what is delayed has a body
+
+own-place : (file block : ℕ) → (file == file && block == block) ≡ true
+own-place file block = grind (arith, nat_tests)
+
+at-own : (p : Push) (ps : List Push) → is_some (dirty_at p.file p.block (p ∷ ps)) ≡ true
+at-own p ps = ap (λ b. is_some (if b then Some p else dirty_at p.file p.block ps)) (own-place p.file p.block)
+
+behind : (b : Bool) (p : Push) (rest : Option Push) → is_some rest ≡ true → is_some (if b then Some p else rest) ≡ true
+behind true p rest h = refl
+behind false p rest h = h
+
+here : (who : Who) (p : Push) (ps : List Push) (w : Written) → Some (written_by who p) ≡ Some w → is_some (dirty_at w.file w.block (p ∷ ps)) ≡ true
+here who p ps w h = let e : written_by who p ≡ w = cc in subst (λ (z : Written). is_some (dirty_at z.file z.block (p ∷ ps)) ≡ true) e (at-own p ps)
+
+-- one that is not acknowledged is delayed
+unknown-is-delayed : (who : Who) (acked : List (Written × ℕ)) (ps : List Push) (w : Written) → first_unknown who acked ps ≡ Some w → is_some (dirty_at w.file w.block ps) ≡ true
+unknown-is-delayed who acked [] w h = absurd cc
+unknown-is-delayed who acked (p ∷ ps) w h = first (is_some (verifier_of (written_by who p) acked)) (unknown-is-delayed who acked ps w) h
+  where
+    first : (b : Bool) → (first_unknown who acked ps ≡ Some w → is_some (dirty_at w.file w.block ps) ≡ true) → (if b then first_unknown who acked ps else Some (written_by who p)) ≡ Some w → is_some (dirty_at w.file w.block (p ∷ ps)) ≡ true
+    first true rest e = behind (p.file == w.file && p.block == w.block) p (dirty_at w.file w.block ps) (rest e)
+    first false rest e = here who p ps w e
+
+held : (o : Option Push) (pushed : Option (List ℕ)) → is_some o ≡ true → held_body o pushed None ≡ None → ⊥
+held None pushed there none = cc
+held (Some p) pushed there none = cc
+
+-- so its block has a body among the delayed writes
+pub unknown_has_body : (who : Who) (acked : List (Written × ℕ)) (ps : List Push) (push : Option Push) (w : Written) → first_unknown who acked ps ≡ Some w → dirty_body w.file w.block ps push ≡ None → ⊥
+unknown_has_body who acked ps push w is none = held (dirty_at w.file w.block ps) (pushed_body w.file w.block push) (unknown-is-delayed who acked ps w is) none

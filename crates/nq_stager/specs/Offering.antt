@@ -1,12 +1,12 @@
 -- Which body is offered next. What is delayed does not change by it.
-use Rattle.std.specs.Prelude.{◌≡◌, ◌<◌, ◌^◌, ℕ, ◌+◌, min, List, [], ◌∷◌, length, Option, Some, None, is_some, Result, Ok, Err, Vec, if◌then◌else◌}
+use Rattle.std.specs.Prelude.{◌≡◌, ℕ, ◌+◌, min, List, [], ◌∷◌, Option, Some, None, is_some, Result, Ok, Err, Vec, if◌then◌else◌}
 use Rattle.std.specs.Option.{option_map}
 use Rattle.std.specs.Global.{Global}
 use Rattle.nq_base.specs.declared.Push.{Push}
 use Rattle.nq_base.specs.declared.Who.{Who}
 use Rattle.nq_model.specs.Settle.{dirty_body}
 use Rattle.nq_stage.specs.declared.Written.{Written}
-use Rattle.nq_stage.specs.Messages.{stage_bytes, IsWritten}
+use Rattle.nq_stage.specs.Messages.{stage_bytes}
 use Rattle.nq_stager.specs.Acknowledged.{verifier_of}
 use Rattle.nq_stager.specs.Staged.{Staged}
 
@@ -39,14 +39,9 @@ abbrev pub offered : Staged → Written → (body : List ℕ) → List ℕ × St
 offered s w body =
     (stage_bytes s.next w body, record s { next = min (s.next + 1) 4294967295; offered = Some (record { xid = s.next; written = w }) })
 
--- What was offered of these delayed writes, and what is kept then. Where nothing is offered, and where memory is wanting,
--- nothing changes.
+-- What was offered of these delayed writes, and what is kept then. Nothing is offered exactly where the bodies of all are acknowledged.
+-- Then, and where memory is wanting, nothing changes.
 abbrev pub Offers : {E : Type 0} → List Push → Option Push → Result (Option (Vec ℕ Global)) E → (old new : Staged) → Type 0
-Offers dirty push (Ok None) old new = (offer_of old dirty push ≡ None) × (new ≡ old)
+Offers dirty push (Ok None) old new = (first_unknown old.who old.acknowledged dirty ≡ None) × (new ≡ old)
 Offers dirty push (Ok (Some v)) old new = option_map (λ o. offered old o.0 o.1) (offer_of old dirty push) ≡ Some (v.items, new)
 Offers dirty push (Err e) old new = new ≡ old
-
--- what is offered has numbers that are words and hyper integers, and a block
-abbrev pub FitsOffering : Staged → Option (Written × List ℕ) → Type 0
-FitsOffering s None = Unit {0}
-FitsOffering s (Some b) = (s.next < 2 ^ 32) × IsWritten b.0 × (length b.1 ≡ 4096)

@@ -1,10 +1,9 @@
 //! The stager.
 
-ghost use Rattle.std.specs.Prelude.{◌≡◌, ◌<◌, ◌^◌, length, OnErr, OnOk, IfOk};
+ghost use Rattle.std.specs.Prelude.{◌≡◌, OnErr, IfOk};
 ghost use Rattle.std.specs.Option.{option_map};
-ghost use Rattle.nq_stage.specs.Messages.{IsWritten};
 ghost use Rattle.nq_stager.specs.Hearing.{Hears, acknowledging, again_from};
-ghost use Rattle.nq_stager.specs.Offering.{FitsOffering, Offers, first_unknown, offer_of, offered};
+ghost use Rattle.nq_stager.specs.Offering.{Offers, first_unknown, offered};
 ghost use Rattle.nq_stager.specs.Shortening.{Shortens, shortened};
 ghost use Rattle.nq_stager.specs.Staged.{new_stager};
 
@@ -92,13 +91,12 @@ impl Stager {
     /// `NoMemory` where memory is wanting; then nothing was offered.
     pub fn offer(&mut self, alloc: Global, dirty: &Dirty) -> Result<Option<Vec<u8>>, NoMemory>
         ensures offers { Offers dirty.now.dirty dirty.now.push result self.old self.new }
-        ensures fits { OnOk result (FitsOffering self.old (offer_of self.old dirty.now.dirty dirty.now.push)) }
     {
         let Some(written) = self.first_unknown(dirty) else {
             return Ok(None);
         };
         let Some(body) = dirty.get(written.file, written.block) else {
-            return Ok(None);
+            unreachable!()
         };
         Ok(Some(self.stage(alloc, written, body)?))
     }
@@ -177,7 +175,6 @@ impl Stager {
     /// The STAGE of a write, which is the latest then.
     fn stage(&mut self, alloc: Global, written: Written, body: &Block) -> Result<Vec<u8>, NoMemory>
         ensures offered { IfOk result (λ v. (v.items, self.new) ≡ offered self.old written body.now) }
-        ensures fits { OnOk result ((self.old.next < 2 ^ 32) × IsWritten written × (length body.now ≡ 4096)) }
         ensures refused { OnErr result (self.new ≡ self.old) }
     {
         let xid = self.next;

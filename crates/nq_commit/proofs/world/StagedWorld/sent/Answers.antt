@@ -14,3 +14,6 @@ returns-clause-same g c = λ head events told plays. (c.settle.ensures.same head
 
 pub returns-in_err-settle-clause-same : goal.returns-in_err-settle-clause-same
 returns-in_err-settle-clause-same g c = λ head events told plays. (c.settle.ensures.same head events told plays).0
+
+pub returns-clause-ready : goal.returns-clause-ready
+returns-clause-ready g c = λ head events told plays. (c.settle.ensures.same head events told plays).1

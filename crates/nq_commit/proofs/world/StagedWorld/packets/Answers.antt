@@ -1,0 +1,11 @@
+use Rattle.std.proofs.Common.{◌≡◌, ◌∙◌, ap, map, sym}
+use Rattle.nq_commit.proofs.Reaching.{reached-over}
+use Rattle.nq_commit.specs.Around.{datagram_of}
+use Rattle.nq_commit.specs.Playing.{StagedOver}
+use Rattle.nq_staged_run.specs.Outer.{Outside}
+use Rattle.nq_commit.proofs.world.StagedWorld.packets.Goals as goal
+
+pub returns : goal.returns
+returns g c = λ head events told ready plays.
+    c.packets.ensures ∙ ap (λ (w : StagedOver _). map datagram_of w.around.sent) c.self.view_is
+    ∙ sym (ap (λ (o : Outside). map datagram_of o.sent) (reached-over head events c.args.self.now told ready plays.reaches))

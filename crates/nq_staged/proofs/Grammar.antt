@@ -1,0 +1,225 @@
+-- A text is one staged schedule, or has one first line that is wrong.
+use Rattle.std.proofs.Common.{◌≡◌, ◌<◌, ◌≤◌, ◌^◌, ◌⊎◌, inl, inr, ℕ, ◌+◌, Bool, true, false, List, [], ◌∷◌, ◌++◌, drop, take, length, map, Option, Some, None, is_some, Result, Ok, Err, refl, sym, ap, subst, ◌∙◌, arith, length-append}
+use Rattle.std.proofs.lemmas.List.{append_cancel_left, take_at}
+use Rattle.std.proofs.lemmas.Bool.{eqb-true, false≢true}
+use Rattle.std.specs.List.{AllByRecursion}
+use Rattle.std.specs.Prelude.{◌==◌, ◌-◌, codes, nat_lt, if◌then◌else◌}
+use Rattle.nq_commit.specs.Line.{host_of, stage_line}
+use Rattle.nq_script.proofs.Cuts.{after-found}
+use Rattle.nq_script.proofs.HeadLines.{head-right, one-text-head}
+use Rattle.nq_script.proofs.Numbers.{number-found}
+use Rattle.nq_script.proofs.Splitting.{wrong-once}
+use Rattle.nq_script.proofs.Whole.{one-schedule, schedule-right}
+use Rattle.nq_script.specs.Faults.{Answers}
+use Rattle.nq_script.specs.Heads.{FitsHead, head_lines}
+use Rattle.nq_script.specs.Reading.{after}
+use Rattle.nq_script.specs.Schedule.{FirstBadHeadLine, FirstBadLine, IsHead, IsSchedule, SpellsSchedule, StandsInFront}
+use Rattle.nq_script.specs.Text.{IsVersion, text_of}
+use Rattle.nq_script.specs.declared.faults.ScriptFault.{ScriptFault}
+use Rattle.nq_script.specs.declared.faults.ScriptFault.TheVariants.{Bad, Memory}
+use Rattle.nq_script.specs.declared.heads.Head.{Head}
+use Rattle.nq_script.specs.declared.lines.Line.{Line}
+use Rattle.nq_script.specs.declared.scripts.Script.{Script}
+use Rattle.nq_staged.proofs.Lining.{same-head}
+use Rattle.nq_staged.specs.Text.{AreForHosts, FirstBadStaged, GoesWrongBehind, HasHead, IsForHosts, IsOfVersionOne, IsReadyStaged, SpellsStaged, StagedLine, in_front, lines_in, mixed, new_line, plain_bytes, plain_line, plain_text, stages_in}
+use Rattle.nq_staged.specs.declared.texts.StagedScript.{StagedScript}
+use Rattle.nq_words.specs.Reading.{number_of}
+
+-- ---- one head, and one body behind it
+
+one-front : (g h : Head) (body body' text : List ℕ) → HasHead g body text → HasHead h body' text → (g ≡ h) × (body ≡ body')
+one-front g h body body' text a b =
+    let same : g ≡ h = one-text-head g h body body' a.fits b.fits (sym a.split ∙ b.split) in
+    (same, append_cancel_left (text_of (head_lines g)) body body' (sym a.split ∙ b.split ∙ ap (λ k. text_of (head_lines k) ++ body') (sym same)))
+
+plain-same : (g h : Head) (body body' : List ℕ) → (g ≡ h) × (body ≡ body') → plain_text h body' ≡ plain_text g body
+plain-same g h body body' same = sym (ap (λ k. plain_text k body) same.0 ∙ ap (plain_text h) same.1)
+
+-- a text spells one staged schedule
+pub one-staged : (g h : Head) (ls ms : List StagedLine) (text : List ℕ) → SpellsStaged g ls text → SpellsStaged h ms text → (g ≡ h) × (ls ≡ ms)
+one-staged g h ls ms text s t =
+    let front = one-front g h s.body t.body text s.has t.has in
+    let one = one-schedule g h s.plainly t.plainly (plain_text g s.body) s.spelled (subst (SpellsSchedule h t.plainly) (plain-same g h s.body t.body front) t.spelled) in
+    (front.0, s.staged ∙ ap (λ p. mixed (stages_in g.hosts s.body) p) one.1 ∙ ap (λ k. mixed (stages_in k.hosts s.body) t.plainly) front.0 ∙ ap (λ b. mixed (stages_in h.hosts b) t.plainly) front.1 ∙ sym t.staged)
+
+-- which is of version 2
+other-version : (g h : Head) → g ≡ h → g.version ≡ 2 → h.version ≡ 1 → ⊥
+other-version g h same second first = let e : g.version ≡ h.version = ap (λ k. k.version) same in absurd (omega arith)
+
+-- a text that is a staged schedule goes wrong nowhere
+pub staged-right : (text : List ℕ) (number : ℕ) (head : Head) (lines : List StagedLine) → SpellsStaged head lines text → FirstBadStaged text number → ⊥
+staged-right text number head lines s (inl w) = head-right text number head s.body s.has.fits s.has.split w
+staged-right text number head lines s (inr (inl w)) = other-version head w.head (one-front head w.head s.body w.body text s.has w.has).0 s.version w.version
+staged-right text number head lines s (inr (inr w)) =
+    let front = one-front head w.head s.body w.body text s.has w.has in
+    schedule-right (plain_text head s.body) number head s.plainly s.spelled (subst (λ p. FirstBadLine p number) (plain-same head w.head s.body w.body front) w.wrong)
+
+-- and every other goes wrong in one line first
+pub bad-once : (text : List ℕ) (m n : ℕ) → FirstBadStaged text m → FirstBadStaged text n → m ≡ n
+bad-once text m n (inl v) (inl w) = wrong-once IsHead (λ before rest. IsHead before) text m n v w
+bad-once text m n (inl v) (inr (inl w)) = absurd (head-right text m w.head w.body w.has.fits w.has.split v)
+bad-once text m n (inl v) (inr (inr w)) = absurd (head-right text m w.head w.body w.has.fits w.has.split v)
+bad-once text m n (inr (inl v)) (inl w) = absurd (head-right text n v.head v.body v.has.fits v.has.split w)
+bad-once text m n (inr (inr v)) (inl w) = absurd (head-right text n v.head v.body v.has.fits v.has.split w)
+bad-once text m n (inr (inl v)) (inr (inl w)) = v.first ∙ sym w.first
+bad-once text m n (inr (inl v)) (inr (inr w)) = absurd (other-version w.head v.head (one-front w.head v.head w.body v.body text w.has v.has).0 w.version v.version)
+bad-once text m n (inr (inr v)) (inr (inl w)) = absurd (other-version v.head w.head (one-front v.head w.head v.body w.body text v.has w.has).0 v.version w.version)
+bad-once text m n (inr (inr v)) (inr (inr w)) =
+    let front = one-front v.head w.head v.body w.body text v.has w.has in
+    wrong-once IsSchedule (λ before rest. IsSchedule before × (rest ≡ [])) (plain_text v.head v.body) m n v.wrong
+    (subst (λ p. FirstBadLine p n) (plain-same v.head w.head v.body w.body front) w.wrong)
+
+-- ---- what is read
+
+-- the one staged schedule that the text spells is read
+pub staged-only : (text : List ℕ) (head : Head) (lines : List StagedLine) → SpellsStaged head lines text → (r : Result StagedScript ScriptFault)
+    → Answers r (λ s. SpellsStaged s.script.head (mixed s.stages.items s.script.lines) text) (λ number. FirstBadStaged text number)
+    → Answers r (λ s. (s.script.head ≡ head) × (mixed s.stages.items s.script.lines ≡ lines)) (λ number. ⊥)
+staged-only text head lines s (Ok found) said = one-staged found.script.head head (mixed found.stages.items found.script.lines) lines text said s
+staged-only text head lines s (Err (Bad number)) said = staged-right text number head lines s said
+staged-only text head lines s (Err Memory) said = tt
+
+-- the first line that is wrong is the one that is named
+pub staged-bad : (text : List ℕ) (number : ℕ) → FirstBadStaged text number → (r : Result StagedScript ScriptFault)
+    → Answers r (λ s. SpellsStaged s.script.head (mixed s.stages.items s.script.lines) text) (λ place. FirstBadStaged text place)
+    → Answers r (λ s. ⊥) (λ place. place ≡ number)
+staged-bad text number w (Ok found) said = staged-right text number found.script.head (mixed found.stages.items found.script.lines) said w
+staged-bad text number w (Err (Bad place)) said = bad-once text place number said w
+staged-bad text number w (Err Memory) said = tt
+
+-- a head that stands in front of a text, and what is behind it
+pub front-has : (head : Head) (count size : ℕ) (text : List ℕ) → StandsInFront head count size text → HasHead head (drop size text) text
+front-has head count size text front = record { fits = front.fits; split = front.split }
+
+front-taken : (head : Head) (count size : ℕ) (text : List ℕ) → StandsInFront head count size text → take size text ≡ text_of (head_lines head)
+front-taken head count size text front =
+    ap (take size) front.split ∙ take_at (text_of (head_lines head)) (drop size text) size (sym front.bytes)
+
+pub front-within : (head : Head) (count size : ℕ) (text : List ℕ) → StandsInFront head count size text → size ≤ length text
+front-within head count size text front =
+    let whole = ap length front.split in
+    let long = length-append (text_of (head_lines head)) (drop size text) in
+    let here = front.bytes in omega arith
+
+plain-front : (head : Head) (count size : ℕ) (text plain : List ℕ) → StandsInFront head count size text → plain ≡ take size text ++ plain_bytes head.hosts (drop size text) → plain ≡ plain_text head (drop size text)
+plain-front head count size text plain front is = is ∙ ap (λ f. f ++ plain_bytes head.hosts (drop size text)) (front-taken head count size text front)
+
+-- a head of version 1
+pub version-one : (head : Head) (count size : ℕ) (text : List ℕ) → StandsInFront head count size text → (head.version ≡ 2 → ⊥) → FirstBadStaged text 1
+version-one head count size text front other = by_version front.fits.settings.known where
+  by_version : IsVersion head.version → FirstBadStaged text 1
+  by_version (inl first) = inr (inl (record { head = head; body = drop size text; has = front-has head count size text front; version = first; first = refl }))
+  by_version (inr second) = absurd (other second)
+
+-- what the plain text gives is what the text gives
+pub staged-found : (head : Head) (count size : ℕ) (text plain : List ℕ) (stages : List (Option ℕ)) (r : Result StagedScript ScriptFault)
+    → StandsInFront head count size text → head.version ≡ 2 → plain ≡ take size text ++ plain_bytes head.hosts (drop size text) → stages ≡ stages_in head.hosts (drop size text)
+    → Answers r (λ s. SpellsSchedule s.script.head s.script.lines plain × (s.stages.items ≡ stages)) (λ number. FirstBadLine plain number)
+    → Answers r (λ s. SpellsStaged s.script.head (mixed s.stages.items s.script.lines) text) (λ number. FirstBadStaged text number)
+staged-found head count size text plain stages (Ok s) front second is are said =
+    let whole = plain-front head count size text plain front is in
+    let same : s.script.head ≡ head = same-head head s.script.head (plain_bytes head.hosts (drop size text)) plain s.script.lines front.fits whole said.0 in
+    subst (λ h. SpellsStaged h (mixed s.stages.items s.script.lines) text) (sym same) (record {
+      body = drop size text;
+      has = front-has head count size text front;
+      version = second;
+      plainly = s.script.lines;
+      spelled = subst (λ h. SpellsSchedule h s.script.lines (plain_text head (drop size text))) same (subst (SpellsSchedule s.script.head s.script.lines) whole said.0);
+      staged = ap (λ t. mixed t s.script.lines) (said.1 ∙ are);
+    })
+staged-found head count size text plain stages (Err (Bad number)) front second is are said =
+    inr (inr (record {
+      head = head;
+      body = drop size text;
+      has = front-has head count size text front;
+      version = second;
+      wrong = subst (λ p. FirstBadLine p number) (plain-front head count size text plain front is) said;
+    }))
+staged-found head count size text plain stages (Err Memory) front second is are said = tt
+
+-- ---- hosts
+
+stage-host : (hosts : ℕ) (word : Option (List ℕ)) → hosts ≤ 64 → IsForHosts hosts (host_of hosts word)
+stage-host hosts None few = tt
+stage-host zero (Some word) few = tt
+stage-host (suc hosts) (Some word) few = by_number (number_of hosts word) refl where
+  by_number : (o : Option ℕ) → number_of hosts word ≡ o → IsForHosts (suc hosts) o
+  by_number None is = tt
+  by_number (Some host) is = let low = (number-found hosts word host (omega arith) is).1 in omega arith
+
+stages-for : (hosts : ℕ) (lines : List (List ℕ)) → hosts ≤ 64 → AreForHosts hosts (map (stage_line hosts) lines)
+unfolding stage_line
+stages-for hosts [] few = tt
+stages-for hosts (line ∷ lines) few = (stage-host hosts (after (codes "stage ") line) few, stages-for hosts lines few)
+
+-- ---- lengths
+
+whole-lines : (bytes : List ℕ) → text_of (lines_in bytes).0 ++ (lines_in bytes).1 ≡ bytes
+whole-lines [] = refl
+whole-lines (b ∷ bytes) = by_byte (b == 10) refl where
+  in-first : (p : List (List ℕ) × List ℕ) → text_of (in_front b p).0 ++ (in_front b p).1 ≡ b ∷ (text_of p.0 ++ p.1)
+  in-first ([], rest) = refl
+  in-first (line ∷ lines, rest) = refl
+
+  by_byte : (test : Bool) → (b == 10) ≡ test → text_of (if test then new_line (lines_in bytes) else in_front b (lines_in bytes)).0 ++ (if test then new_line (lines_in bytes) else in_front b (lines_in bytes)).1 ≡ b ∷ bytes
+  by_byte true is = let e : b ≡ 10 = eqb-true b 10 is in rw e (ap (λ t. 10 ∷ t) (whole-lines bytes))
+  by_byte false is = in-first (lines_in bytes) ∙ ap (λ t. b ∷ t) (whole-lines bytes)
+
+offer-longer : (hosts : ℕ) (line : List ℕ) (o : Option (List ℕ)) → after (codes "stage ") line ≡ o → (test : Bool) → is_some (host_of hosts o) ≡ test → length (if test then codes "flow" else line) ≤ length line
+offer-longer hosts line o is false tells = omega arith
+offer-longer hosts line None is true tells = absurd (false≢true tells)
+offer-longer hosts line (Some word) is true tells =
+    let whole = ap length (after-found (codes "stage ") line word is) in
+    let long = length-append (codes "stage ") word in omega arith
+
+line-shorter : (hosts : ℕ) (line : List ℕ) → length (plain_line hosts line) ≤ length line
+unfolding stage_line
+line-shorter hosts line = offer-longer hosts line (after (codes "stage ") line) refl (is_some (stage_line hosts line)) refl
+
+lines-shorter : (hosts : ℕ) (lines : List (List ℕ)) → length (text_of (map (plain_line hosts) lines)) ≤ length (text_of lines)
+lines-shorter hosts [] = omega arith
+lines-shorter hosts (line ∷ lines) =
+    let here = line-shorter hosts line in
+    let rest = lines-shorter hosts lines in
+    let one = length-append (plain_line hosts line) (10 ∷ text_of (map (plain_line hosts) lines)) in
+    let two = length-append line (10 ∷ text_of lines) in omega arith
+
+-- a text is no shorter than the one in which lines `flow` stand for offers
+pub plain-shorter : (hosts : ℕ) (body : List ℕ) → length (plain_bytes hosts body) ≤ length body
+plain-shorter hosts body =
+    let less = lines-shorter hosts (lines_in body).0 in
+    let whole = ap length (whole-lines body) in
+    let one = length-append (text_of (lines_in body).0) (lines_in body).1 in
+    let two = length-append (text_of (map (plain_line hosts) (lines_in body).0)) (lines_in body).1 in omega arith
+
+-- so it is short where the text is
+pub plain-short : (head : Head) (count size most : ℕ) (text plain : List ℕ) → StandsInFront head count size text → plain ≡ take size text ++ plain_bytes head.hosts (drop size text) → length text < most → length plain < most
+plain-short head count size most text plain front is short =
+    let less = plain-shorter head.hosts (drop size text) in
+    let same = ap length is in
+    let long = length-append (take size text) (plain_bytes head.hosts (drop size text)) in
+    let taken = ap length (front-taken head count size text front) in
+    let whole = ap length front.split in
+    let two = length-append (text_of (head_lines head)) (drop size text) in omega arith
+
+-- what a schedule that was read is made ready as
+pub staged-ready : (head : Head) (count size : ℕ) (text plain : List ℕ) (stages : List (Option ℕ)) (r : Result StagedScript ScriptFault)
+    → StandsInFront head count size text → head.version ≡ 2 → plain ≡ take size text ++ plain_bytes head.hosts (drop size text) → stages ≡ stages_in head.hosts (drop size text)
+    → length text < 2 ^ 31
+    → Answers r (λ s. SpellsSchedule s.script.head s.script.lines plain × (s.stages.items ≡ stages)) (λ number. FirstBadLine plain number)
+    → Answers r (λ s. s.script.first ≡ length (head_lines s.script.head) + 1) (λ number. Unit {0})
+    → Answers r (λ s. IsReadyStaged s.script s.stages.items) (λ number. Unit {0})
+staged-ready head count size text plain stages (Ok s) front second is are short said first =
+    let whole = plain-front head count size text plain front is in
+    let same : s.script.head ≡ head = same-head head s.script.head (plain_bytes head.hosts (drop size text)) plain s.script.lines front.fits whole said.0 in
+    record {
+      text = plain;
+      spelled = said.0;
+      short = plain-short head count size (2 ^ 31) text plain front is short;
+      version = ap (λ h. h.version) same ∙ second;
+      first = first;
+      stages_are = subst (λ h. AreForHosts h.hosts s.stages.items) (sym same)
+          (subst (AreForHosts head.hosts) (sym (said.1 ∙ are)) (stages-for head.hosts (lines_in (drop size text)).0 front.fits.settings.few_hosts));
+    }
+staged-ready head count size text plain stages (Err (Bad number)) front second is are short said first = tt
+staged-ready head count size text plain stages (Err Memory) front second is are short said first = tt

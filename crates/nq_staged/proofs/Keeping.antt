@@ -1,0 +1,143 @@
+-- What holds behind each event that was taken holds at the end: so all events of a staged schedule can be told in one.
+use Rattle.std.proofs.Common.{◌≡◌, ◌<◌, ◌≤◌, ℕ, ◌+◌, List, [], ◌∷◌, arith, length, reverse, zero, suc, ◌++◌, Option, Some, None, refl, sym, subst}
+use Rattle.std.proofs.lemmas.List.{reverse-append, reverse-reverse}
+use Rattle.std.specs.List.{AllByRecursion}
+use Rattle.nq_commit.specs.Playing.{PlaysOutside, StagedOver, stepped_outside}
+use Rattle.nq_commit.proofs.Reaching.{reached-ran}
+use Rattle.nq_model.specs.Kept.{Kept}
+use Rattle.nq_play.specs.Playing.{beginning}
+use Rattle.nq_play.specs.declared.Played.{Played as Went}
+use Rattle.nq_script.specs.Heads.{head_lines}
+use Rattle.nq_script.specs.Lines.{HasEvent, SpellsLine}
+use Rattle.nq_script.specs.Schedule.{SpellsLines, SpellsSchedule}
+use Rattle.nq_script.specs.declared.heads.Head.{Head}
+use Rattle.nq_script.specs.declared.lines.Line.{Line}
+use Rattle.nq_staged.proofs.Tellable.{IsPlainly, run-all}
+use Rattle.nq_staged.specs.Going.{Comes, RanTo}
+use Rattle.nq_staged.specs.Text.{IsTellable, StagedLine, mixed, plain, stage}
+use Rattle.nq_staged_run.specs.Outside.{outside_run}
+use Rattle.nq_base.specs.declared.Event.{Event}
+use Rattle.nq_staged_run.specs.declared.StagedEvent.{StagedEvent}
+use Rattle.nq_model.specs.Stepped.{Stepped, done, no_packet, out_of_skew, too_many_events, too_many_packets, most_events}
+use Rattle.nq_model.specs.World.{Head as Beginning}
+use Rattle.nq_staged.specs.Playing.{Ended, Played, took, refused, and_then, answered, at_line, play, play_event, play_flow, play_line, play_lines, play_plain, play_round, play_ticks, ran, repeated, stopped, with_packet}
+
+-- it holds of the events, if all went well
+abbrev pub Ends : (List StagedEvent → Type 0) → Played → Type 0
+Ends P (took events) = P events
+Ends P (refused answer) = Unit {0}
+
+-- playing keeps it
+abbrev pub Keeps : (List StagedEvent → Type 0) → (List StagedEvent → Played) → Type 0
+Keeps P play = (events : List StagedEvent) → P events → Ends P (play events)
+
+pub ends-then : (P : List StagedEvent → Type 0) (played : Played) (next : List StagedEvent → Played) → Ends P played → Keeps P next → Ends P (and_then played next)
+ends-then P (took events) next here keeps = keeps events here
+ends-then P (refused answer) next here keeps = tt
+
+pub keeps-repeated : (P : List StagedEvent → Type 0) (times : ℕ) (play : List StagedEvent → Played) → Keeps P play → Keeps P (repeated times play)
+keeps-repeated P zero play keeps events here = here
+keeps-repeated P (suc times) play keeps events here =
+    ends-then P (play events) (repeated times play) (keeps events here) (keeps-repeated P times play keeps)
+
+pub ends-answered : (P : List StagedEvent → Type 0) (earlier : List StagedEvent) (event : StagedEvent) (answer : Stepped) → (answer ≡ done → P (event ∷ earlier)) → Ends P (answered earlier event answer)
+ends-answered P earlier event done here = here (λ i. done)
+ends-answered P earlier event no_packet here = tt
+ends-answered P earlier event (out_of_skew broken) here = tt
+ends-answered P earlier event too_many_events here = tt
+ends-answered P earlier event too_many_packets here = tt
+
+pub keeps-ticks : (P : List StagedEvent → Type 0) (head : Beginning) (host count : ℕ) → host + count ≤ head.hosts → ((h : ℕ) → h < head.hosts → Keeps P (play_event head (StagedEvent.Plain (Event.ClientTick h)))) → Keeps P (play_ticks head host count)
+keeps-ticks P head host zero less keeps events here = here
+keeps-ticks P head host (suc count) less keeps events here =
+    ends-then P (play_event head (StagedEvent.Plain (Event.ClientTick host)) events) (play_ticks head (host + 1) count) (keeps host (omega arith) events here) (keeps-ticks P head (host + 1) count (omega arith) keeps)
+
+pub keeps-round : (P : List StagedEvent → Type 0) (head : Beginning) → ((h : ℕ) → h < head.hosts → Keeps P (play_event head (StagedEvent.Plain (Event.ClientTick h)))) → Keeps P (play_event head (StagedEvent.Plain Event.ServerTick)) → Keeps P (play_round head)
+unfolding play_round
+keeps-round P head ticks tick events here =
+    ends-then P (play_ticks head 0 head.hosts events) (play_event head (StagedEvent.Plain Event.ServerTick)) (keeps-ticks P head 0 head.hosts (omega arith) ticks events here) tick
+
+ends-packet : (P : List StagedEvent → Type 0) (packet : Option ℕ) (events : List StagedEvent) (next : ℕ → Played) → P events → ((k : ℕ) → Ends P (next k)) → Ends P (with_packet packet events next)
+ends-packet P None events next here keeps = here
+ends-packet P (Some k) events next here keeps = keeps k
+
+pub keeps-flow : (P : List StagedEvent → Type 0) (head : Beginning) (most : ℕ) → ((k : ℕ) → Keeps P (play_event head (StagedEvent.Plain (Event.Deliver k)))) → Keeps P (play_flow head most)
+keeps-flow P head zero keeps events here = tt
+keeps-flow P head (suc most) keeps events here =
+    ends-packet P _ events _ here (λ k. ends-then P (play_event head (StagedEvent.Plain (Event.Deliver k)) events) (λ es. play_flow head most es) (keeps k events here) (keeps-flow P head most keeps))
+
+-- ---- all events can be told
+
+deliver-told : (head : Head) (k : ℕ) → IsTellable head (Event.Deliver k)
+deliver-told head k = (tt, tt)
+
+abbrev pub AreTold : Head → List StagedEvent → Type 0
+AreTold head events = AllByRecursion (IsPlainly (IsTellable head) (deliver-told head)) events
+
+module _ (head : Head) (second : head.version ≡ 2) where
+  keeps_event : (event : Event) → IsTellable head event → Keeps (AreTold head) (play_event (beginning head) (StagedEvent.Plain event))
+  unfolding play_event
+  keeps_event event is events so = ends-answered (AreTold head) events (StagedEvent.Plain event) (stepped_outside (beginning head) events (StagedEvent.Plain event)) (λ done. (is, so))
+
+  keeps_stage : (host : ℕ) → Keeps (AreTold head) (play_event (beginning head) (StagedEvent.Stage host))
+  unfolding play_event
+  keeps_stage host events so = ends-answered (AreTold head) events (StagedEvent.Stage host) (stepped_outside (beginning head) events (StagedEvent.Stage host)) (λ done. (tt, so))
+
+  keeps_line : (most : ℕ) (line : Line) (text : List ℕ) → SpellsLine head line text → Keeps (AreTold head) (play_plain (beginning head) most line)
+  keeps_line most (Line.Events event times) text spelled =
+      keeps-repeated (AreTold head) times (play_event (beginning head) (StagedEvent.Plain event)) (keeps_event event (spelled.0, subst (λ v. HasEvent v event) second spelled.1.0))
+  keeps_line most (Line.Round times) text spelled =
+      keeps-repeated (AreTold head) times (play_round (beginning head))
+      (keeps-round (AreTold head) (beginning head) (λ h less. keeps_event (Event.ClientTick h) (less, tt)) (keeps_event Event.ServerTick (tt, tt)))
+  keeps_line most Line.Flow text spelled = keeps-flow (AreTold head) (beginning head) most (λ k. keeps_event (Event.Deliver k) (tt, tt))
+  keeps_line most Line.End text spelled = λ events so. so
+
+  ran_on : (line : ℕ) (played : Played) (next : List StagedEvent → Ended) (events : List StagedEvent) → Ends (AreTold head) played → ((es : List StagedEvent) → AreTold head es → next es ≡ ran events → AreTold head events) → at_line line played next ≡ ran events → AreTold head events
+  ran_on line (took es) next events so on is = on es so is
+  ran_on line (refused answer) next events so on is = absurd (cc)
+
+  lines_told : (most number : ℕ) (stages : List (Option ℕ)) (lines : List Line) (texts : List (List ℕ)) (earlier events : List StagedEvent) → SpellsLines head lines texts → AreTold head earlier → play_lines (beginning head) most number (mixed stages lines) earlier ≡ ran events → AreTold head events
+  lines_told most number stages [] texts earlier events spelled so is = let same : earlier ≡ events = cc in subst (AreTold head) same so
+  lines_told most number stages (line ∷ lines) [] earlier events spelled so is = absurd spelled
+  lines_told most number [] (line ∷ lines) (text ∷ texts) earlier events spelled so is =
+      ran_on number (play_plain (beginning head) most line earlier) (play_lines (beginning head) most (number + 1) (mixed [] lines)) events
+      (keeps_line most line text spelled.1 earlier so)
+      (λ es here on. lines_told most (number + 1) [] lines texts es events spelled.2 here on) is
+  lines_told most number (None ∷ stages) (line ∷ lines) (text ∷ texts) earlier events spelled so is =
+      ran_on number (play_plain (beginning head) most line earlier) (play_lines (beginning head) most (number + 1) (mixed stages lines)) events
+      (keeps_line most line text spelled.1 earlier so)
+      (λ es here on. lines_told most (number + 1) stages lines texts es events spelled.2 here on) is
+  lines_told most number (Some host ∷ stages) (line ∷ lines) (text ∷ texts) earlier events spelled so is =
+      ran_on number (play_event (beginning head) (StagedEvent.Stage host) earlier) (play_lines (beginning head) most (number + 1) (mixed stages lines)) events
+      (keeps_stage host earlier so)
+      (λ es here on. lines_told most (number + 1) stages lines texts es events spelled.2 here on) is
+
+  pub events_told : (stages : List (Option ℕ)) (lines : List Line) (text : List ℕ) (events : List StagedEvent) → SpellsSchedule head lines text → play head (mixed stages lines) ≡ ran events → AreTold head events
+  unfolding play
+  events_told stages lines text events spelled is = lines_told (most_events + 1) (length (head_lines head) + 1) stages lines spelled.1.1.0 [] events spelled.1.1.1 tt is
+
+-- ---- so can all inner events
+
+all-append : {X : Type 0} (P : X → Type 0) (xs ys : List X) → AllByRecursion P xs → AllByRecursion P ys → AllByRecursion P (xs ++ ys)
+all-append P [] ys a b = b
+all-append P (x ∷ xs) ys a b = (a.0, all-append P xs ys a.1 b)
+
+all-reversed : {X : Type 0} (P : X → Type 0) (xs : List X) → AllByRecursion P xs → AllByRecursion P (reverse xs)
+all-reversed P [] all = tt
+all-reversed P (x ∷ xs) all = subst (AllByRecursion P) (sym (reverse-append (x ∷ []) xs)) (all-append P (reverse xs) (x ∷ []) (all-reversed P xs all.1) (all.0, tt))
+
+all-reverse : {X : Type 0} (P : X → Type 0) (xs : List X) → AllByRecursion P (reverse xs) → AllByRecursion P xs
+all-reverse P xs all = subst (AllByRecursion P) (reverse-reverse xs) (all-reversed P (reverse xs) all)
+
+pub inner_told : {K : Type 0} (head : Head) (events : List StagedEvent) (w : StagedOver K) (told : Option Kept) → AreTold head events → PlaysOutside (beginning head) events w told → AllByRecursion (IsTellable head) w.ran
+inner_told head events w told are plays =
+    all-reverse (IsTellable head) w.ran (subst (AllByRecursion (IsTellable head)) (reached-ran (beginning head) events w told plays.reaches) (run-all (IsTellable head) (deliver-told head) (beginning head) events are))
+
+came_told : {K : Type 0} (head : Head) (stages : List (Option ℕ)) (lines : List Line) (text : List ℕ) (w : StagedOver K) (told : Option Kept) (due : Ended) → head.version ≡ 2 → SpellsSchedule head lines text → play head (mixed stages lines) ≡ due → RanTo due (λ events. PlaysOutside (beginning head) events w told) → AllByRecursion (IsTellable head) w.ran
+came_told head stages lines text w told (ran events) second spelled is plays = inner_told head events w told (events_told head second stages lines text events spelled is) plays
+came_told head stages lines text w told (stopped line answer) second spelled is plays = absurd plays
+
+-- a staged schedule that was played to its end
+pub played_told : {K : Type 0} (head : Head) (stages : List (Option ℕ)) (lines : List Line) (text : List ℕ) (played : Went) (w : StagedOver K) (told : Option Kept) → head.version ≡ 2 → SpellsSchedule head lines text → Comes played (play head (mixed stages lines)) (λ events. PlaysOutside (beginning head) events w told) → played ≡ Went.All → AllByRecursion (IsTellable head) w.ran
+played_told head stages lines text Went.All w told second spelled comes is = came_told head stages lines text w told (play head (mixed stages lines)) second spelled refl comes
+played_told head stages lines text (Went.Stopped line answer) w told second spelled comes is = absurd (cc)

@@ -1,0 +1,12 @@
+pub mod Steps
+pub mod Onward
+pub mod Mixing
+pub mod Lining
+pub mod Tellable
+pub mod Keeping
+pub mod Outcomes
+pub mod Endings
+pub mod Grammar
+pub mod Printed
+pub mod Readied
+pub mod Spelling

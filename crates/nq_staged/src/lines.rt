@@ -1,0 +1,193 @@
+//! Lines of a staged schedule, one after another.
+
+ghost use Rattle.std.specs.Prelude.{◌≡◌, ◌≤◌, ◌+◌, ◌^◌, ◌<◌, ℕ, List, [], length, slice_get, Some};
+ghost use Rattle.nq_commit.specs.Playing.{PlaysOutside};
+ghost use Rattle.nq_model.specs.World.{Head};
+ghost use Rattle.nq_play.specs.Going.{AreForWorld, IsForWorld, said};
+ghost use Rattle.nq_play.specs.declared.Played.{Played};
+ghost use Rattle.nq_script.specs.declared.lines.Line.{Line};
+ghost use Rattle.nq_staged.specs.Going.{Comes, Goes, IsAt};
+ghost use Rattle.nq_staged.specs.Playing.{play_event, play_line, play_lines, play_plain};
+ghost use Rattle.nq_staged.specs.Text.{AreForHosts, StagedLine, mixed, stage_at};
+ghost use Rattle.nq_staged_run.specs.declared.StagedEvent.{StagedEvent};
+ghost use Rattle.nq_world.specs.Playing.{CountsFaults, HasSettings};
+
+use crate::events::{deliver, flow, rounds, take, take_times};
+use nq_base::Host;
+use nq_commit::StagedWorld;
+use nq_keeper::Keeper;
+use nq_play::{Delivered, Played};
+use nq_script::{Line, Lines};
+use nq_staged_run::StagedEvent;
+use nq_world::Stepped;
+use std::alloc::Global;
+
+/// Plays a line of a schedule, where a flow may have so many deliveries.
+fn play_plain<K: Keeper>(
+    world: &mut StagedWorld<K>,
+    delivered: &mut Delivered,
+    hosts: u32,
+    most: u32,
+    line: Line,
+) -> Stepped
+    requires hosts { hosts ≤ length world.old.inner.clients }
+    requires can { IsForWorld (length world.old.inner.clients) world.old.inner.skew.window line }
+    ensures goes { (head : Head) (events : List StagedEvent) → head.hosts ≡ hosts
+        → IsAt head events world.old (K.content world.old.inner.server.keeper) delivered.old
+        → Goes result (play_plain head most line events) (λ es. IsAt head es world.new (K.content world.new.inner.server.keeper) delivered.new) }
+    ensures faults { CountsFaults result (K.faults world.old.inner.server.keeper) (K.faults world.new.inner.server.keeper) }
+    ensures follows { K.follows world.old.inner.server.keeper world.new.inner.server.keeper }
+    ensures settings { HasSettings (length world.old.inner.clients) world.old.inner.skew.window world.old.inner.term world.new.inner }
+{
+    match line {
+        Line::Events { event, times } => {
+            let event = StagedEvent::Plain(event);
+            take_times(world, delivered, &event, times)
+        }
+        Line::Round(times) => rounds(world, delivered, hosts, times),
+        Line::Flow => flow(world, delivered, most),
+        Line::End => Stepped::Done,
+    }
+}
+
+/// Plays the line of a schedule at a place, of which a second one is made.
+fn play_second<K: Keeper>(
+    world: &mut StagedWorld<K>,
+    delivered: &mut Delivered,
+    hosts: u32,
+    most: u32,
+    lines: &Lines,
+    place: usize,
+) -> Stepped
+    requires hosts { hosts ≤ length world.old.inner.clients }
+    requires can { AreForWorld (length world.old.inner.clients) world.old.inner.skew.window lines.now }
+    requires below { place < length lines.now }
+    ensures goes { (line : Line) → slice_get lines.now place ≡ Some line → (head : Head) (events : List StagedEvent) → head.hosts ≡ hosts
+        → IsAt head events world.old (K.content world.old.inner.server.keeper) delivered.old
+        → Goes result (play_plain head most line events) (λ es. IsAt head es world.new (K.content world.new.inner.server.keeper) delivered.new) }
+    ensures faults { CountsFaults result (K.faults world.old.inner.server.keeper) (K.faults world.new.inner.server.keeper) }
+    ensures follows { K.follows world.old.inner.server.keeper world.new.inner.server.keeper }
+    ensures settings { HasSettings (length world.old.inner.clients) world.old.inner.skew.window world.old.inner.term world.new.inner }
+{
+    match lines.get(place) {
+        Some(line) => play_plain(world, delivered, hosts, most, line),
+        None => unreachable!(),
+    }
+}
+
+/// Plays the line of a schedule at a place. A delivery, which most lines are, makes no second line.
+fn play_plain_at<K: Keeper>(
+    world: &mut StagedWorld<K>,
+    delivered: &mut Delivered,
+    hosts: u32,
+    most: u32,
+    lines: &Lines,
+    place: usize,
+) -> Stepped
+    requires hosts { hosts ≤ length world.old.inner.clients }
+    requires can { AreForWorld (length world.old.inner.clients) world.old.inner.skew.window lines.now }
+    requires below { place < length lines.now }
+    ensures goes { (line : Line) → slice_get lines.now place ≡ Some line → (head : Head) (events : List StagedEvent) → head.hosts ≡ hosts
+        → IsAt head events world.old (K.content world.old.inner.server.keeper) delivered.old
+        → Goes result (play_plain head most line events) (λ es. IsAt head es world.new (K.content world.new.inner.server.keeper) delivered.new) }
+    ensures faults { CountsFaults result (K.faults world.old.inner.server.keeper) (K.faults world.new.inner.server.keeper) }
+    ensures follows { K.follows world.old.inner.server.keeper world.new.inner.server.keeper }
+    ensures settings { HasSettings (length world.old.inner.clients) world.old.inner.skew.window world.old.inner.term world.new.inner }
+{
+    match lines.packet_at(place) {
+        Some(packet) => deliver(world, delivered, packet),
+        None => play_second(world, delivered, hosts, most, lines, place),
+    }
+}
+
+/// A host's side offers a body.
+fn offer<K: Keeper>(world: &mut StagedWorld<K>, delivered: &mut Delivered, host: Host) -> Stepped
+    requires { host < length world.old.inner.clients }
+    ensures goes { (head : Head) (events : List StagedEvent) → IsAt head events world.old (K.content world.old.inner.server.keeper) delivered.old
+        → Goes result (play_event head (StagedEvent.Stage host) events) (λ es. IsAt head es world.new (K.content world.new.inner.server.keeper) delivered.new) }
+    ensures faults { CountsFaults result (K.faults world.old.inner.server.keeper) (K.faults world.new.inner.server.keeper) }
+    ensures follows { K.follows world.old.inner.server.keeper world.new.inner.server.keeper }
+    ensures settings { HasSettings (length world.old.inner.clients) world.old.inner.skew.window world.old.inner.term world.new.inner }
+{
+    let event = StagedEvent::Stage(host);
+    take(world, delivered, &event)
+}
+
+/// The host whose side offers in the line at a place, if one does.
+fn stage_at(stages: &[Option<Host>], place: usize) -> Option<Host>
+    ensures { result ≡ stage_at stages.now place }
+{
+    match stages.get(place) {
+        Some(stage) => *stage,
+        None => None,
+    }
+}
+
+/// Plays the line at a place.
+fn play_at<K: Keeper>(
+    world: &mut StagedWorld<K>,
+    delivered: &mut Delivered,
+    hosts: u32,
+    most: u32,
+    lines: &Lines,
+    stages: &[Option<Host>],
+    place: usize,
+) -> Stepped
+    requires hosts { hosts ≤ length world.old.inner.clients }
+    requires stages { AreForHosts (length world.old.inner.clients) stages.now }
+    requires can { AreForWorld (length world.old.inner.clients) world.old.inner.skew.window lines.now }
+    requires below { place < length lines.now }
+    ensures goes { (line : StagedLine) → slice_get (mixed stages.now lines.now) place ≡ Some line → (head : Head) (events : List StagedEvent) → head.hosts ≡ hosts
+        → IsAt head events world.old (K.content world.old.inner.server.keeper) delivered.old
+        → Goes result (play_line head most line events) (λ es. IsAt head es world.new (K.content world.new.inner.server.keeper) delivered.new) }
+    ensures faults { CountsFaults result (K.faults world.old.inner.server.keeper) (K.faults world.new.inner.server.keeper) }
+    ensures follows { K.follows world.old.inner.server.keeper world.new.inner.server.keeper }
+    ensures settings { HasSettings (length world.old.inner.clients) world.old.inner.skew.window world.old.inner.term world.new.inner }
+{
+    match stage_at(stages, place) {
+        Some(host) => offer(world, delivered, host),
+        None => play_plain_at(world, delivered, hosts, most, lines, place),
+    }
+}
+
+/// Where playing stopped. There are fewer lines than a number can count.
+fn stopped(first: u32, place: usize, answer: Stepped) -> Played
+    requires { first + place < 2 ^ 32 }
+    ensures { result ≡ Played.Stopped (first + place) answer }
+{
+    Played::Stopped {
+        line: first + place as u32,
+        answer,
+    }
+}
+
+/// Plays lines over a world of so many hosts, in which nothing was played before. Of each line `stages` has the host whose side
+/// offers, if one does. The first line has this number in its text, and a flow may have so many deliveries.
+pub(crate) fn play<K: Keeper>(
+    alloc: Global,
+    world: &mut StagedWorld<K>,
+    hosts: u32,
+    most: u32,
+    first: u32,
+    lines: &Lines,
+    stages: &[Option<Host>],
+) -> Played
+    requires hosts { hosts ≤ length world.old.inner.clients }
+    requires stages { AreForHosts (length world.old.inner.clients) stages.now }
+    requires can { AreForWorld (length world.old.inner.clients) world.old.inner.skew.window lines.now }
+    requires few { first + length lines.now < 2 ^ 32 }
+    ensures comes { (head : Head) → head.hosts ≡ hosts → PlaysOutside head [] world.old (K.content world.old.inner.server.keeper)
+        → Comes result (play_lines head most first (mixed stages.now lines.now) []) (λ events. PlaysOutside head events world.new (K.content world.new.inner.server.keeper)) }
+    ensures stops { said result ≡ Stepped.Done → result ≡ Played.All }
+    ensures faults { CountsFaults (said result) (K.faults world.old.inner.server.keeper) (K.faults world.new.inner.server.keeper) }
+    ensures follows { K.follows world.old.inner.server.keeper world.new.inner.server.keeper }
+{
+    let mut delivered = Delivered::new(alloc);
+    for place in 0..lines.len() {
+        match play_at(world, &mut delivered, hosts, most, lines, stages, place) {
+            Stepped::Done => {}
+            answer => return stopped(first, place, answer),
+        }
+    }
+    Played::All
+}
