@@ -3,7 +3,7 @@ use Rattle.nq_staged.proofs.Mixing.{mixed-length}
 use Rattle.nq_staged.specs.Text.{mixed}
 use Rattle.nq_staged.proofs.Onward.{comes-here, is-there, line-on, lines-step, stops-line}
 use Rattle.nq_staged.proofs.Steps.{faults-on, settings-on}
-use Rattle.nq_staged.specs.Going.{said}
+use Rattle.nq_play.specs.Going.{said}
 use Rattle.nq_staged.specs.Playing.{play_line}
 use Rattle.nq_staged.proofs.lines.play.Goals as goal
 
