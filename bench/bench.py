@@ -1,6 +1,6 @@
 #!/usr/bin/env python3
 """Times `nqnfs replay` on inputs that it makes, and prints events per second and peak memory; or times `nq_bench`, and
-prints datagrams and megabytes, or calls of the parts of server and client, per second; or times `nqnfs check` on journals, or
+prints datagrams and megabytes, or requests of a server and calls of a client, per second; or times `nqnfs check` on journals, or
 `nqnfs storm`.
 
     bench/bench.py [--program FILE] [--words WORD ...]
@@ -85,7 +85,7 @@ def run(program, words, path):
         return took, used.ru_maxrss / 1024, child.returncode, out.seek(0, os.SEEK_END)
 
 
-# What nq_bench does, how often, and the bytes of one datagram; a journal's bytes are what the program prints.
+# What nq_bench does, how often, and the bytes of one datagram.
 DATAGRAMS = [
     ("LOOKUP", "lookup", 3_000_000, 56),
     ("reply to LOOKUP", "lookup-reply", 3_000_000, 40),
@@ -111,59 +111,14 @@ def often(program, words, times):
 
 
 def codecs(program):
-    """Prints how fast datagrams and journals are written and read. What a run does once is timed apart and taken off."""
+    """Prints how fast datagrams are written and read. What a run does once is timed apart and taken off."""
     print(f"{'datagram':18} {'way':8} {'each':>10} {'per second':>12} {'MB/s':>7}")
     for name, what, times, size in DATAGRAMS:
         for way in ("encode", "decode"):
             took = often(program, [what, way], times)[0] - often(program, [what, way], 0)[0]
             print(f"{name:18} {way:8} {took / times * 1e9:7.0f} ns {times / took:12,.0f} {times * size / took / 1e6:7,.0f}")
-    for way in ("print", "parse"):
-        took, size = often(program, ["journal", way], 5)
-        took -= often(program, ["journal", way], 0)[0]
-        print(f"{'journal, ' + format(size // 5, ','):18} {way:8} {took / 5 * 1e3:7.0f} ms {5 / took:12,.1f} {size / took / 1e6:7,.0f}")
     return 0
 
-
-# Rounds of the test of skew: each ticks 64 hosts' clocks, and with "all" the server's too.
-SKEW_ROUNDS = 1_000_000
-
-
-# What is done with a lease table of 2,048 rows, and how often.
-LEASES = [
-    ("a row is looked up", "row", 3_000_000),
-    ("a row is put in place of another", "put", 1_000_000),
-    ("a row is dropped, and put in again", "drop", 300_000),
-    ("a lease is renewed", "ask", 1_000_000),
-    ("64 readers are in the way", "clash", 300_000),
-    ("a tick at which no row ends", "tick", 30_000_000),
-]
-
-# Reads from a client's cache: of all its blocks in turn, or of one of them again and again.
-CACHE_READS = 2_000_000
-CACHES = [
-    ("a cached read, 1 block", "1"),
-    ("a cached read, 32 blocks in turn", "32"),
-    ("a cached read, 512 blocks in turn", "512"),
-    ("a cached read, one of 512 blocks", "1-of-512"),
-]
-
-# Plain copies of the blocks of a list, in turn.
-COPIES = [
-    ("a copy, 1 block", "1"),
-    ("a copy, 32 blocks in turn", "32"),
-    ("a copy, 512 blocks in turn", "512"),
-]
-
-# Delayed writes: of blocks that are in the list, in turn or one of them again and again, or of new ones until so many are there.
-DELAYS = [
-    ("a delayed write, 1 block", "again-1"),
-    ("a delayed write, 32 blocks in turn", "again-32"),
-    ("a delayed write, 512 blocks in turn", "again-512"),
-    ("a delayed write, one of 512 blocks", "again-1-of-512"),
-    ("a new block, up to 1", "new-1"),
-    ("a new block, up to 32", "new-32"),
-    ("a new block, up to 512", "new-512"),
-]
 
 # What a client does that holds 1 or 256 files, with 1, 32 or 512 blocks in turn.
 CLIENT_CALLS = 50_000
@@ -187,27 +142,7 @@ KEPT = ("1-1", "256-1", "256-2048")
 
 
 def parts(program):
-    """Prints how fast the parts of server and client are."""
-    rounds = {}
-    for way in ("clients", "all"):
-        rounds[way] = (often(program, ["skew", way], SKEW_ROUNDS)[0] - often(program, ["skew", way], 0)[0]) / SKEW_ROUNDS
-    reads = [
-        (name, (often(program, ["cache", way], CACHE_READS)[0] - often(program, ["cache", way], 0)[0]) / CACHE_READS)
-        for name, way in CACHES
-    ]
-    for name, each in (
-        ("a host's clock ticks", rounds["clients"] / 64),
-        ("the server's clock ticks, 64 hosts", rounds["all"] - rounds["clients"]),
-        ("any clock ticks, 64 hosts in turn", rounds["all"] / 65),
-        *reads,
-    ):
-        print(f"{name:36} {each * 1e9:8,.1f} ns {1 / each:14,.0f} per second")
-    for name, way in COPIES:
-        each = (often(program, ["copies", way], CACHE_READS)[0] - often(program, ["copies", way], 0)[0]) / CACHE_READS
-        print(f"{name:36} {each * 1e9:8,.1f} ns {1 / each:14,.0f} per second")
-    for name, way in DELAYS:
-        each = (often(program, ["delays", way], CACHE_READS)[0] - often(program, ["delays", way], 0)[0]) / CACHE_READS
-        print(f"{name:36} {each * 1e9:8,.1f} ns {1 / each:14,.0f} per second")
+    """Prints how fast a client makes calls and a server answers requests."""
     for name, what in CLIENTS:
         for way in EXTENTS:
             each = (often(program, [what, way], CLIENT_CALLS)[0] - often(program, [what, way], 0)[0]) / CLIENT_CALLS
@@ -216,9 +151,6 @@ def parts(program):
         for way in KEPT:
             each = (often(program, [what, way], SERVER_REQUESTS)[0] - often(program, [what, way], 0)[0]) / SERVER_REQUESTS
             print(f"{name + ', ' + way:36} {each * 1e9:8,.1f} ns {1 / each:14,.0f} per second")
-    for name, way, times in LEASES:
-        each = (often(program, ["leases", way], times)[0] - often(program, ["leases", way], 0)[0]) / times
-        print(f"{name:36} {each * 1e9:8,.1f} ns {1 / each:14,.0f} per second")
     return 0
 
 

@@ -42,8 +42,10 @@ tells_told (A who q (OkBy value packet)) at old new e h before t by n p x =
     elim (cases_Bool (same_who who by && (q == n) && (packet == p))) [
       | inl y ↦
           let k = three (same_who who by) (q == n) (packet == p) y in
-          let same : same_spot (reply who q packet) (reply by n p) ≡ true = and_from (same_who who by) ((q == n) && (packet == p)) k.0 (and_from (q == n) (packet == p) k.1 k.2) in
-          h (reply by n p) ∙ told_here (same_spot at (reply by n p)) (is_told old (reply by n p)) (subst (λ s. same_spot s (reply by n p) ≡ true) (there (reply who q packet) at e) same)
+          let same : same_spot (reply who q packet) (reply by n p) ≡ true = and_from (same_who who by) ((q == n) && (packet == p)) k.0
+          (and_from (q == n) (packet == p) k.1 k.2) in
+          h (reply by n p) ∙ told_here (same_spot at (reply by n p)) (is_told old (reply by n p))
+          (subst (λ s. same_spot s (reply by n p) ≡ true) (there (reply who q packet) at e) same)
       | inr f ↦
           h (reply by n p) ∙ same_or (same_spot at (reply by n p)) (is_told old (reply by n p))
           (t by n p (sym (ap (λ b. b || exists (is_answer_by by n p) before) f) ∙ x))
@@ -55,7 +57,8 @@ tells_none (A who q (OkBy value packet)) old e before t by n p x = absurd (cc)
 tells_none other old e before t by n p x = t by n p x
 
 -- a read that may not be counted is not
-pub not_counted : (whole : List Entry) (replies : List (Reply × Bool)) (who : Who) (q file block value : ℕ) (served : Option ℕ) → AreTold whole replies → may_count who q served replies ≡ false → is_counted whole (R who q file block value served) ≡ false
+pub not_counted : (whole : List Entry) (replies : List (Reply × Bool)) (who : Who) (q file block value : ℕ) (served : Option ℕ) → AreTold whole replies
+    → may_count who q served replies ≡ false → is_counted whole (R who q file block value served) ≡ false
 not_counted whole replies who q file block value None t m = absurd (cc)
 not_counted whole replies who q file block value (Some packet) t m =
     elim (cases_Bool (exists (is_answer_by who q packet) whole)) [

@@ -24,19 +24,25 @@ use Rattle.nq_model.specs.LegalTest.{gives_value, is_answer_with}
 use Rattle.nq_model.specs.Table.{same_who}
 
 -- a fact of a journal up to a place holds up to a later one, where each entry between them keeps it
-climb_by : (Q : List Entry → Type 0) (whole : List Entry) (n from : ℕ) → from + n ≤ length whole → Q (reverse (take from whole)) → ((place : ℕ) (entry : Entry) (before : List Entry) → from ≤ place → place < from + n → slice_get whole place ≡ Some entry → Q before → Q (entry ∷ before)) → Q (reverse (take (from + n) whole))
+climb_by : (Q : List Entry → Type 0) (whole : List Entry) (n from : ℕ) → from + n ≤ length whole → Q (reverse (take from whole))
+    → ((place : ℕ) (entry : Entry) (before : List Entry) → from ≤ place → place < from + n → slice_get whole place ≡ Some entry → Q before
+    → Q (entry ∷ before)) → Q (reverse (take (from + n) whole))
 climb_by Q whole zero from l q step = let same : from + 0 ≡ from = omega arith in subst (λ k. Q (reverse (take k whole))) (sym same) q
 climb_by Q whole (suc n) from l q step =
-    let below : Q (reverse (take (from + n) whole)) = climb_by Q whole n from (omega arith) q (λ place entry before a b. step place entry before a (omega arith)) in
+    let below : Q (reverse (take (from + n) whole)) = climb_by Q whole n from (omega arith) q
+    (λ place entry before a b. step place entry before a (omega arith)) in
     elim (slice_get_cases whole (from + n)).1 [
       | inl h ↦
           let next : from + suc n ≡ (from + n) + 1 = omega arith in
           subst (λ k. Q (reverse (take k whole))) (sym next)
-          (subst (λ l. Q l) (sym (taken_here whole (from + n) h.0 h.2)) (step (from + n) h.0 (reverse (take (from + n) whole)) (omega arith) (omega arith) h.2 below))
+          (subst (λ l. Q l) (sym (taken_here whole (from + n) h.0 h.2))
+          (step (from + n) h.0 (reverse (take (from + n) whole)) (omega arith) (omega arith) h.2 below))
       | inr h ↦ absurd (omega arith)
     ]
 
-pub climb : (Q : List Entry → Type 0) (whole : List Entry) (from to : ℕ) → from ≤ to → to ≤ length whole → Q (reverse (take from whole)) → ((place : ℕ) (entry : Entry) (before : List Entry) → from ≤ place → place < to → slice_get whole place ≡ Some entry → Q before → Q (entry ∷ before)) → Q (reverse (take to whole))
+pub climb : (Q : List Entry → Type 0) (whole : List Entry) (from to : ℕ) → from ≤ to → to ≤ length whole → Q (reverse (take from whole))
+    → ((place : ℕ) (entry : Entry) (before : List Entry) → from ≤ place → place < to → slice_get whole place ≡ Some entry → Q before
+    → Q (entry ∷ before)) → Q (reverse (take to whole))
 climb Q whole from to a b q step =
     let up : from + (to - from) ≡ to = omega arith in
     subst (λ k. Q (reverse (take k whole))) up
@@ -47,7 +53,9 @@ false_of true b f h = absurd (let t = f refl in cc)
 false_of false b f h = refl
 
 -- no entry between two places is looked for, where the links lead to none
-pub skip_exists : (test : Entry → Bool) (kind : Kind) (key : Spot) (whole : List Entry) (from to : ℕ) → ((entry : Entry) → test entry ≡ true → is_link kind key entry ≡ true) → from ≤ to → to ≤ length whole → IsFree kind key whole from to → exists test (reverse (take to whole)) ≡ exists test (reverse (take from whole))
+pub skip_exists : (test : Entry → Bool) (kind : Kind) (key : Spot) (whole : List Entry) (from to : ℕ)
+    → ((entry : Entry) → test entry ≡ true → is_link kind key entry ≡ true) → from ≤ to → to ≤ length whole → IsFree kind key whole from to
+    → exists test (reverse (take to whole)) ≡ exists test (reverse (take from whole))
 skip_exists test kind key whole from to linked a b free =
     climb (λ l. exists test l ≡ exists test (reverse (take from whole))) whole from to a b refl
     (λ place entry before c d there h.
@@ -71,7 +79,8 @@ or_none (Some x) = refl
 or_none None = refl
 
 -- nor does an entry between them tell of the call
-pub skip_told : (key : Spot) (who : Who) (q : ℕ) (whole : List Entry) (from to : ℕ) → key ≡ spot who q 0 → from ≤ to → to ≤ length whole → IsFree Calls key whole from to → call_of (reverse (take to whole)) who q ≡ call_of (reverse (take from whole)) who q
+pub skip_told : (key : Spot) (who : Who) (q : ℕ) (whole : List Entry) (from to : ℕ) → key ≡ spot who q 0 → from ≤ to → to ≤ length whole
+    → IsFree Calls key whole from to → call_of (reverse (take to whole)) who q ≡ call_of (reverse (take from whole)) who q
 skip_told key who q whole from to e a b free =
     climb (λ l. call_of l who q ≡ call_of (reverse (take from whole)) who q) whole from to a b refl
     (λ place entry before c d there h.
@@ -93,7 +102,8 @@ turned_who a b h =
     let p = and_parts (nat_eq a.host b.host) (nat_eq a.inc b.inc) h in
     and_from (nat_eq b.host a.host) (nat_eq b.inc a.inc) (turned a.host b.host p.0) (turned a.inc b.inc p.1)
 
-tells_within : (who : Who) (file block first last : ℕ) (by : Who) (f b n v : ℕ) → is_within who file block first last (W by f b n v false) ≡ true → (same_who by who ≡ true) × (nat_eq f file ≡ true) × (nat_eq b block ≡ true)
+tells_within : (who : Who) (file block first last : ℕ) (by : Who) (f b n v : ℕ) → is_within who file block first last (W by f b n v false) ≡ true
+    → (same_who by who ≡ true) × (nat_eq f file ≡ true) × (nat_eq b block ≡ true)
 tells_within who file block first last by f b n v h =
     let p = and_parts (same_who by who && nat_eq f file && nat_eq b block && nat_le first n) (nat_le n last) h in
     let r = and_parts (same_who by who && nat_eq f file && nat_eq b block) (nat_le first n) p.0 in
@@ -101,7 +111,8 @@ tells_within who file block first last by f b n v h =
     let w = and_parts (same_who by who) (nat_eq f file) t.0 in
     (w.0, w.1, t.1)
 
-within_linked : (who : Who) (file block first last : ℕ) (write : Entry) → is_within who file block first last write ≡ true → same_spot (spot who file block) (own_spot write) ≡ true
+within_linked : (who : Who) (file block first last : ℕ) (write : Entry) → is_within who file block first last write ≡ true
+    → same_spot (spot who file block) (own_spot write) ≡ true
 within_linked who file block first last (W by f b n v false) h =
     let p = tells_within who file block first last by f b n v h in
     and_from (same_who who by) (nat_eq file f && nat_eq block b) (turned_who by who p.0)
@@ -131,6 +142,7 @@ sought_linked (Store write) entry h = store_linked write.now entry h
 sought_linked (Loss write) entry h = loss_linked write.now entry h
 
 -- the same, where key and kind are known by what they are equal to
-pub sought_here : (sought : Sought) (kind : Kind) (key : Spot) → kind ≡ kind_sought sought → key ≡ spot_sought sought → (entry : Entry) → passes sought entry ≡ true → is_link kind key entry ≡ true
+pub sought_here : (sought : Sought) (kind : Kind) (key : Spot) → kind ≡ kind_sought sought → key ≡ spot_sought sought → (entry : Entry)
+    → passes sought entry ≡ true → is_link kind key entry ≡ true
 sought_here sought kind key k e entry h =
     subst (λ z. is_link z key entry ≡ true) (sym k) (subst (λ z. is_link (kind_sought sought) z entry ≡ true) (sym e) (sought_linked sought entry h))

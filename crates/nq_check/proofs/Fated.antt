@@ -32,7 +32,8 @@ loss_any write (L who file block first last) h = h
 loss_any write other h = absurd (cc)
 
 -- an entry that accounts for what it covers is the first to cover a write
-first_to_cover : (whole before : List Entry) (entry write : Entry) → ((test : Entry → Bool) → each test whole ≡ true → test write ≡ true) → is_accounted_at whole entry before ≡ true → covers entry write ≡ true → exists (λ other. covers other write) before ≡ true → ⊥
+first_to_cover : (whole before : List Entry) (entry write : Entry) → ((test : Entry → Bool) → each test whole ≡ true → test write ≡ true)
+    → is_accounted_at whole entry before ≡ true → covers entry write ≡ true → exists (λ other. covers other write) before ≡ true → ⊥
 first_to_cover whole before (S who file block first last now) write f h c e =
     not_both (covers (S who file block first last now) write) (exists (λ other. covers other write) before)
     (f (is_first_to_cover before (S who file block first last now)) h) c e
@@ -47,7 +48,9 @@ one_kind write (L who file block first last) x y = absurd (cc)
 one_kind write other x y = absurd (cc)
 
 -- one more entry
-both_next : (whole before : List Entry) (entry write : Entry) → ((test : Entry → Bool) → each test whole ≡ true → test write ≡ true) → is_accounted_at whole entry before ≡ true → (is_lost before write ≡ true → is_stored before write ≡ true → ⊥) → is_lost (entry ∷ before) write ≡ true → is_stored (entry ∷ before) write ≡ true → ⊥
+both_next : (whole before : List Entry) (entry write : Entry) → ((test : Entry → Bool) → each test whole ≡ true → test write ≡ true)
+    → is_accounted_at whole entry before ≡ true → (is_lost before write ≡ true → is_stored before write ≡ true → ⊥)
+    → is_lost (entry ∷ before) write ≡ true → is_stored (entry ∷ before) write ≡ true → ⊥
 both_next whole before entry write f h none lost stored =
     elim (cases_Bool (loss_covers entry write)) [
       | inl l ↦
@@ -55,7 +58,8 @@ both_next whole before entry write f h none lost stored =
             | inl s ↦ one_kind write entry l s
             | inr s ↦
                 first_to_cover whole before entry write f h (loss_any write entry l)
-                (exists_more (λ other. store_covers other write) (λ other. covers other write) (store_any write) before (or_not (store_covers entry write) (is_stored before write) stored s))
+                (exists_more (λ other. store_covers other write) (λ other. covers other write) (store_any write) before
+                (or_not (store_covers entry write) (is_stored before write) stored s))
           ]
       | inr l ↦
           let lost_before = or_not (loss_covers entry write) (is_lost before write) lost l in
@@ -67,26 +71,31 @@ both_next whole before entry write f h none lost stored =
           ]
     ]
 
-both_upto : (whole : List Entry) (write : Entry) (k : ℕ) → k ≤ length whole → ((test : Entry → Bool) → each test (reverse whole) ≡ true → test write ≡ true) → KeepsBelow Rule.Accounted whole (length whole) → is_lost (reverse (take k whole)) write ≡ true → is_stored (reverse (take k whole)) write ≡ true → ⊥
+both_upto : (whole : List Entry) (write : Entry) (k : ℕ) → k ≤ length whole
+    → ((test : Entry → Bool) → each test (reverse whole) ≡ true → test write ≡ true) → KeepsBelow Rule.Accounted whole (length whole)
+    → is_lost (reverse (take k whole)) write ≡ true → is_stored (reverse (take k whole)) write ≡ true → ⊥
 both_upto whole write zero within f keeps lost stored = absurd (cc)
 both_upto whole write (suc n) within f keeps lost stored =
     elim (slice_get_cases whole n).1 [
       | inl h ↦
           let next : suc n ≡ n + 1 = omega arith in
-          let split : reverse (take (suc n) whole) ≡ h.0 ∷ reverse (take n whole) = subst (λ i. reverse (take i whole) ≡ h.0 ∷ reverse (take n whole)) (sym next) (taken_here whole n h.0 h.2) in
+          let split : reverse (take (suc n) whole) ≡ h.0 ∷ reverse (take n whole) = subst (λ i. reverse (take i whole) ≡ h.0 ∷ reverse (take n whole))
+          (sym next) (taken_here whole n h.0 h.2) in
           both_next (reverse whole) (reverse (take n whole)) h.0 write f (keeps n h.0 (omega arith) h.2)
           (both_upto whole write n (omega arith) f keeps)
           (subst (λ l. is_lost l write ≡ true) split lost) (subst (λ l. is_stored l write ≡ true) split stored)
       | inr h ↦ absurd (omega arith)
     ]
 
-all_there : (whole : List Entry) (at : ℕ) (write : Entry) → at < length whole → slice_get whole at ≡ Some write → (test : Entry → Bool) → each test (reverse whole) ≡ true → test write ≡ true
+all_there : (whole : List Entry) (at : ℕ) (write : Entry) → at < length whole → slice_get whole at ≡ Some write → (test : Entry → Bool)
+    → each test (reverse whole) ≡ true → test write ≡ true
 all_there whole at write below there test h =
     let all : each test (reverse (take (length whole) whole)) ≡ true = subst (λ l. each test (reverse l) ≡ true) (sym (take-length whole)) h in
     let up : length whole ≤ length whole = omega arith in
     each_before test whole at (length whole) write below up there all
 
-pub lost_not_stored : (whole : List Entry) (accounted at : ℕ) (write : Entry) → length whole ≤ accounted → KeepsBelow Rule.Accounted whole accounted → slice_get whole at ≡ Some write → at < length whole → is_lost (reverse whole) write ≡ true → false ≡ is_stored (reverse whole) write
+pub lost_not_stored : (whole : List Entry) (accounted at : ℕ) (write : Entry) → length whole ≤ accounted → KeepsBelow Rule.Accounted whole accounted
+    → slice_get whole at ≡ Some write → at < length whole → is_lost (reverse whole) write ≡ true → false ≡ is_stored (reverse whole) write
 lost_not_stored whole accounted at write long keeps there below lost =
     let kept : KeepsBelow Rule.Accounted whole (length whole) = λ place entry less e. keeps place entry (omega arith) e in
     let up : length whole ≤ length whole = omega arith in

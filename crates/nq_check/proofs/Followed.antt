@@ -15,7 +15,9 @@ use Rattle.nq_model.specs.Journal.{call_of, told_by}
 use Rattle.nq_model.specs.JournalTest.{exists}
 
 -- the link of an entry of a key passes over none of that key
-pub back_free : (kind : Kind) (whole : List Entry) (n : ℕ) (heads : List (Spot × ℕ)) (earlier : List ℕ) (place : ℕ) (entry : Entry) (e : ℕ) (key : Spot) → IsLinked kind whole n heads earlier → slice_get whole place ≡ Some entry → slice_get earlier place ≡ Some e → same_spot (spot_of kind entry) key ≡ true → IsFree kind key whole e place
+pub back_free : (kind : Kind) (whole : List Entry) (n : ℕ) (heads : List (Spot × ℕ)) (earlier : List ℕ) (place : ℕ) (entry : Entry) (e : ℕ) (key : Spot)
+    → IsLinked kind whole n heads earlier → slice_get whole place ≡ Some entry → slice_get earlier place ≡ Some e
+    → same_spot (spot_of kind entry) key ≡ true → IsFree kind key whole e place
 back_free kind whole n heads earlier place entry e key h there link same =
     subst (λ k. IsFree kind k whole e place) (same_is (spot_of kind entry) key same) (h.back place entry e there link)
 
@@ -26,17 +28,22 @@ taken_last xs k x up e =
     subst (λ i. reverse (take i xs) ≡ x ∷ reverse (take (k - 1) xs)) same (taken_here xs (k - 1) x e)
 
 -- it is not, and no link leads to another before the next
-pub none_last : (test : Entry → Bool) (kind : Kind) (key : Spot) (whole : List Entry) (next k : ℕ) (x : Entry) → ((entry : Entry) → test entry ≡ true → is_link kind key entry ≡ true) → 0 < k → k ≤ length whole → next ≤ k - 1 → slice_get whole (k - 1) ≡ Some x → test x ≡ false → IsFree kind key whole next (k - 1) → exists test (reverse (take k whole)) ≡ exists test (reverse (take next whole))
+pub none_last : (test : Entry → Bool) (kind : Kind) (key : Spot) (whole : List Entry) (next k : ℕ) (x : Entry)
+    → ((entry : Entry) → test entry ≡ true → is_link kind key entry ≡ true) → 0 < k → k ≤ length whole → next ≤ k - 1 → slice_get whole (k - 1) ≡ Some x
+    → test x ≡ false → IsFree kind key whole next (k - 1) → exists test (reverse (take k whole)) ≡ exists test (reverse (take next whole))
 none_last test kind key whole next k x linked up within low e t free =
     ap (exists test) (taken_last whole k x up e) ∙ ap (λ b. b || exists test (reverse (take (k - 1) whole))) t
     ∙ skip_exists test kind key whole next (k - 1) linked low (omega arith) free
 
 -- what the call asks, with what the entry before a place tells of it
-pub told_last : (key : Spot) (who : Who) (q : ℕ) (whole : List Entry) (next k : ℕ) (x : Entry) → key ≡ spot who q 0 → 0 < k → k ≤ length whole → next ≤ k - 1 → slice_get whole (k - 1) ≡ Some x → IsFree Calls key whole next (k - 1) → call_of (reverse (take k whole)) who q ≡ option_or (call_of (reverse (take next whole)) who q) (told_by x who q)
+pub told_last : (key : Spot) (who : Who) (q : ℕ) (whole : List Entry) (next k : ℕ) (x : Entry) → key ≡ spot who q 0 → 0 < k → k ≤ length whole
+    → next ≤ k - 1 → slice_get whole (k - 1) ≡ Some x → IsFree Calls key whole next (k - 1)
+    → call_of (reverse (take k whole)) who q ≡ option_or (call_of (reverse (take next whole)) who q) (told_by x who q)
 told_last key who q whole next k x e up within low there free =
     ap (λ l. call_of l who q) (taken_last whole k x up there)
     ∙ ap (λ c. option_or c (told_by x who q)) (skip_told key who q whole next (k - 1) e low (omega arith) free)
 
 -- what is free up to a place is free up to an earlier one
-pub free_within : (kind : Kind) (key : Spot) (whole : List Entry) (from to upto : ℕ) → upto ≤ to → IsFree kind key whole from to → IsFree kind key whole from upto
+pub free_within : (kind : Kind) (key : Spot) (whole : List Entry) (from to upto : ℕ) → upto ≤ to → IsFree kind key whole from to
+    → IsFree kind key whole from upto
 free_within kind key whole from to upto low free p x a b h = free p x a (omega arith) h

@@ -6,6 +6,7 @@ pub mod Delayed
 pub mod Fated
 pub mod Followed
 pub mod Linking
+pub mod LineParts
 pub mod Lining
 pub mod Lowest
 pub mod MovesOn

@@ -1,282 +1,41 @@
 -- An entry from which there is a next line stands in order, and that line tells of it.
-use Rattle.std.proofs.Common.{◌≡◌, ◌<◌, ℕ, Bool, true, false, not, ◌&&◌, ◌||◌, ◌==◌, List, [], ◌∷◌, Option, Some, None, inl, inr, refl, sym, ◌∙◌, ap, subst, arith}
-use Rattle.std.specs.Prelude.{◌⊎◌, if◌then◌else◌, nat_le, nat_lt}
-use Rattle.std.specs.Option.{option_or}
-use Rattle.std.proofs.lemmas.Bool.{and_parts, and_from, cases_Bool, eqb-true, eq-eqb, lt-ltb, leb-false, cases_lt}
+use Rattle.std.proofs.Common.{◌≡◌, ◌<◌, ℕ, Bool, true, false, not, ◌&&◌, ◌||◌, ◌==◌, List, ◌∷◌, Option, Some, None, inl, inr, refl, sym, ◌∙◌, ap, subst, arith}
+use Rattle.std.specs.Prelude.{◌⊎◌, nat_le}
+use Rattle.std.proofs.lemmas.Bool.{and_parts, and_from, cases_Bool, eqb-true, eq-eqb, leb-false}
 use Rattle.nq_base.specs.declared.Entry.{Entry}
 use Rattle.nq_base.specs.declared.Entry.TheVariants.{C, W, R, Z, A}
 use Rattle.nq_base.specs.declared.Said.{Said}
 use Rattle.nq_base.specs.declared.Told.{Told}
-use Rattle.nq_base.specs.declared.Told.TheVariants.{Write, WriteSync, Resize, Remove}
 use Rattle.nq_base.specs.declared.Who.{Who}
-use Rattle.nq_model.specs.Journal.{call_of, told_by}
-use Rattle.nq_model.specs.JournalTest.{each, exists, is_answer, is_call, is_counted, is_open, throughout}
+use Rattle.nq_model.specs.JournalTest.{each, exists, is_answer, is_call, is_counted, is_open}
 use Rattle.nq_model.specs.LegalTest.{is_counted_by}
-use Rattle.nq_model.specs.OrderedTest.{call_resizes, has_open, is_before_call, is_busy_next, is_call_below, is_call_in_order, is_no_other, is_numbered, is_open_call, is_resize_by, is_resize_in_order, is_read_in_order, is_write_in_order, open_call, writes}
+use Rattle.nq_model.specs.OrderedTest.{has_open, is_busy_next, is_call_below, is_call_in_order, is_numbered, is_resize_by, is_resize_in_order, is_read_in_order, is_write_in_order, writes}
 use Rattle.nq_model.specs.Table.{same_who}
 use Rattle.nq_model.proofs.JournalTests.{tells_who}
 use Rattle.nq_check.specs.declared.lines.Line.{Line}
 use Rattle.nq_check.specs.declared.lines.Open.{Open}
-use Rattle.nq_check.specs.InOrder.{AreBusy, AreLines, AreOpened, IsBusyCall, IsLineOf, IsNext, IsOpenCall, IsOpened, StandsInOrder, is_else}
-use Rattle.nq_check.specs.Lines.{IsLined, Sizing, Writing, after_answer_of, after_call, after_call_at, after_read_of, after_resize_of, after_write_of, begun, is_sizing, is_writing, line_at, sizing_of, writing_of}
-
--- ---- truth values
-
-or_none : (a b : Bool) → a ≡ false → b ≡ false → (a || b) ≡ false
-or_none true b x y = x
-or_none false b x y = y
-
-or_here : (a b : Bool) → a ≡ true → (a || b) ≡ true
-or_here true b x = refl
-or_here false b x = absurd (cc)
-
-or_there : (a b : Bool) → b ≡ true → (a || b) ≡ true
-or_there true b x = refl
-or_there false b x = x
-
-neither_first : (a b : Bool) → (a || b) ≡ false → a ≡ false
-neither_first true b x = x
-neither_first false b x = refl
-
-neither_second : (a b : Bool) → (a || b) ≡ false → b ≡ false
-neither_second true b x = absurd (cc)
-neither_second false b x = x
-
-and_not_there : (a b : Bool) → b ≡ false → (a && b) ≡ false
-and_not_there true b x = x
-and_not_there false b x = refl
-
-and_not_here : (a b : Bool) → a ≡ false → (a && b) ≡ false
-and_not_here true b x = absurd (cc)
-and_not_here false b x = refl
-
-not_false : (a : Bool) → not a ≡ true → a ≡ false
-not_false true x = absurd (cc)
-not_false false x = refl
-
-not_not : (a : Bool) → not a ≡ false → a ≡ true
-not_not true x = refl
-not_not false x = absurd (cc)
-
-nothing_is : {X : Type 0} (x : X) → None ≡ Some x → ⊥
-nothing_is x e = absurd (cc)
-
-both_ways : (a : Bool) → a ≡ true → a ≡ false → ⊥
-both_ways true x y = absurd (cc)
-both_ways false x y = absurd (cc)
-
-not_true : (a : Bool) → (a ≡ true → ⊥) → a ≡ false
-not_true true f = absurd (f refl)
-not_true false f = refl
-
-other_number : (a b : ℕ) → (a ≡ b → ⊥) → (a == b) ≡ false
-other_number a b f = not_true (a == b) (λ e. f (eqb-true a b e))
-
-or_nothing : (a : Bool) → (a || false) ≡ a
-or_nothing true = refl
-or_nothing false = refl
-
-self : (who : Who) → same_who who who ≡ true
-self who = (tells_who {a = who} {b = who}).complete refl
-
--- ---- calls that are open
-
-same_open : (who : Who) (q : ℕ) (entry : Entry) (before : List Entry) → is_call who q entry ≡ false → is_answer who q entry ≡ false → is_open (entry ∷ before) who q ≡ is_open before who q
-same_open who q entry before c a = rw (c, a) refl
-
-is_called : (before : List Entry) (who : Who) (q : ℕ) → is_open before who q ≡ true → exists (is_call who q) before ≡ true
-is_called before who q o = (and_parts (exists (is_call who q) before) (not (exists (is_answer who q) before)) o).0
-
-is_unanswered : (before : List Entry) (who : Who) (q : ℕ) → is_open before who q ≡ true → exists (is_answer who q) before ≡ false
-is_unanswered before who q o = not_false (exists (is_answer who q) before) (and_parts (exists (is_call who q) before) (not (exists (is_answer who q) before)) o).1
-
-opens : (before : List Entry) (who : Who) (q : ℕ) → exists (is_call who q) before ≡ true → exists (is_answer who q) before ≡ false → is_open before who q ≡ true
-opens before who q c a = and_from (exists (is_call who q) before) (not (exists (is_answer who q) before)) c (ap not a)
-
-not_called : (before : List Entry) (who : Who) (q : ℕ) → exists (is_call who q) before ≡ false → call_of before who q ≡ None
-not_called [] who q h = refl
-not_called (C by n told ∷ before) who q h =
-    rw (not_called before who q (neither_second (same_who by who && (n == q)) (exists (is_call who q) before) h), neither_first (same_who by who && (n == q)) (exists (is_call who q) before) h) refl
-not_called (other ∷ before) who q h = rw (not_called before who q (neither_second (is_call who q other) (exists (is_call who q) before) h)) refl
-
-none_since : (before : List Entry) (who : Who) (q : ℕ) → exists (is_call who q) before ≡ false → throughout (is_before_call who q) before ≡ true
-none_since [] who q h = refl
-none_since (W by file block number value through ∷ before) who q h =
-    and_from (not (same_who by who) || not (exists (is_call who q) before)) (throughout (is_before_call who q) before)
-    (or_there (not (same_who by who)) (not (exists (is_call who q) before)) (ap not h)) (none_since before who q h)
-none_since (other ∷ before) who q h = none_since before who q (neither_second (is_call who q other) (exists (is_call who q) before) h)
-
-below_one : (by who : Who) (n q : ℕ) → (same_who by who ≡ true → n < q) → (not (same_who by who) || nat_lt n q) ≡ true
-below_one by who n q f =
-    elim (cases_Bool (same_who by who)) [
-      | inl y ↦ or_there (not (same_who by who)) (nat_lt n q) (lt-ltb n q (f y))
-      | inr e ↦ or_here (not (same_who by who)) (nat_lt n q) (ap not e)
-    ]
-
--- where no call above the highest number stands, a call of this number is below each higher one
-upto : (there : Bool) (n highest q : ℕ) → highest < q → there ≡ true → (highest < n → there ≡ false) → n < q
-upto there n highest q l t f =
-    elim (cases_lt highest n) [
-      | inl high ↦ absurd (both_ways there t (f high))
-      | inr low ↦ omega arith
-    ]
-
-all_below : (before : List Entry) (who : Who) (highest q : ℕ) → highest < q → ((n : ℕ) → highest < n → exists (is_call who n) before ≡ false) → each (is_call_below who q) before ≡ true
-all_below [] who highest q l h = refl
-all_below (C by n told ∷ before) who highest q l h =
-    and_from (not (same_who by who) || nat_lt n q) (each (is_call_below who q) before)
-    (below_one by who n q (λ y. upto (exists (is_call who n) (C by n told ∷ before)) n highest q l
-    (or_here (same_who by who && (n == n)) (exists (is_call who n) before) (and_from (same_who by who) (n == n) y (eq-eqb n n refl)))
-    (h n)))
-    (all_below before who highest q l (λ m k. neither_second (same_who by who && (n == m)) (exists (is_call who m) before) (h m k)))
-all_below (other ∷ before) who highest q l h = all_below before who highest q l (λ m k. neither_second (is_call who m other) (exists (is_call who m) before) (h m k))
-
-none_open : (entries before : List Entry) (who : Who) → ((q : ℕ) → is_open before who q ≡ true → ⊥) → exists (is_open_call before who) entries ≡ false
-none_open [] before who f = refl
-none_open (C by n told ∷ entries) before who f =
-    or_none (same_who by who && is_open before who n) (exists (is_open_call before who) entries)
-    (and_not_there (same_who by who) (is_open before who n) (not_true (is_open before who n) (f n)))
-    (none_open entries before who f)
-none_open (other ∷ entries) before who f = none_open entries before who f
-
--- where one call alone is open, no other is
-no_others : (entries before : List Entry) (who : Who) (p : ℕ) → ((q : ℕ) → is_open before who q ≡ true → p ≡ q) → each (is_no_other before who p) entries ≡ true
-no_others [] before who p f = refl
-no_others (C by n told ∷ entries) before who p f =
-    and_from (not (same_who by who && is_open before who n) || (n == p)) (each (is_no_other before who p) entries)
-    (elim (cases_Bool (is_open before who n)) [
-      | inl o ↦ or_there (not (same_who by who && is_open before who n)) (n == p) (eq-eqb n p (sym (f n o)))
-      | inr c ↦ or_here (not (same_who by who && is_open before who n)) (n == p) (ap not (and_not_there (same_who by who) (is_open before who n) c))
-    ])
-    (no_others entries before who p f)
-no_others (other ∷ entries) before who p f = no_others entries before who p f
-
-if_true : {X : Type 0} (b : Bool) (x y : X) → b ≡ true → (if b then x else y) ≡ x
-if_true true x y e = refl
-if_true false x y e = absurd (cc)
-
-if_false : {X : Type 0} (b : Bool) (x y : X) → b ≡ false → (if b then x else y) ≡ y
-if_false true x y e = absurd (cc)
-if_false false x y e = refl
-
-later_call : (by who : Who) (n p : ℕ) (is_open rest : Bool) → (same_who by who && is_open) ≡ false → (n ≡ p → is_open ≡ true) → ((same_who by who && (n == p)) || rest) ≡ true → rest ≡ true
-later_call by who n p is_open true e f c = refl
-later_call by who n p is_open false e f c =
-    let h = and_parts (same_who by who) (n == p) (sym (or_nothing (same_who by who && (n == p))) ∙ c) in
-    absurd (both_ways (same_who by who && is_open) (and_from (same_who by who) is_open h.0 (f (eqb-true n p h.1))) e)
-
--- where one call alone is open, it is the one that is found
-found : (entries before : List Entry) (who : Who) (p : ℕ) → ((q : ℕ) → is_open before who q ≡ true → p ≡ q) → is_open before who p ≡ true → exists (is_call who p) entries ≡ true → open_call before who entries ≡ Some p
-found [] before who p f o c = absurd (cc)
-found (C by n told ∷ entries) before who p f o c =
-    elim (cases_Bool (same_who by who && is_open before who n)) [
-      | inl y ↦
-          if_true (same_who by who && is_open before who n) (Some n) (open_call before who entries) y
-          ∙ ap Some (sym (f n (and_parts (same_who by who) (is_open before who n) y).1))
-      | inr e ↦
-          if_false (same_who by who && is_open before who n) (Some n) (open_call before who entries) e
-          ∙ found entries before who p f o (later_call by who n p (is_open before who n) (exists (is_call who p) entries) e (λ s. subst (λ m. is_open before who m ≡ true) (sym s) o) c)
-    ]
-found (other ∷ entries) before who p f o c = found entries before who p f o c
-
--- ---- what else an entry leaves as it was
-
--- the entry tells nothing of the calls of an incarnation
-record IsQuiet (whole : List Entry) (who : Who) (entry : Entry) : Type 0 where
-  call : (q : ℕ) → is_call who q entry ≡ false
-  answer : (q : ℕ) → is_answer who q entry ≡ false
-  resize : (q : ℕ) → is_resize_by who q entry ≡ false
-  read : (q : ℕ) → is_counted_by whole who q entry ≡ false
-  number : (n : ℕ) → is_numbered who n entry ≡ false
-  write : (q : ℕ) (before : List Entry) → is_before_call who q entry before ≡ true
-
--- what stays of an open call behind an entry that is not its A
-still_open : (whole before : List Entry) (who : Who) (q : ℕ) (writing : Option Writing) (sizing : Option Sizing) (wrote resized read now_wrote now_resized now_read : Bool) (entry : Entry) → IsOpened whole before who q writing sizing wrote resized read → is_answer who q entry ≡ false → (now_wrote ≡ false → (wrote ≡ false) × (is_before_call who q entry before ≡ true)) → (now_resized ≡ false → (resized ≡ false) × (is_resize_by who q entry ≡ false)) → (now_read ≡ false → (read ≡ false) × (is_counted_by whole who q entry ≡ false)) → IsOpened whole (entry ∷ before) who q writing sizing now_wrote now_resized now_read
-still_open whole before who q writing sizing wrote resized read now_wrote now_resized now_read entry h a w z r = record {
-  opened = opens (entry ∷ before) who q (or_there (is_call who q entry) (exists (is_call who q) before) (is_called before who q h.opened)) (or_none (is_answer who q entry) (exists (is_answer who q) before) a (is_unanswered before who q h.opened));
-  told = h.told;
-  call = ap (λ c. option_or c (told_by entry who q)) h.call;
-  writes = h.writes;
-  sizes = h.sizes;
-  unwritten = λ e. and_from (is_before_call who q entry before) (throughout (is_before_call who q) before) (w e).1 (h.unwritten (w e).0);
-  unresized = λ e. or_none (is_resize_by who q entry) (exists (is_resize_by who q) before) (z e).1 (h.unresized (z e).0);
-  unread = λ e. or_none (is_counted_by whole who q entry) (exists (is_counted_by whole who q) before) (r e).1 (h.unread (r e).0);
-}
-
-still_opened : (whole before : List Entry) (who : Who) (current : Option Open) (entry : Entry) → IsQuiet whole who entry → AreOpened whole before who current → AreOpened whole (entry ∷ before) who current
-still_opened whole before who None entry k h = tt
-still_opened whole before who (Some o) entry k h =
-    still_open whole before who o.q o.writing o.sizing o.wrote o.resized o.read o.wrote o.resized o.read entry h (k.answer o.q)
-    (λ e. (e, k.write o.q before)) (λ e. (e, k.resize o.q)) (λ e. (e, k.read o.q))
-
-still_busy : (before : List Entry) (who : Who) (highest : ℕ) (current : Option Open) (busy : Option ℕ) (entry : Entry) → ((q : ℕ) → is_answer who q entry ≡ false) → AreBusy before who highest current busy → AreBusy (entry ∷ before) who highest current busy
-still_busy before who highest current None entry a h = tt
-still_busy before who highest current (Some busy) entry a h = record { upto = h.upto; unanswered = or_none (is_answer who busy entry) (exists (is_answer who busy) before) (a busy) h.unanswered; apart = h.apart }
-
--- what is told of a busy call asks no more of the open one than its number
-same_busy : (before : List Entry) (who : Who) (highest : ℕ) (o n : Open) (busy : Option ℕ) → o.q ≡ n.q → AreBusy before who highest (Some o) busy → AreBusy before who highest (Some n) busy
-same_busy before who highest o n None e h = tt
-same_busy before who highest o n (Some busy) e h = record { upto = h.upto; unanswered = h.unanswered; apart = λ x. h.apart (e ∙ x) }
-
-quiet : (whole before : List Entry) (who : Who) (line : Line) (entry : Entry) → IsQuiet whole who entry → IsLineOf whole before who line → IsLineOf whole (entry ∷ before) who line
-quiet whole before who line entry k h = record {
-  calls = λ q l. or_none (is_call who q entry) (exists (is_call who q) before) (k.call q) (h.calls q l);
-  answers = λ q l. or_none (is_answer who q entry) (exists (is_answer who q) before) (k.answer q) (h.answers q l);
-  resizes = λ q l. or_none (is_resize_by who q entry) (exists (is_resize_by who q) before) (k.resize q) (h.resizes q l);
-  reads = λ q l. or_none (is_counted_by whole who q entry) (exists (is_counted_by whole who q) before) (k.read q) (h.reads q l);
-  writes = λ n l. or_none (is_numbered who n entry) (exists (is_numbered who n) before) (k.number n) (h.writes n l);
-  alone = λ q o. h.alone q (sym (same_open who q entry before (k.call q) (k.answer q)) ∙ o);
-  current = still_opened whole before who line.current entry k h.current;
-  busy = still_busy before who line.highest line.current line.busy entry k.answer h.busy;
-}
-
--- ---- what a call asks
-
-write_asked : (file block value : ℕ) (told : Told) → is_writing file block value (writing_of told) ≡ true → writes file block value (Some told) ≡ true
-write_asked file block value (Write f b v) h = h
-write_asked file block value (WriteSync f b v) h = h
-write_asked file block value other h = absurd (cc)
-
-asks_write : (file block value : ℕ) (told : Told) (writing : Option Writing) → writing_of told ≡ writing → is_writing file block value writing ≡ true → writes file block value (Some told) ≡ true
-asks_write file block value told writing e h = write_asked file block value told (ap (is_writing file block value) e ∙ h)
-
-resize_asked : (file to : ℕ) (told : Told) → is_sizing file to (sizing_of told) ≡ true → call_resizes file to (Some told) ≡ true
-resize_asked file to (Resize f n) h = h
-resize_asked file to (Remove f) h =
-    let t = and_parts (f == file) (0 == to) h in and_from (f == file) (to == 0) t.0 (eq-eqb to 0 (sym (eqb-true 0 to t.1)))
-resize_asked file to other h = absurd (cc)
-
-asks_resize : (file to : ℕ) (told : Told) (sizing : Option Sizing) → sizing_of told ≡ sizing → is_sizing file to sizing ≡ true → call_resizes file to (Some told) ≡ true
-asks_resize file to told sizing e h = resize_asked file to told (ap (is_sizing file to) e ∙ h)
-
--- ---- the next line, from its parts
-
-abbrev a_line : (highest last : ℕ) (current : Option Open) (busy : Option ℕ) → Line
-a_line highest last current busy = record { highest = highest; last = last; current = current; busy = busy }
-
-some_or : {X : Type 0} → X → Option X → X
-some_or d None = d
-some_or d (Some x) = x
-
-same_some : {X : Type 0} (x y : X) → Some x ≡ Some y → x ≡ y
-unfolding some_or
-same_some x y e = ap (some_or x) e
-
-no_call_above : (who : Who) (before : List Entry) (q highest : ℕ) → is_open before who q ≡ true → ((n : ℕ) → highest < n → exists (is_call who n) before ≡ false) → (n : ℕ) → highest < n → q ≡ n → ⊥
-no_call_above who before q highest o h n l e =
-    both_ways (exists (is_call who n) before) (subst (λ m. exists (is_call who m) before ≡ true) e (is_called before who q o)) (h n l)
+use Rattle.nq_check.specs.InOrder.{AreBusy, AreLines, AreOpened, IsBusyCall, IsLineOf, IsNext, IsOpenCall, StandsInOrder, is_else}
+use Rattle.nq_check.specs.Lines.{IsLined, after_answer_of, after_call, after_call_at, after_read_of, after_resize_of, after_write_of, begun, is_sizing, is_writing, line_at}
+use Rattle.nq_check.proofs.LineParts.{or_none, or_here, or_there, neither_first, neither_second, and_not_there, and_not_here, not_false, not_not, nothing_is, both_ways, other_number, self, is_called, is_unanswered, opens, not_called, none_since, upto, all_below, none_open, no_others, if_true, if_false, found, IsQuiet, still_open, still_busy, same_busy, quiet, asks_write, asks_resize, a_line, same_some, no_call_above}
 
 -- ---- a C
 
-call_in_order : (after before : List Entry) (who : Who) (highest q : ℕ) → highest < q → ((n : ℕ) → highest < n → exists (is_call who n) before ≡ false) → (not (has_open before who) || (exists (is_answer who q) before || is_busy_next who q after)) ≡ true → is_call_in_order after before who q ≡ true
+call_in_order : (after before : List Entry) (who : Who) (highest q : ℕ) → highest < q → ((n : ℕ) → highest < n → exists (is_call who n) before ≡ false)
+    → (not (has_open before who) || (exists (is_answer who q) before || is_busy_next who q after)) ≡ true → is_call_in_order after before who q ≡ true
 call_in_order after before who highest q l h o =
     and_from (each (is_call_below who q) before) (not (has_open before who) || (exists (is_answer who q) before || is_busy_next who q after))
     (all_below before who highest q l h) o
 
 -- what a C leaves of a line, whichever call is open now
-called : (whole before : List Entry) (who : Who) (q : ℕ) (told : Told) (highest last : ℕ) (current now_open : Option Open) (busy now_busy : Option ℕ) → highest < q → IsLineOf whole before who (a_line highest last current busy) → ((n : ℕ) → is_open (C who q told ∷ before) who n ≡ true → IsOpenCall now_open n ⊎ IsBusyCall now_busy n) → AreOpened whole (C who q told ∷ before) who now_open → AreBusy (C who q told ∷ before) who q now_open now_busy → IsLineOf whole (C who q told ∷ before) who (a_line q last now_open now_busy)
+called : (whole before : List Entry) (who : Who) (q : ℕ) (told : Told) (highest last : ℕ) (current now_open : Option Open) (busy now_busy : Option ℕ)
+    → highest < q → IsLineOf whole before who (a_line highest last current busy)
+    → ((n : ℕ) → is_open (C who q told ∷ before) who n ≡ true → IsOpenCall now_open n ⊎ IsBusyCall now_busy n)
+    → AreOpened whole (C who q told ∷ before) who now_open → AreBusy (C who q told ∷ before) who q now_open now_busy
+    → IsLineOf whole (C who q told ∷ before) who (a_line q last now_open now_busy)
 called whole before who q told highest last current now_open busy now_busy l h alone o b = record {
-  calls = λ n k. or_none (same_who who who && (q == n)) (exists (is_call who n) before) (and_not_there (same_who who who) (q == n) (other_number q n (λ e. omega arith))) (h.calls n (omega arith));
+  calls =
+      λ n k. or_none (same_who who who && (q == n)) (exists (is_call who n) before)
+      (and_not_there (same_who who who) (q == n) (other_number q n (λ e. omega arith))) (h.calls n (omega arith));
   answers = λ n k. h.answers n (omega arith);
   resizes = λ n k. h.resizes n (omega arith);
   reads = λ n k. h.reads n (omega arith);
@@ -294,15 +53,22 @@ opened_by before who q n told o =
       | inr e ↦ inr (sym (ap (λ c. (c || exists (is_call who n) before) && not (exists (is_answer who n) before)) e) ∙ o)
     ]
 
-call_line : (whole after before : List Entry) (who : Who) (q : ℕ) (told : Told) (is_busy : Bool) (highest last : ℕ) (current : Option Open) (busy : Option ℕ) (new : Line) → is_busy ≡ is_busy_next who q after → highest < q → IsLineOf whole before who (a_line highest last current busy) → after_call_at (a_line highest last current busy) q told is_busy current busy ≡ Some new → (is_call_in_order after before who q ≡ true) × IsLineOf whole (C who q told ∷ before) who new
+call_line : (whole after before : List Entry) (who : Who) (q : ℕ) (told : Told) (is_busy : Bool) (highest last : ℕ) (current : Option Open)
+    (busy : Option ℕ) (new : Line) → is_busy ≡ is_busy_next who q after → highest < q → IsLineOf whole before who (a_line highest last current busy)
+    → after_call_at (a_line highest last current busy) q told is_busy current busy ≡ Some new
+    → (is_call_in_order after before who q ≡ true) × IsLineOf whole (C who q told ∷ before) who new
 call_line whole after before who q told is_busy highest last None None new b l h e =
     let none : has_open before who ≡ false = none_open before before who (λ n o. elim (h.alone n o) [ inl x ↦ x | inr x ↦ x ]) in (
-      call_in_order after before who highest q l h.calls (or_here (not (has_open before who)) (exists (is_answer who q) before || is_busy_next who q after) (ap not none)),
+      call_in_order after before who highest q l h.calls
+          (or_here (not (has_open before who)) (exists (is_answer who q) before || is_busy_next who q after) (ap not none)),
       subst (λ n. IsLineOf whole (C who q told ∷ before) who n) (same_some (a_line q last (Some (begun q told)) None) new e)
           (called whole before who q told highest last None (Some (begun q told)) None None l h
           (λ n o. elim (opened_by before who q n told o) [ inl y ↦ inl y | inr y ↦ elim (h.alone n y) [ inl x ↦ absurd x | inr x ↦ absurd x ] ])
           (record {
-            opened = opens (C who q told ∷ before) who q (or_here (same_who who who && (q == q)) (exists (is_call who q) before) (and_from (same_who who who) (q == q) (self who) (eq-eqb q q refl))) (h.answers q l);
+            opened =
+                opens (C who q told ∷ before) who q
+                (or_here (same_who who who && (q == q)) (exists (is_call who q) before)
+                (and_from (same_who who who) (q == q) (self who) (eq-eqb q q refl))) (h.answers q l);
             told = told;
             writes = refl;
             sizes = refl;
@@ -315,11 +81,13 @@ call_line whole after before who q told is_busy highest last None None new b l h
     )
 call_line whole after before who q told true highest last (Some o) None new b l h e = (
   call_in_order after before who highest q l h.calls
-      (or_there (not (has_open before who)) (exists (is_answer who q) before || is_busy_next who q after) (or_there (exists (is_answer who q) before) (is_busy_next who q after) (sym b))),
+      (or_there (not (has_open before who)) (exists (is_answer who q) before || is_busy_next who q after)
+      (or_there (exists (is_answer who q) before) (is_busy_next who q after) (sym b))),
   subst (λ n. IsLineOf whole (C who q told ∷ before) who n) (same_some (a_line q last (Some o) (Some q)) new e)
       (called whole before who q told highest last (Some o) (Some o) None (Some q) l h
       (λ n x. elim (opened_by before who q n told x) [ inl y ↦ inr y | inr y ↦ elim (h.alone n y) [ inl z ↦ inl z | inr z ↦ absurd z ] ])
-      (still_open whole before who o.q o.writing o.sizing o.wrote o.resized o.read o.wrote o.resized o.read (C who q told) h.current refl (λ x. (x, refl)) (λ x. (x, refl)) (λ x. (x, refl)))
+      (still_open whole before who o.q o.writing o.sizing o.wrote o.resized o.read o.wrote o.resized o.read (C who q told) h.current refl
+      (λ x. (x, refl)) (λ x. (x, refl)) (λ x. (x, refl)))
       (record {
         upto = omega arith;
         unanswered = h.answers q l;
@@ -332,12 +100,16 @@ call_line whole after before who q told is_busy highest last (Some o) (Some busy
 
 -- ---- a W
 
-write_line : (whole before : List Entry) (who : Who) (file block number value : ℕ) (through : Bool) (highest last : ℕ) (current : Option Open) (busy : Option ℕ) (new : Line) → IsLineOf whole before who (a_line highest last current busy) → after_write_of (a_line highest last current busy) file block number value current busy ≡ Some new → (is_write_in_order before who file block number value ≡ true) × IsLineOf whole (W who file block number value through ∷ before) who new
+write_line : (whole before : List Entry) (who : Who) (file block number value : ℕ) (through : Bool) (highest last : ℕ) (current : Option Open)
+    (busy : Option ℕ) (new : Line) → IsLineOf whole before who (a_line highest last current busy)
+    → after_write_of (a_line highest last current busy) file block number value current busy ≡ Some new
+    → (is_write_in_order before who file block number value ≡ true) × IsLineOf whole (W who file block number value through ∷ before) who new
 write_line whole before who file block number value through highest last None busy new h e = absurd (cc)
 write_line whole before who file block number value through highest last (Some o) (Some busy) new h e = absurd (cc)
 write_line whole before who file block number value through highest last (Some o) None new h e =
     let bad = o.wrote || nat_le number last || not (is_writing file block value o.writing) in
-    let next = a_line highest number (Some (record { q = o.q; writing = o.writing; sizing = o.sizing; wrote = true; resized = o.resized; read = o.read })) None in
+    let next = a_line highest number
+    (Some (record { q = o.q; writing = o.writing; sizing = o.sizing; wrote = true; resized = o.resized; read = o.read })) None in
     elim (cases_Bool bad) [
       | inl y ↦ absurd (nothing_is new (sym (if_true bad None (Some next) y) ∙ e))
       | inr f ↦
@@ -345,18 +117,30 @@ write_line whole before who file block number value through highest last (Some o
           let made = neither_first (o.wrote || nat_le number last) (not asking) f in
           let unwritten : o.wrote ≡ false = neither_first o.wrote (nat_le number last) made in
           let above : last < number = leb-false number last (neither_second o.wrote (nat_le number last) made) in
-          let asks = asks_write file block value h.current.told o.writing h.current.writes (not_not asking (neither_second (o.wrote || nat_le number last) (not asking) f)) in
+          let asks = asks_write file block value h.current.told o.writing h.current.writes
+          (not_not asking (neither_second (o.wrote || nat_le number last) (not asking) f)) in
           let one : (n : ℕ) → is_open before who n ≡ true → o.q ≡ n = λ n x. elim (h.alone n x) [ inl z ↦ z | inr z ↦ absurd z ] in (
-            rw (found before before who o.q one h.current.opened (is_called before who o.q h.current.opened), no_others before before who o.q one, h.current.call, asks, h.current.unwritten unwritten, h.writes number above) refl,
+            rw (
+              found before before who o.q one h.current.opened (is_called before who o.q h.current.opened),
+              no_others before before who o.q one,
+              h.current.call,
+              asks,
+              h.current.unwritten unwritten,
+              h.writes number above,
+            ) refl,
             subst (λ n. IsLineOf whole (W who file block number value through ∷ before) who n) (same_some next new (sym (if_false bad None (Some next) f) ∙ e))
                 (record {
                   calls = h.calls;
                   answers = h.answers;
                   resizes = h.resizes;
                   reads = h.reads;
-                  writes = λ n k. or_none (same_who who who && (number == n)) (exists (is_numbered who n) before) (and_not_there (same_who who who) (number == n) (other_number number n (λ x. omega arith))) (h.writes n (omega arith));
+                  writes =
+                      λ n k. or_none (same_who who who && (number == n)) (exists (is_numbered who n) before)
+                      (and_not_there (same_who who who) (number == n) (other_number number n (λ x. omega arith))) (h.writes n (omega arith));
                   alone = h.alone;
-                  current = still_open whole before who o.q o.writing o.sizing o.wrote o.resized o.read true o.resized o.read (W who file block number value through) h.current refl (λ x. absurd (cc)) (λ x. (x, refl)) (λ x. (x, refl));
+                  current =
+                      still_open whole before who o.q o.writing o.sizing o.wrote o.resized o.read true o.resized o.read
+                      (W who file block number value through) h.current refl (λ x. absurd (cc)) (λ x. (x, refl)) (λ x. (x, refl));
                   busy = tt;
                 }),
           )
@@ -370,7 +154,9 @@ three true true false h = absurd (cc)
 three true false c h = absurd (cc)
 three false b c h = absurd (cc)
 
-resize_line : (whole before : List Entry) (who : Who) (q file from to : ℕ) (highest last : ℕ) (current : Option Open) (busy : Option ℕ) (new : Line) → IsLineOf whole before who (a_line highest last current busy) → after_resize_of (a_line highest last current busy) q file to current ≡ Some new → (is_resize_in_order before who q file to ≡ true) × IsLineOf whole (Z who q file from to ∷ before) who new
+resize_line : (whole before : List Entry) (who : Who) (q file from to : ℕ) (highest last : ℕ) (current : Option Open) (busy : Option ℕ) (new : Line)
+    → IsLineOf whole before who (a_line highest last current busy) → after_resize_of (a_line highest last current busy) q file to current ≡ Some new
+    → (is_resize_in_order before who q file to ≡ true) × IsLineOf whole (Z who q file from to ∷ before) who new
 resize_line whole before who q file from to highest last None busy new h e = absurd (cc)
 resize_line whole before who q file from to highest last (Some o) busy new h e =
     let good = (o.q == q) && not o.resized && is_sizing file to o.sizing in
@@ -380,27 +166,45 @@ resize_line whole before who q file from to highest last (Some o) busy new h e =
           let t = three (o.q == q) (not o.resized) (is_sizing file to o.sizing) y in
           let same : o.q ≡ q = eqb-true o.q q t.0 in (
             subst (λ n. is_resize_in_order before who n file to ≡ true) same
-                (rw (h.current.opened, h.current.call, asks_resize file to h.current.told o.sizing h.current.sizes t.2, h.current.unresized (not_false o.resized t.1)) refl),
+                (rw (
+                  h.current.opened,
+                  h.current.call,
+                  asks_resize file to h.current.told o.sizing h.current.sizes t.2,
+                  h.current.unresized
+                      (not_false o.resized t.1),
+                ) refl),
             subst (λ n. IsLineOf whole (Z who q file from to ∷ before) who n) (same_some next new (sym (if_true good (Some next) None y) ∙ e))
                 (record {
                   calls = h.calls;
                   answers = h.answers;
-                  resizes = λ n k. or_none (same_who who who && (q == n)) (exists (is_resize_by who n) before) (and_not_there (same_who who who) (q == n) (other_number q n (λ x. no_call_above who before o.q highest h.current.opened h.calls n k (same ∙ x)))) (h.resizes n k);
+                  resizes =
+                      λ n k. or_none (same_who who who && (q == n)) (exists (is_resize_by who n) before)
+                      (and_not_there (same_who who who) (q == n)
+                      (other_number q n (λ x. no_call_above who before o.q highest h.current.opened h.calls n k (same ∙ x)))) (h.resizes n k);
                   reads = h.reads;
                   writes = h.writes;
                   alone = h.alone;
-                  current = still_open whole before who o.q o.writing o.sizing o.wrote o.resized o.read o.wrote true o.read (Z who q file from to) h.current refl (λ x. (x, refl)) (λ x. absurd (cc)) (λ x. (x, refl));
-                  busy = same_busy (Z who q file from to ∷ before) who highest o (record { q = o.q; writing = o.writing; sizing = o.sizing; wrote = o.wrote; resized = true; read = o.read }) busy refl (still_busy before who highest (Some o) busy (Z who q file from to) (λ n. refl) h.busy);
+                  current =
+                      still_open whole before who o.q o.writing o.sizing o.wrote o.resized o.read o.wrote true o.read (Z who q file from to) h.current
+                      refl (λ x. (x, refl)) (λ x. absurd (cc)) (λ x. (x, refl));
+                  busy =
+                      same_busy (Z who q file from to ∷ before) who highest o
+                      (record { q = o.q; writing = o.writing; sizing = o.sizing; wrote = o.wrote; resized = true; read = o.read }) busy refl
+                      (still_busy before who highest (Some o) busy (Z who q file from to) (λ n. refl) h.busy);
                 }),
           )
       | inr f ↦ absurd (nothing_is new (sym (if_false good (Some next) None f) ∙ e))
     ]
 
-read_line : (whole before : List Entry) (who : Who) (q file block value : ℕ) (served : Option ℕ) (highest last : ℕ) (current : Option Open) (busy : Option ℕ) (new : Line) → IsLineOf whole before who (a_line highest last current busy) → after_read_of (a_line highest last current busy) q current ≡ Some new → (is_read_in_order whole before who q ≡ true) × IsLineOf whole (R who q file block value served ∷ before) who new
+read_line : (whole before : List Entry) (who : Who) (q file block value : ℕ) (served : Option ℕ) (highest last : ℕ) (current : Option Open)
+    (busy : Option ℕ) (new : Line) → IsLineOf whole before who (a_line highest last current busy)
+    → after_read_of (a_line highest last current busy) q current ≡ Some new
+    → (is_read_in_order whole before who q ≡ true) × IsLineOf whole (R who q file block value served ∷ before) who new
 read_line whole before who q file block value served highest last None busy new h e = absurd (cc)
 read_line whole before who q file block value served highest last (Some o) busy new h e =
     let good = (o.q == q) && not o.read in
-    let next = a_line highest last (Some (record { q = o.q; writing = o.writing; sizing = o.sizing; wrote = o.wrote; resized = o.resized; read = true })) busy in
+    let next = a_line highest last (Some
+    (record { q = o.q; writing = o.writing; sizing = o.sizing; wrote = o.wrote; resized = o.resized; read = true })) busy in
     elim (cases_Bool good) [
       | inl y ↦
           let t = and_parts (o.q == q) (not o.read) y in
@@ -413,11 +217,18 @@ read_line whole before who q file block value served highest last (Some o) busy 
                   answers = h.answers;
                   resizes = h.resizes;
                   reads = λ n k. or_none (is_counted_by whole who n (R who q file block value served)) (exists (is_counted_by whole who n) before)
-                      (and_not_here (same_who who who && (q == n)) (is_counted whole (R who q file block value served)) (and_not_there (same_who who who) (q == n) (other_number q n (λ x. no_call_above who before o.q highest h.current.opened h.calls n k (same ∙ x))))) (h.reads n k);
+                      (and_not_here (same_who who who && (q == n)) (is_counted whole (R who q file block value served))
+                      (and_not_there (same_who who who) (q == n)
+                      (other_number q n (λ x. no_call_above who before o.q highest h.current.opened h.calls n k (same ∙ x))))) (h.reads n k);
                   writes = h.writes;
                   alone = h.alone;
-                  current = still_open whole before who o.q o.writing o.sizing o.wrote o.resized o.read o.wrote o.resized true (R who q file block value served) h.current refl (λ x. (x, refl)) (λ x. (x, refl)) (λ x. absurd (cc));
-                  busy = same_busy (R who q file block value served ∷ before) who highest o (record { q = o.q; writing = o.writing; sizing = o.sizing; wrote = o.wrote; resized = o.resized; read = true }) busy refl (still_busy before who highest (Some o) busy (R who q file block value served) (λ n. refl) h.busy);
+                  current =
+                      still_open whole before who o.q o.writing o.sizing o.wrote o.resized o.read o.wrote o.resized true
+                      (R who q file block value served) h.current refl (λ x. (x, refl)) (λ x. (x, refl)) (λ x. absurd (cc));
+                  busy =
+                      same_busy (R who q file block value served ∷ before) who highest o
+                      (record { q = o.q; writing = o.writing; sizing = o.sizing; wrote = o.wrote; resized = o.resized; read = true }) busy refl
+                      (still_busy before who highest (Some o) busy (R who q file block value served) (λ n. refl) h.busy);
                 }),
           )
       | inr f ↦ absurd (nothing_is new (sym (if_false good (Some next) None f) ∙ e))
@@ -426,7 +237,8 @@ read_line whole before who q file block value served highest last (Some o) busy 
 -- ---- an A
 
 -- a call that is open behind an A was open before it, and is not the one that it answers
-open_before : (before : List Entry) (who : Who) (q n : ℕ) (said : Said) → is_open (A who q said ∷ before) who n ≡ true → (q ≡ n → ⊥) × (is_open before who n ≡ true)
+open_before : (before : List Entry) (who : Who) (q n : ℕ) (said : Said) → is_open (A who q said ∷ before) who n ≡ true
+    → (q ≡ n → ⊥) × (is_open before who n ≡ true)
 open_before before who q n said o =
     let none = is_unanswered (A who q said ∷ before) who n o in
     let not_it = neither_first (same_who who who && (q == n)) (exists (is_answer who n) before) none in (
@@ -434,10 +246,15 @@ open_before before who q n said o =
       opens before who n (is_called (A who q said ∷ before) who n o) (neither_second (same_who who who && (q == n)) (exists (is_answer who n) before) none),
     )
 
-answered : (whole before : List Entry) (who : Who) (q : ℕ) (said : Said) (highest last : ℕ) (current now_open : Option Open) (busy : Option ℕ) → ((n : ℕ) → highest < n → q ≡ n → ⊥) → IsLineOf whole before who (a_line highest last current busy) → ((n : ℕ) → is_open (A who q said ∷ before) who n ≡ true → IsOpenCall now_open n) → AreOpened whole (A who q said ∷ before) who now_open → IsLineOf whole (A who q said ∷ before) who (a_line highest last now_open None)
+answered : (whole before : List Entry) (who : Who) (q : ℕ) (said : Said) (highest last : ℕ) (current now_open : Option Open) (busy : Option ℕ)
+    → ((n : ℕ) → highest < n → q ≡ n → ⊥) → IsLineOf whole before who (a_line highest last current busy)
+    → ((n : ℕ) → is_open (A who q said ∷ before) who n ≡ true → IsOpenCall now_open n) → AreOpened whole (A who q said ∷ before) who now_open
+    → IsLineOf whole (A who q said ∷ before) who (a_line highest last now_open None)
 answered whole before who q said highest last current now_open busy low h alone o = record {
   calls = h.calls;
-  answers = λ n k. or_none (same_who who who && (q == n)) (exists (is_answer who n) before) (and_not_there (same_who who who) (q == n) (other_number q n (low n k))) (h.answers n k);
+  answers =
+      λ n k. or_none (same_who who who && (q == n)) (exists (is_answer who n) before)
+      (and_not_there (same_who who who) (q == n) (other_number q n (low n k))) (h.answers n k);
   resizes = h.resizes;
   reads = h.reads;
   writes = h.writes;
@@ -446,13 +263,16 @@ answered whole before who q said highest last current now_open busy low h alone 
   busy = tt;
 }
 
-still_one : (whole before : List Entry) (who : Who) (q : ℕ) (said : Said) (current : Option Open) → (IsOpenCall current q → ⊥) → AreOpened whole before who current → AreOpened whole (A who q said ∷ before) who current
+still_one : (whole before : List Entry) (who : Who) (q : ℕ) (said : Said) (current : Option Open) → (IsOpenCall current q → ⊥)
+    → AreOpened whole before who current → AreOpened whole (A who q said ∷ before) who current
 still_one whole before who q said None f h = tt
 still_one whole before who q said (Some o) f h =
     still_open whole before who o.q o.writing o.sizing o.wrote o.resized o.read o.wrote o.resized o.read (A who q said) h
     (and_not_there (same_who who who) (q == o.q) (other_number q o.q (λ x. f (sym x)))) (λ x. (x, refl)) (λ x. (x, refl)) (λ x. (x, refl))
 
-answer_line : (whole before : List Entry) (who : Who) (q : ℕ) (said : Said) (highest last : ℕ) (current : Option Open) (busy : Option ℕ) (new : Line) → IsLineOf whole before who (a_line highest last current busy) → after_answer_of (a_line highest last current busy) q current busy ≡ Some new → (not (exists (is_answer who q) before) ≡ true) × IsLineOf whole (A who q said ∷ before) who new
+answer_line : (whole before : List Entry) (who : Who) (q : ℕ) (said : Said) (highest last : ℕ) (current : Option Open) (busy : Option ℕ) (new : Line)
+    → IsLineOf whole before who (a_line highest last current busy) → after_answer_of (a_line highest last current busy) q current busy ≡ Some new
+    → (not (exists (is_answer who q) before) ≡ true) × IsLineOf whole (A who q said ∷ before) who new
 answer_line whole before who q said highest last None None new h e = absurd (cc)
 answer_line whole before who q said highest last (Some o) None new h e =
     let next = a_line highest last None None in
@@ -461,7 +281,8 @@ answer_line whole before who q said highest last (Some o) None new h e =
           let same : o.q ≡ q = eqb-true o.q q y in (
             subst (λ n. not (exists (is_answer who n) before) ≡ true) same (ap not (is_unanswered before who o.q h.current.opened)),
             subst (λ n. IsLineOf whole (A who q said ∷ before) who n) (same_some next new (sym (if_true (o.q == q) (Some next) None y) ∙ e))
-                (answered whole before who q said highest last (Some o) None None (λ n k x. no_call_above who before o.q highest h.current.opened h.calls n k (same ∙ x)) h
+                (answered whole before who q said highest last (Some o) None None
+                (λ n k x. no_call_above who before o.q highest h.current.opened h.calls n k (same ∙ x)) h
                 (λ n x. let p = open_before before who q n said x in elim (h.alone n p.1) [ inl z ↦ p.0 (sym same ∙ z) | inr z ↦ z ]) tt),
           )
       | inr f ↦ absurd (nothing_is new (sym (if_false (o.q == q) (Some next) None f) ∙ e))
@@ -483,7 +304,9 @@ answer_line whole before who q said highest last current (Some b) new h e =
 
 -- ---- the lines of all incarnations
 
-lines_on : (whole before : List Entry) (who : Who) (entry : Entry) (line : Line) (old new : List ((ℕ × ℕ) × Line)) → IsLined (who.host, who.inc) line old new → AreLines whole before old → IsLineOf whole (entry ∷ before) who line → ((other : Who) → same_who who other ≡ false → IsQuiet whole other entry) → AreLines whole (entry ∷ before) new
+lines_on : (whole before : List Entry) (who : Who) (entry : Entry) (line : Line) (old new : List ((ℕ × ℕ) × Line))
+    → IsLined (who.host, who.inc) line old new → AreLines whole before old → IsLineOf whole (entry ∷ before) who line
+    → ((other : Who) → same_who who other ≡ false → IsQuiet whole other entry) → AreLines whole (entry ∷ before) new
 lines_on whole before who entry line old new l h here k other =
     elim (cases_Bool (same_who who other)) [
       | inl y ↦
@@ -494,77 +317,137 @@ lines_on whole before who entry line old new l h here k other =
           (quiet whole before other (line_at old other) entry (k other f) (h other))
     ]
 
-pub call_stands : (whole after : List Entry) (who : Who) (q : ℕ) (told : Told) (is_busy : Bool) (old new : List ((ℕ × ℕ) × Line)) → is_busy ≡ is_busy_next who q after → IsNext who (after_call (line_at old who) q told is_busy) old new → StandsInOrder whole after (C who q told) old new
+pub call_stands : (whole after : List Entry) (who : Who) (q : ℕ) (told : Told) (is_busy : Bool) (old new : List ((ℕ × ℕ) × Line))
+    → is_busy ≡ is_busy_next who q after → IsNext who (after_call (line_at old who) q told is_busy) old new
+    → StandsInOrder whole after (C who q told) old new
 call_stands whole after who q told is_busy old new b n before h =
     let line = line_at old who in
     elim (cases_Bool (nat_le q line.highest)) [
       | inl y ↦ absurd (nothing_is n.line (sym (if_true (nat_le q line.highest) None (after_call_at line q told is_busy line.current line.busy) y) ∙ n.some))
       | inr f ↦
           let some = sym (if_false (nat_le q line.highest) None (after_call_at line q told is_busy line.current line.busy) f) ∙ n.some in
-          let here = call_line whole after before who q told is_busy line.highest line.last line.current line.busy n.line b (leb-false q line.highest f) (h who) some in (
+          let here = call_line whole after before who q told is_busy line.highest line.last line.current line.busy n.line b (leb-false q line.highest f)
+          (h who) some in (
             here.0,
             lines_on whole before who (C who q told) n.line old new n.lined h here.1
-                (λ other e. record { call = λ m. and_not_here (same_who who other) (q == m) e; answer = λ m. refl; resize = λ m. refl; read = λ m. refl; number = λ m. refl; write = λ m l. refl }),
+                (λ other e. record {
+                  call = λ m. and_not_here (same_who who other) (q == m) e;
+                  answer = λ m. refl;
+                  resize = λ m. refl;
+                  read = λ m. refl;
+                  number = λ m. refl;
+                  write = λ m l. refl;
+                }),
           )
     ]
 
-pub write_stands : (whole after : List Entry) (who : Who) (file block number value : ℕ) (through : Bool) (old new : List ((ℕ × ℕ) × Line)) → IsNext who (after_write_of (line_at old who) file block number value (line_at old who).current (line_at old who).busy) old new → StandsInOrder whole after (W who file block number value through) old new
+pub write_stands : (whole after : List Entry) (who : Who) (file block number value : ℕ) (through : Bool) (old new : List ((ℕ × ℕ) × Line))
+    → IsNext who (after_write_of (line_at old who) file block number value (line_at old who).current (line_at old who).busy) old new
+    → StandsInOrder whole after (W who file block number value through) old new
 write_stands whole after who file block number value through old new n before h =
     let line = line_at old who in
     let here = write_line whole before who file block number value through line.highest line.last line.current line.busy n.line (h who) n.some in (
       here.0,
       lines_on whole before who (W who file block number value through) n.line old new n.lined h here.1
-          (λ other e. record { call = λ m. refl; answer = λ m. refl; resize = λ m. refl; read = λ m. refl; number = λ m. and_not_here (same_who who other) (number == m) e; write = λ m l. or_here (not (same_who who other)) (not (exists (is_call other m) l)) (ap not e) }),
+          (λ other e. record {
+            call = λ m. refl;
+            answer = λ m. refl;
+            resize = λ m. refl;
+            read = λ m. refl;
+            number = λ m. and_not_here
+                (same_who who other) (number == m) e;
+            write = λ m l. or_here (not (same_who who other)) (not (exists (is_call other m) l)) (ap not e);
+          }),
     )
 
-pub resize_stands : (whole after : List Entry) (who : Who) (q file from to : ℕ) (old new : List ((ℕ × ℕ) × Line)) → IsNext who (after_resize_of (line_at old who) q file to (line_at old who).current) old new → StandsInOrder whole after (Z who q file from to) old new
+pub resize_stands : (whole after : List Entry) (who : Who) (q file from to : ℕ) (old new : List ((ℕ × ℕ) × Line))
+    → IsNext who (after_resize_of (line_at old who) q file to (line_at old who).current) old new → StandsInOrder whole after (Z who q file from to) old new
 resize_stands whole after who q file from to old new n before h =
     let line = line_at old who in
     let here = resize_line whole before who q file from to line.highest line.last line.current line.busy n.line (h who) n.some in (
       here.0,
       lines_on whole before who (Z who q file from to) n.line old new n.lined h here.1
-          (λ other e. record { call = λ m. refl; answer = λ m. refl; resize = λ m. and_not_here (same_who who other) (q == m) e; read = λ m. refl; number = λ m. refl; write = λ m l. refl }),
+          (λ other e. record {
+            call = λ m. refl;
+            answer = λ m. refl;
+            resize = λ m. and_not_here (same_who who other) (q == m) e;
+            read = λ m. refl;
+            number = λ m. refl;
+            write = λ m l. refl;
+          }),
     )
 
-pub read_stands : (whole after : List Entry) (who : Who) (q file block value : ℕ) (served : Option ℕ) (old new : List ((ℕ × ℕ) × Line)) → IsNext who (after_read_of (line_at old who) q (line_at old who).current) old new → StandsInOrder whole after (R who q file block value served) old new
+pub read_stands : (whole after : List Entry) (who : Who) (q file block value : ℕ) (served : Option ℕ) (old new : List ((ℕ × ℕ) × Line))
+    → IsNext who (after_read_of (line_at old who) q (line_at old who).current) old new → StandsInOrder whole after (R who q file block value served) old new
 read_stands whole after who q file block value served old new n before h =
     let line = line_at old who in
     let entry = R who q file block value served in
     let here = read_line whole before who q file block value served line.highest line.last line.current line.busy n.line (h who) n.some in (
       or_there (not (is_counted whole entry)) (is_read_in_order whole before who q) here.0,
       lines_on whole before who entry n.line old new n.lined h here.1
-          (λ other e. record { call = λ m. refl; answer = λ m. refl; resize = λ m. refl; read = λ m. and_not_here (same_who who other && (q == m)) (is_counted whole entry) (and_not_here (same_who who other) (q == m) e); number = λ m. refl; write = λ m l. refl }),
+          (λ other e. record {
+            call = λ m. refl;
+            answer = λ m. refl;
+            resize = λ m. refl;
+            read = λ m. and_not_here (same_who who other && (q == m))
+                (is_counted whole entry) (and_not_here (same_who who other) (q == m) e);
+            number = λ m. refl;
+            write = λ m l. refl;
+          }),
     )
 
-pub answer_stands : (whole after : List Entry) (who : Who) (q : ℕ) (said : Said) (old new : List ((ℕ × ℕ) × Line)) → IsNext who (after_answer_of (line_at old who) q (line_at old who).current (line_at old who).busy) old new → StandsInOrder whole after (A who q said) old new
+pub answer_stands : (whole after : List Entry) (who : Who) (q : ℕ) (said : Said) (old new : List ((ℕ × ℕ) × Line))
+    → IsNext who (after_answer_of (line_at old who) q (line_at old who).current (line_at old who).busy) old new
+    → StandsInOrder whole after (A who q said) old new
 answer_stands whole after who q said old new n before h =
     let line = line_at old who in
     let here = answer_line whole before who q said line.highest line.last line.current line.busy n.line (h who) n.some in (
       here.0,
       lines_on whole before who (A who q said) n.line old new n.lined h here.1
-          (λ other e. record { call = λ m. refl; answer = λ m. and_not_here (same_who who other) (q == m) e; resize = λ m. refl; read = λ m. refl; number = λ m. refl; write = λ m l. refl }),
+          (λ other e. record {
+            call = λ m. refl;
+            answer = λ m. and_not_here (same_who who other) (q == m) e;
+            resize = λ m. refl;
+            read = λ m. refl;
+            number = λ m. refl;
+            write = λ m l. refl;
+          }),
     )
 
 -- ---- entries that leave all lines as they are
 
-all_quiet : (whole before : List Entry) (entry : Entry) (lines : List ((ℕ × ℕ) × Line)) → ((who : Who) → IsQuiet whole who entry) → AreLines whole before lines → AreLines whole (entry ∷ before) lines
+all_quiet : (whole before : List Entry) (entry : Entry) (lines : List ((ℕ × ℕ) × Line)) → ((who : Who) → IsQuiet whole who entry)
+    → AreLines whole before lines → AreLines whole (entry ∷ before) lines
 all_quiet whole before entry lines k h who = quiet whole before who (line_at lines who) entry (k who) (h who)
 
 -- a read that is not counted
-pub uncounted_stands : (whole after : List Entry) (who : Who) (q file block value : ℕ) (served : Option ℕ) (lines : List ((ℕ × ℕ) × Line)) → is_counted whole (R who q file block value served) ≡ false → StandsInOrder whole after (R who q file block value served) lines lines
+pub uncounted_stands : (whole after : List Entry) (who : Who) (q file block value : ℕ) (served : Option ℕ) (lines : List ((ℕ × ℕ) × Line))
+    → is_counted whole (R who q file block value served) ≡ false → StandsInOrder whole after (R who q file block value served) lines lines
 uncounted_stands whole after who q file block value served lines c before h =
     let entry = R who q file block value served in (
       or_here (not (is_counted whole entry)) (is_read_in_order whole before who q) (ap not c),
       all_quiet whole before entry lines
-          (λ other. record { call = λ m. refl; answer = λ m. refl; resize = λ m. refl; read = λ m. and_not_there (same_who who other && (q == m)) (is_counted whole entry) c; number = λ m. refl; write = λ m l. refl }) h,
+          (λ other. record {
+            call = λ m. refl;
+            answer = λ m. refl;
+            resize = λ m. refl;
+            read = λ m. and_not_there (same_who who other && (q == m))
+                (is_counted whole entry) c;
+            number = λ m. refl;
+            write = λ m l. refl;
+          }) h,
     )
 
 -- an entry that tells nothing of the order of calls
-pub else_stands : (whole after : List Entry) (entry : Entry) (lines : List ((ℕ × ℕ) × Line)) → is_else entry ≡ true → StandsInOrder whole after entry lines lines
+pub else_stands : (whole after : List Entry) (entry : Entry) (lines : List ((ℕ × ℕ) × Line)) → is_else entry ≡ true
+    → StandsInOrder whole after entry lines lines
 else_stands whole after (C who q told) lines i before h = absurd (cc)
 else_stands whole after (W who file block number value through) lines i before h = absurd (cc)
 else_stands whole after (Z who q file from to) lines i before h = absurd (cc)
 else_stands whole after (R who q file block value served) lines i before h = absurd (cc)
 else_stands whole after (A who q said) lines i before h = absurd (cc)
-else_stands whole after other lines i before h =
-    (refl, all_quiet whole before other lines (λ who. record { call = λ m. refl; answer = λ m. refl; resize = λ m. refl; read = λ m. refl; number = λ m. refl; write = λ m l. refl }) h)
+else_stands whole after other lines i before h = (
+  refl,
+  all_quiet whole before other lines
+      (λ who. record { call = λ m. refl; answer = λ m. refl; resize = λ m. refl; read = λ m. refl; number = λ m. refl; write = λ m l. refl }) h,
+)

@@ -20,14 +20,17 @@ if_none false b n m e = refl
 if_none true b n m e = absurd (cc)
 
 -- the heads move to an entry that links lead to
-pub member_marked : (kind : Kind) (place : ℕ) (entry : Entry) (old new : List (Spot × ℕ)) (before after : List ℕ) → is_member kind entry ≡ true → IsMarked (spot_of kind entry) (place + 1) old new → after ≡ before ++ mark_at old (spot_of kind entry) ∷ [] → IsLinkedNext kind place entry old new before after
+pub member_marked : (kind : Kind) (place : ℕ) (entry : Entry) (old new : List (Spot × ℕ)) (before after : List ℕ) → is_member kind entry ≡ true
+    → IsMarked (spot_of kind entry) (place + 1) old new → after ≡ before ++ mark_at old (spot_of kind entry) ∷ []
+    → IsLinkedNext kind place entry old new before after
 member_marked kind place entry old new before after m h p = record {
   pushed = p;
   marked = λ key. h key ∙ if_both (is_member kind entry) (same_spot (spot_of kind entry) key) (place + 1) (mark_at old key) m;
 }
 
 -- and stay where links do not lead to it
-pub other_marked : (kind : Kind) (place : ℕ) (entry : Entry) (old : List (Spot × ℕ)) (before after : List ℕ) → is_member kind entry ≡ false → after ≡ before ++ mark_at old (spot_of kind entry) ∷ [] → IsLinkedNext kind place entry old old before after
+pub other_marked : (kind : Kind) (place : ℕ) (entry : Entry) (old : List (Spot × ℕ)) (before after : List ℕ) → is_member kind entry ≡ false
+    → after ≡ before ++ mark_at old (spot_of kind entry) ∷ [] → IsLinkedNext kind place entry old old before after
 other_marked kind place entry old before after m p = record {
   pushed = p;
   marked = λ key. if_none (is_member kind entry) (same_spot (spot_of kind entry) key) (place + 1) (mark_at old key) m;
@@ -55,7 +58,8 @@ at_else : (b : Bool) (n m k : ℕ) → b ≡ false → k ≡ (if b then n else m
 at_else true n m k e h = absurd (cc)
 at_else false n m k e h = h
 
-free_here : (kind : Kind) (key : Spot) (whole : List Entry) (place : ℕ) (entry : Entry) → slice_get whole place ≡ Some entry → is_link kind key entry ≡ false → (from : ℕ) → IsFree kind key whole from place → IsFree kind key whole from (place + 1)
+free_here : (kind : Kind) (key : Spot) (whole : List Entry) (place : ℕ) (entry : Entry) → slice_get whole place ≡ Some entry
+    → is_link kind key entry ≡ false → (from : ℕ) → IsFree kind key whole from place → IsFree kind key whole from (place + 1)
 free_here kind key whole place entry there misses from free p x a b h =
     elim (cases_lt p place) [
       | inl l ↦ free p x a l h
@@ -65,7 +69,9 @@ free_here kind key whole place entry there misses from free p x a b h =
           subst (λ y. is_link kind key y ≡ false) (some_one entry x (sym there ∙ at)) misses
     ]
 
-newest_next : (kind : Kind) (whole : List Entry) (place : ℕ) (entry : Entry) (old new : List (Spot × ℕ)) → slice_get whole place ≡ Some entry → ((key : Spot) → mark_at new key ≡ (if is_link kind key entry then place + 1 else mark_at old key)) → ((key : Spot) → IsFree kind key whole (mark_at old key) place) → (key : Spot) → IsFree kind key whole (mark_at new key) (place + 1)
+newest_next : (kind : Kind) (whole : List Entry) (place : ℕ) (entry : Entry) (old new : List (Spot × ℕ)) → slice_get whole place ≡ Some entry
+    → ((key : Spot) → mark_at new key ≡ (if is_link kind key entry then place + 1 else mark_at old key))
+    → ((key : Spot) → IsFree kind key whole (mark_at old key) place) → (key : Spot) → IsFree kind key whole (mark_at new key) (place + 1)
 newest_next kind whole place entry old new there marked free key =
     elim (cases_Bool (is_link kind key entry)) [
       | inl y ↦
@@ -76,7 +82,9 @@ newest_next kind whole place entry old new there marked free key =
           subst (λ m. IsFree kind key whole m (place + 1)) (sym here) (free_here kind key whole place entry there n (mark_at old key) (free key))
     ]
 
-back_next : (kind : Kind) (whole : List Entry) (place : ℕ) (entry : Entry) (old : List (Spot × ℕ)) (earlier : List ℕ) → slice_get whole place ≡ Some entry → IsLinked kind whole place old earlier → (p : ℕ) (x : Entry) (e : ℕ) → slice_get whole p ≡ Some x → slice_get (earlier ++ mark_at old (spot_of kind entry) ∷ []) p ≡ Some e → IsFree kind (spot_of kind x) whole e p
+back_next : (kind : Kind) (whole : List Entry) (place : ℕ) (entry : Entry) (old : List (Spot × ℕ)) (earlier : List ℕ)
+    → slice_get whole place ≡ Some entry → IsLinked kind whole place old earlier → (p : ℕ) (x : Entry) (e : ℕ) → slice_get whole p ≡ Some x
+    → slice_get (earlier ++ mark_at old (spot_of kind entry) ∷ []) p ≡ Some e → IsFree kind (spot_of kind x) whole e p
 back_next kind whole place entry old earlier there h p x e at link =
     elim (get_pushed earlier (mark_at old (spot_of kind entry)) e p link) [
       | inl l ↦ h.back p x e at l
@@ -89,7 +97,9 @@ back_next kind whole place entry old earlier there h p x e at link =
           (subst (λ y. IsFree kind (spot_of kind y) whole (mark_at old (spot_of kind entry)) place) is (h.newest (spot_of kind entry))))
     ]
 
-pub linked_next : (kind : Kind) (whole : List Entry) (place : ℕ) (entry : Entry) (old new : List (Spot × ℕ)) (before after : List ℕ) → slice_get whole place ≡ Some entry → IsLinked kind whole place old before → IsLinkedNext kind place entry old new before after → IsLinked kind whole (place + 1) new after
+pub linked_next : (kind : Kind) (whole : List Entry) (place : ℕ) (entry : Entry) (old new : List (Spot × ℕ)) (before after : List ℕ)
+    → slice_get whole place ≡ Some entry → IsLinked kind whole place old before → IsLinkedNext kind place entry old new before after
+    → IsLinked kind whole (place + 1) new after
 linked_next kind whole place entry old new before after there h n =
     subst (λ l. IsLinked kind whole (place + 1) new l) (sym n.pushed) (record {
       long = long_pushed before (mark_at old (spot_of kind entry)) ∙ ap (λ k. k + 1) h.long;
@@ -104,6 +114,7 @@ none_at_start kind whole = record {
   back = λ p x e h link. absurd (cc);
 }
 
-pub none_linked : (kind : Kind) (whole : List Entry) (heads : List (Spot × ℕ)) (earlier : List ℕ) → heads ≡ [] → earlier ≡ [] → IsLinked kind whole 0 heads earlier
+pub none_linked : (kind : Kind) (whole : List Entry) (heads : List (Spot × ℕ)) (earlier : List ℕ) → heads ≡ [] → earlier ≡ []
+    → IsLinked kind whole 0 heads earlier
 none_linked kind whole heads earlier h e =
     subst (λ l. IsLinked kind whole 0 l earlier) (sym h) (subst (λ l. IsLinked kind whole 0 [] l) (sym e) (none_at_start kind whole))

@@ -12,7 +12,8 @@ some_one x y e = cc
 pub none_below : (rule : Rule) (whole : List Entry) → KeepsBelow rule whole 0
 none_below rule whole place entry below there = absurd (omega arith)
 
-pub one_more : (rule : Rule) (whole : List Entry) (k : ℕ) (x : Entry) → slice_get whole k ≡ Some x → keeps_at rule whole k x ≡ true → KeepsBelow rule whole k → KeepsBelow rule whole (k + 1)
+pub one_more : (rule : Rule) (whole : List Entry) (k : ℕ) (x : Entry) → slice_get whole k ≡ Some x → keeps_at rule whole k x ≡ true
+    → KeepsBelow rule whole k → KeepsBelow rule whole (k + 1)
 one_more rule whole k x e h below place entry less there =
     elim (cases_lt place k) [
       | inl l ↦ below place entry l there

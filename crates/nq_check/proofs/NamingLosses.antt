@@ -78,7 +78,8 @@ same_numbers file block first last span h =
 moved : (marks : List (Spot × ℕ)) (who : Who) (a b c d : ℕ) → a ≡ b → c ≡ d → 0 < mark_at marks (loss_spot who a c) → 0 < mark_at marks (loss_spot who b d)
 moved marks who a b c d e f h = subst (λ n. 0 < mark_at marks (loss_spot who n d)) e (subst (λ n. 0 < mark_at marks (loss_spot who a n)) f h)
 
-some_marked : (marks : List (Spot × ℕ)) (who : Who) (file block first last : ℕ) (spans : List Span) → Each (HasMark marks who) spans → exists (is_name_of (loss_told file block first last)) spans ≡ true → 0 < mark_at marks (loss_spot who first last)
+some_marked : (marks : List (Spot × ℕ)) (who : Who) (file block first last : ℕ) (spans : List Span) → Each (HasMark marks who) spans
+    → exists (is_name_of (loss_told file block first last)) spans ≡ true → 0 < mark_at marks (loss_spot who first last)
 some_marked marks who file block first last [] m h = absurd (cc)
 some_marked marks who file block first last (span ∷ spans) m h =
     elim (cases_Bool (is_name_of (loss_told file block first last) span)) [
@@ -88,7 +89,8 @@ some_marked marks who file block first last (span ∷ spans) m h =
       | inr f ↦ some_marked marks who file block first last spans m.1 (sym (ap (λ b. b || exists (is_name_of (loss_told file block first last)) spans) f) ∙ h)
     ]
 
-named_one : (marks : List (Spot × ℕ)) (whole : List Entry) (who : Who) (file block first last : ℕ) (entry : Entry) → IsNamed marks entry → names whole who (loss_told file block first last) entry ≡ true → 0 < mark_at marks (loss_spot who first last)
+named_one : (marks : List (Spot × ℕ)) (whole : List Entry) (who : Who) (file block first last : ℕ) (entry : Entry) → IsNamed marks entry
+    → names whole who (loss_told file block first last) entry ≡ true → 0 < mark_at marks (loss_spot who first last)
 named_one marks whole who file block first last (A by q (Lost spans)) m h =
     let p = and_parts (same_who by who && speaks_of file (call_of whole by q)) (exists (is_name_of (loss_told file block first last)) spans.items) h in
     let r = and_parts (same_who by who) (speaks_of file (call_of whole by q)) p.0 in
@@ -96,26 +98,31 @@ named_one marks whole who file block first last (A by q (Lost spans)) m h =
     subst (λ w. 0 < mark_at marks (loss_spot w first last)) same (some_marked marks by file block first last spans.items m p.1)
 named_one marks whole who file block first last other m h = absurd (cc)
 
-pub not_named : (marks : List (Spot × ℕ)) (whole : List Entry) (who : Who) (file block first last : ℕ) (before : List Entry) → Each (IsNamed marks) before → mark_at marks (loss_spot who first last) ≡ 0 → exists (names whole who (loss_told file block first last)) before ≡ false
+pub not_named : (marks : List (Spot × ℕ)) (whole : List Entry) (who : Who) (file block first last : ℕ) (before : List Entry)
+    → Each (IsNamed marks) before → mark_at marks (loss_spot who first last) ≡ 0 → exists (names whole who (loss_told file block first last)) before ≡ false
 not_named marks whole who file block first last [] m none = refl
 not_named marks whole who file block first last (entry ∷ before) m none =
     let misses : names whole who (loss_told file block first last) entry ≡ false =
-    none_of (names whole who (loss_told file block first last) entry) (λ t. let up = named_one marks whole who file block first last entry m.0 t in omega arith) in
+    none_of (names whole who (loss_told file block first last) entry)
+    (λ t. let up = named_one marks whole who file block first last entry m.0 t in omega arith) in
     ap (λ b. b || exists (names whole who (loss_told file block first last)) before) misses ∙ not_named marks whole who file block first last before m.1 none
 
 -- ---- an L that no A has named
 
-unnamed_one : (marks : List (Spot × ℕ)) (whole before : List Entry) (who : Who) (call : Option Told) (span : Span) → Each (IsNamed marks) before → HasNoMark marks who span → (entry : Entry) → is_lost_as who call span entry ≡ true → is_unnamed whole before who call span entry ≡ true
+unnamed_one : (marks : List (Spot × ℕ)) (whole before : List Entry) (who : Who) (call : Option Told) (span : Span) → Each (IsNamed marks) before
+    → HasNoMark marks who span → (entry : Entry) → is_lost_as who call span entry ≡ true → is_unnamed whole before who call span entry ≡ true
 unnamed_one marks whole before who call span m none (L by file block first last) h =
     let p = and_parts (same_who by who && speaks_of file call) (is_name_of (loss_told file block first last) span) h in
     let same = same_numbers file block first last span p.1 in
     let at : mark_at marks (loss_spot who first last) ≡ 0 =
     subst (λ n. mark_at marks (loss_spot who n last) ≡ 0) same.0 (subst (λ n. mark_at marks (loss_spot who span.first n) ≡ 0) same.1 none) in
-    and_from (same_who by who && speaks_of file call && is_name_of (loss_told file block first last) span) (not (exists (names whole who (loss_told file block first last)) before)) h
+    and_from (same_who by who && speaks_of file call && is_name_of (loss_told file block first last) span)
+    (not (exists (names whole who (loss_told file block first last)) before)) h
     (ap not (not_named marks whole who file block first last before m at))
 unnamed_one marks whole before who call span m none other h = absurd (cc)
 
-exists_also : (f g : Entry → Bool) → ((entry : Entry) → f entry ≡ true → g entry ≡ true) → (entries : List Entry) → exists f entries ≡ true → exists g entries ≡ true
+exists_also : (f g : Entry → Bool) → ((entry : Entry) → f entry ≡ true → g entry ≡ true) → (entries : List Entry) → exists f entries ≡ true
+    → exists g entries ≡ true
 exists_also f g all [] h = absurd (cc)
 exists_also f g all (entry ∷ entries) h =
     elim (cases_Bool (f entry)) [
@@ -137,7 +144,8 @@ same_span a b h =
     (eqb-true a.first b.first q.1, eqb-true a.last b.last p.1)
 
 -- a span with a mark is none of those without
-not_again : (marks : List (Spot × ℕ)) (who : Who) (span : Span) → HasMark marks who span → (spans : List Span) → Each (HasNoMark marks who) spans → exists (is_same_span span) spans ≡ false
+not_again : (marks : List (Spot × ℕ)) (who : Who) (span : Span) → HasMark marks who span → (spans : List Span) → Each (HasNoMark marks who) spans
+    → exists (is_same_span span) spans ≡ false
 not_again marks who span some [] none = refl
 not_again marks who span some (other ∷ spans) none =
     let misses : is_same_span span other ≡ false =
@@ -148,7 +156,9 @@ not_again marks who span some (other ∷ spans) none =
     omega arith) in
     ap (λ b. b || exists (is_same_span span) spans) misses ∙ not_again marks who span some spans none.1
 
-first_of : (whole before : List Entry) (who : Who) (call : Option Told) (span : Span) (spans : List Span) → exists (is_unnamed whole before who call span) before ≡ true → exists (is_same_span span) spans ≡ false → name_losses whole before who call spans ≡ true → name_losses whole before who call (span ∷ spans) ≡ true
+first_of : (whole before : List Entry) (who : Who) (call : Option Told) (span : Span) (spans : List Span)
+    → exists (is_unnamed whole before who call span) before ≡ true → exists (is_same_span span) spans ≡ false
+    → name_losses whole before who call spans ≡ true → name_losses whole before who call (span ∷ spans) ≡ true
 first_of whole before who call span spans some again rest =
     and_from (exists (is_unnamed whole before who call span) before && not (exists (is_same_span span) spans)) (name_losses whole before who call spans)
     (and_from (exists (is_unnamed whole before who call span) before) (not (exists (is_same_span span) spans)) some (ap not again)) rest
@@ -160,7 +170,8 @@ drop_all (x ∷ xs) zero h = absurd (omega arith)
 drop_all (x ∷ xs) (suc k) h = drop_all xs k (omega arith)
 
 -- no span yet
-pub up_to_none : (whole before : List Entry) (who : Who) (call : Option Told) (spans : List Span) (marks : List (Spot × ℕ)) → NamesUpTo whole before who call spans 0 marks marks
+pub up_to_none : (whole before : List Entry) (who : Who) (call : Option Told) (spans : List Span) (marks : List (Spot × ℕ))
+    → NamesUpTo whole before who call spans 0 marks marks
 up_to_none whole before who call spans marks = record {
   keeps = λ key h. h;
   marks = λ later keeps h. h;
@@ -168,7 +179,9 @@ up_to_none whole before who call spans marks = record {
 }
 
 -- one more
-pub up_to_next : (whole before : List Entry) (who : Who) (call : Option Told) (spans : List Span) (k mark : ℕ) (span : Span) (old mid new : List (Spot × ℕ)) → 0 < mark → slice_get spans k ≡ Some span → NamesUpTo whole before who call spans k old mid → NamesAnew before who call span mark mid new → NamesUpTo whole before who call spans (k + 1) old new
+pub up_to_next : (whole before : List Entry) (who : Who) (call : Option Told) (spans : List Span) (k mark : ℕ) (span : Span)
+    (old mid new : List (Spot × ℕ)) → 0 < mark → slice_get spans k ≡ Some span → NamesUpTo whole before who call spans k old mid
+    → NamesAnew before who call span mark mid new → NamesUpTo whole before who call spans (k + 1) old new
 up_to_next whole before who call spans k mark span old mid new up e so_far h =
     let keeps = marks_kept (loss_spot who span.first span.last) mark mid new up h.marked in
     let here : HasMark new who span = let at = marked_there (loss_spot who span.first span.last) mark mid new h.marked in omega arith in
@@ -188,7 +201,8 @@ up_to_next whole before who call spans k mark span old mid new up e so_far h =
     }
 
 -- all of them
-pub up_to_all : (whole before : List Entry) (who : Who) (call : Option Told) (spans : List Span) (k : ℕ) (old new : List (Spot × ℕ)) → length spans ≤ k → NamesUpTo whole before who call spans k old new → NamesAll whole before who call spans old new
+pub up_to_all : (whole before : List Entry) (who : Who) (call : Option Told) (spans : List Span) (k : ℕ) (old new : List (Spot × ℕ)) → length spans ≤ k
+    → NamesUpTo whole before who call spans k old new → NamesAll whole before who call spans old new
 up_to_all whole before who call spans k old new long h =
     let none : drop k spans ≡ [] = drop_all spans k long in record {
       keeps = h.keeps;
@@ -200,5 +214,6 @@ up_to_all whole before who call spans k old new long h =
 
 -- ---- entries
 
-pub lost_on : (whole : List Entry) (place : ℕ) (who : Who) (q : ℕ) (spans : List Span) (old new : List (Spot × ℕ)) → NamesAll (reverse whole) (reverse (take place whole)) who (call_of (reverse whole) who q) spans old new → NamesLost whole place who q spans old new
+pub lost_on : (whole : List Entry) (place : ℕ) (who : Who) (q : ℕ) (spans : List Span) (old new : List (Spot × ℕ))
+    → NamesAll (reverse whole) (reverse (take place whole)) who (call_of (reverse whole) who q) spans old new → NamesLost whole place who q spans old new
 lost_on whole place who q spans old new h m = (h.names m, (h.marks, before_kept old new h.keeps (reverse (take place whole)) m))

@@ -48,7 +48,8 @@ pub marked_there : (at : Spot) (n : ℕ) (old new : List (Spot × ℕ)) → IsMa
 marked_there at n old new h = h at ∙ at_if (same_spot at at) n (mark_at old at) (same_self at)
 
 -- no mark sinks
-pub no_lower : (at : Spot) (n : ℕ) (old new : List (Spot × ℕ)) → IsMarked at n old new → mark_at old at ≤ n → (other : Spot) → mark_at old other ≤ mark_at new other
+pub no_lower : (at : Spot) (n : ℕ) (old new : List (Spot × ℕ)) → IsMarked at n old new → mark_at old at ≤ n → (other : Spot)
+    → mark_at old other ≤ mark_at new other
 no_lower at n old new h l other =
     elim (cases_Bool (same_spot at other)) [
       | inl y ↦
@@ -64,7 +65,8 @@ no_lower at n old new h l other =
 -- ---- how far entries cover
 
 abbrev Rises : (old new : Reach) → Type 0
-Rises old new = (at : Spot) → (mark_at old.highest.entries at ≤ mark_at new.highest.entries at) × (mark_at old.lowest.entries at ≤ mark_at new.lowest.entries at)
+Rises old new =
+    (at : Spot) → (mark_at old.highest.entries at ≤ mark_at new.highest.entries at) × (mark_at old.lowest.entries at ≤ mark_at new.lowest.entries at)
 
 still_at : (most : ℕ) (old new : Reach) → Rises old new → (at : Spot) (first last : ℕ) → IsReached most old at first last → IsReached most new at first last
 still_at most old new rise at first last h =
@@ -96,14 +98,16 @@ at_number most reach at first last n a b h =
     let lower = h.lower in
     record { upper = omega arith; lower = omega arith }
 
-below_one : (most : ℕ) (reach : Reach) (by : Who) (f b n v : ℕ) (other : Entry) → IsCoveredTo most reach other → Covers other (W by f b n v false) → IsReached most reach (spot by f b) n n
+below_one : (most : ℕ) (reach : Reach) (by : Who) (f b n v : ℕ) (other : Entry) → IsCoveredTo most reach other → Covers other (W by f b n v false)
+    → IsReached most reach (spot by f b) n n
 below_one most reach by f b n v (S who file block first last now) m c =
     spot_of (λ at. IsReached most reach at n n) by who f file b block c.0 c.1 c.2 (at_number most reach (spot who file block) first last n c.3 c.4 m)
 below_one most reach by f b n v (L who file block first last) m c =
     spot_of (λ at. IsReached most reach at n n) by who f file b block c.0 c.1 c.2 (at_number most reach (spot who file block) first last n c.3 c.4 m)
 below_one most reach by f b n v other m c = absurd c
 
-below : (most : ℕ) (reach : Reach) (by : Who) (f b n v : ℕ) (before : List Entry) → Each (IsCoveredTo most reach) before → Exists (λ other. Covers other (W by f b n v false)) before → IsReached most reach (spot by f b) n n
+below : (most : ℕ) (reach : Reach) (by : Who) (f b n v : ℕ) (before : List Entry) → Each (IsCoveredTo most reach) before
+    → Exists (λ other. Covers other (W by f b n v false)) before → IsReached most reach (spot by f b) n n
 below most reach by f b n v [] m e = absurd e
 below most reach by f b n v (other ∷ before) m e =
     elim e [
@@ -111,7 +115,8 @@ below most reach by f b n v (other ∷ before) m e =
       | inr h ↦ below most reach by f b n v before m.1 h
     ]
 
-too_far : (most : ℕ) (reach : Reach) (at : Spot) (first last n : ℕ) → IsReached most reach at n n → is_outside most reach at first last ≡ true → first ≤ n → n ≤ last → ⊥
+too_far : (most : ℕ) (reach : Reach) (at : Spot) (first last n : ℕ) → IsReached most reach at n n → is_outside most reach at first last ≡ true
+    → first ≤ n → n ≤ last → ⊥
 too_far most reach at first last n h out a b =
     let upper : n ≤ mark_at reach.highest.entries at = h.upper in
     let lower : most - n ≤ mark_at reach.lowest.entries at = h.lower in
@@ -120,10 +125,13 @@ too_far most reach at first last n h out a b =
       | inr t ↦ let under : mark_at reach.lowest.entries at < most - last = ltb-true (mark_at reach.lowest.entries at) (most - last) t in omega arith
     ]
 
-apart : (most : ℕ) (reach : Reach) (who : Who) (file block first last : ℕ) (before : List Entry) → Each (IsCoveredTo most reach) before → is_outside most reach (spot who file block) first last ≡ true → (write : Entry) → IsWithin who file block first last write → Exists (λ other. Covers other write) before → ⊥
+apart : (most : ℕ) (reach : Reach) (who : Who) (file block first last : ℕ) (before : List Entry) → Each (IsCoveredTo most reach) before
+    → is_outside most reach (spot who file block) first last ≡ true → (write : Entry) → IsWithin who file block first last write
+    → Exists (λ other. Covers other write) before → ⊥
 apart most reach who file block first last before m out (W by f b n v false) i e =
     let there : IsReached most reach (spot by f b) n n = below most reach by f b n v before m e in
-    let here : IsReached most reach (spot who file block) n n = spot_of (λ at. IsReached most reach at n n) who by file f block b (sym i.0) (sym i.1) (sym i.2) there in
+    let here : IsReached most reach (spot who file block) n n = spot_of (λ at. IsReached most reach at n n) who by file f block b (sym i.0) (sym i.1)
+    (sym i.2) there in
     too_far most reach (spot who file block) first last n here out i.3 i.4
 apart most reach who file block first last before m out other i e = absurd i
 
@@ -138,7 +146,8 @@ each_of : {X : Type 0} (test : X → Bool) → ((x : X) → test x ≡ true) →
 each_of test all [] = refl
 each_of test all (x ∷ xs) = and_from (test x) (each test xs) (all x) (each_of test all xs)
 
-first_again : (entry : Entry) (before : List Entry) → ((write : Entry) → Covers entry write → Exists (λ other. Covers other write) before → ⊥) → (write : Entry) → is_first_to_cover before entry write ≡ true
+first_again : (entry : Entry) (before : List Entry) → ((write : Entry) → Covers entry write → Exists (λ other. Covers other write) before → ⊥)
+    → (write : Entry) → is_first_to_cover before entry write ≡ true
 first_again entry before none write =
     not_both (covers entry write) (exists (λ other. covers other write) before)
     (λ x y. none write ((tells_covers entry write).sound x) ((tells_exists (λ other. tells_covers other write) before).sound y))
@@ -150,20 +159,24 @@ reaches_it : (most : ℕ) (at : Spot) (first last : ℕ) (old new : Reach) → I
 reaches_it most at first last old new h = record { upper = h.upper.least; lower = h.lower.least }
 
 -- what is told of the entries before it is told of an entry, too
-with_it : (most : ℕ) (who : Who) (file block first last : ℕ) (old new : Reach) → IsAnew most (spot who file block) first last old new → (before : List Entry) → Each (IsCoveredTo most old) before → IsReached most new (spot who file block) first last × Each (IsCoveredTo most new) before
+with_it : (most : ℕ) (who : Who) (file block first last : ℕ) (old new : Reach) → IsAnew most (spot who file block) first last old new
+    → (before : List Entry) → Each (IsCoveredTo most old) before → IsReached most new (spot who file block) first last × Each (IsCoveredTo most new) before
 with_it most who file block first last old new h before m = (
   reaches_it most (spot who file block) first last old new h.extended,
   still most old new (rises_with most (spot who file block) first last old new h.extended) before m,
 )
 
-pub stored_once : (most : ℕ) (whole : List Entry) (who : Who) (file block first last now : ℕ) (old new : Reach) → IsAnew most (spot who file block) first last old new → Accounts most whole (S who file block first last now) old new
+pub stored_once : (most : ℕ) (whole : List Entry) (who : Who) (file block first last now : ℕ) (old new : Reach)
+    → IsAnew most (spot who file block) first last old new → Accounts most whole (S who file block first last now) old new
 stored_once most whole who file block first last now old new h before m = (
   each_of (is_first_to_cover before (S who file block first last now))
       (first_again (S who file block first last now) before (apart most old who file block first last before m h.outside)) whole,
   with_it most who file block first last old new h before m,
 )
 
-pub lost_once : (most : ℕ) (whole : List Entry) (who : Who) (file block first last : ℕ) (old new : Reach) → exists (covers (L who file block first last)) whole ≡ true → IsAnew most (spot who file block) first last old new → Accounts most whole (L who file block first last) old new
+pub lost_once : (most : ℕ) (whole : List Entry) (who : Who) (file block first last : ℕ) (old new : Reach)
+    → exists (covers (L who file block first last)) whole ≡ true → IsAnew most (spot who file block) first last old new
+    → Accounts most whole (L who file block first last) old new
 lost_once most whole who file block first last old new some h before m = (
   and_from (each (is_first_to_cover before (L who file block first last)) whole) (exists (covers (L who file block first last)) whole)
       (each_of (is_first_to_cover before (L who file block first last))

@@ -45,26 +45,31 @@ self who = (tells_who {a = who} {b = who}).complete refl
 
 -- ---- an entry before a place
 
-pub exists_before : (test : Entry → Bool) (whole : List Entry) (p k : ℕ) (x : Entry) → p < k → k ≤ length whole → slice_get whole p ≡ Some x → test x ≡ true → exists test (reverse (take k whole)) ≡ true
+pub exists_before : (test : Entry → Bool) (whole : List Entry) (p k : ℕ) (x : Entry) → p < k → k ≤ length whole → slice_get whole p ≡ Some x
+    → test x ≡ true → exists test (reverse (take k whole)) ≡ true
 exists_before test whole p k x below within there t =
     climb (λ l. exists test l ≡ true) whole (p + 1) k (omega arith) within
     (subst (λ l. exists test l ≡ true) (sym (taken_here whole p x there)) (or_here (test x) (exists test (reverse (take p whole))) t))
     (λ place entry before a b e h. or_there (test entry) (exists test before) h)
 
-pub somewhere_before : (test : Entry → List Entry → Bool) (whole : List Entry) (p k : ℕ) (x : Entry) → p < k → k ≤ length whole → slice_get whole p ≡ Some x → test x (reverse (take p whole)) ≡ true → somewhere test (reverse (take k whole)) ≡ true
+pub somewhere_before : (test : Entry → List Entry → Bool) (whole : List Entry) (p k : ℕ) (x : Entry) → p < k → k ≤ length whole
+    → slice_get whole p ≡ Some x → test x (reverse (take p whole)) ≡ true → somewhere test (reverse (take k whole)) ≡ true
 somewhere_before test whole p k x below within there t =
     climb (λ l. somewhere test l ≡ true) whole (p + 1) k (omega arith) within
-    (subst (λ l. somewhere test l ≡ true) (sym (taken_here whole p x there)) (or_here (test x (reverse (take p whole))) (somewhere test (reverse (take p whole))) t))
+    (subst (λ l. somewhere test l ≡ true) (sym (taken_here whole p x there))
+    (or_here (test x (reverse (take p whole))) (somewhere test (reverse (take p whole))) t))
     (λ place entry before a b e h. or_there (test entry before) (somewhere test before) h)
 
-pub each_before : (test : Entry → Bool) (whole : List Entry) (p k : ℕ) (x : Entry) → p < k → k ≤ length whole → slice_get whole p ≡ Some x → each test (reverse (take k whole)) ≡ true → test x ≡ true
+pub each_before : (test : Entry → Bool) (whole : List Entry) (p k : ℕ) (x : Entry) → p < k → k ≤ length whole → slice_get whole p ≡ Some x
+    → each test (reverse (take k whole)) ≡ true → test x ≡ true
 each_before test whole p k x below within there =
     climb (λ l. each test l ≡ true → test x ≡ true) whole (p + 1) k (omega arith) within
     (subst (λ l. each test l ≡ true → test x ≡ true) (sym (taken_here whole p x there)) (λ h. (and_parts (test x) (each test (reverse (take p whole))) h).0))
     (λ place entry before a b e f h. f (and_parts (test entry) (each test before) h).1)
 
 -- where no entry before a place passes, none before an earlier one does
-pub none_before : (test : Entry → Bool) (whole : List Entry) (p k : ℕ) → p ≤ k → k ≤ length whole → exists test (reverse (take k whole)) ≡ false → exists test (reverse (take p whole)) ≡ false
+pub none_before : (test : Entry → Bool) (whole : List Entry) (p k : ℕ) → p ≤ k → k ≤ length whole → exists test (reverse (take k whole)) ≡ false
+    → exists test (reverse (take p whole)) ≡ false
 none_before test whole p k below within =
     climb (λ l. exists test l ≡ false → exists test (reverse (take p whole)) ≡ false) whole p k below within
     (λ h. h)
@@ -72,30 +77,41 @@ none_before test whole p k below within =
 
 -- ---- the write of an open call
 
-call_here : (before : List Entry) (by who : Who) (n q p : ℕ) (opened : Bool) → same_who by who ≡ true → (n == q) ≡ true → opened ≡ true → (not (same_who by who && opened) || (n == p)) ≡ true → q ≡ p
+call_here : (before : List Entry) (by who : Who) (n q p : ℕ) (opened : Bool) → same_who by who ≡ true → (n == q) ≡ true → opened ≡ true
+    → (not (same_who by who && opened) || (n == p)) ≡ true → q ≡ p
 call_here before by who n q p opened w same o h =
     sym (eqb-true n q same) ∙ eqb-true n p (second_of (same_who by who && opened) (n == p) (and_from (same_who by who) opened w o) h)
 
 -- a call that is open, where no other than call p is, is call p
-is_that_one : (before : List Entry) (who : Who) (q p : ℕ) (entry : Entry) → is_call who q entry ≡ true → is_open before who q ≡ true → is_no_other before who p entry ≡ true → q ≡ p
+is_that_one : (before : List Entry) (who : Who) (q p : ℕ) (entry : Entry) → is_call who q entry ≡ true → is_open before who q ≡ true
+    → is_no_other before who p entry ≡ true → q ≡ p
 is_that_one before who q p (C by n told) c o h =
     let w = and_parts (same_who by who) (n == q) c in
     call_here before by who n q p (is_open before who n) w.0 w.1 (subst (λ m. is_open before who m ≡ true) (sym (eqb-true n q w.1)) o) h
 is_that_one before who q p other c o h = absurd (cc)
 
-writes_of : (before : List Entry) (who : Who) (q file block number value : ℕ) (through : Bool) (call : Entry) (found : Option ℕ) → is_call who q call ≡ true → is_open before who q ≡ true → ((p : ℕ) → each (is_no_other before who p) before ≡ true → is_no_other before who p call ≡ true) → is_write_of before who file block number value found ≡ true → is_write_of_call who q (W who file block number value through) before ≡ true
+writes_of : (before : List Entry) (who : Who) (q file block number value : ℕ) (through : Bool) (call : Entry) (found : Option ℕ)
+    → is_call who q call ≡ true → is_open before who q ≡ true
+    → ((p : ℕ) → each (is_no_other before who p) before ≡ true → is_no_other before who p call ≡ true)
+    → is_write_of before who file block number value found ≡ true → is_write_of_call who q (W who file block number value through) before ≡ true
 writes_of before who q file block number value through call None c o f h = absurd (cc)
 writes_of before who q file block number value through call (Some p) c o f h =
-    let a = and_parts (each (is_no_other before who p) before && writes file block value (call_of before who p) && throughout (is_before_call who p) before) (not (exists (is_numbered who number) before)) h in
-    let b = and_parts (each (is_no_other before who p) before && writes file block value (call_of before who p)) (throughout (is_before_call who p) before) a.0 in
+    let a = and_parts (each (is_no_other before who p) before && writes file block value (call_of before who p) && throughout (is_before_call who p)
+    before) (not (exists (is_numbered who number) before)) h in
+    let b = and_parts (each (is_no_other before who p) before && writes file block value (call_of before who p))
+    (throughout (is_before_call who p) before) a.0 in
     let d = and_parts (each (is_no_other before who p) before) (writes file block value (call_of before who p)) b.0 in
     let same : q ≡ p = is_that_one before who q p call c o (f p d.0) in
-    subst (λ m. (same_who who who && is_open before who m && each (is_no_other before who m) before && writes file block value (call_of before who m)) ≡ true) (sym same)
+    subst
+    (λ m. (same_who who who && is_open before who m && each (is_no_other before who m) before && writes file block value (call_of before who m)) ≡
+    true) (sym same)
     (and_from (same_who who who && is_open before who p && each (is_no_other before who p) before) (writes file block value (call_of before who p))
     (and_from (same_who who who && is_open before who p) (each (is_no_other before who p) before)
     (and_from (same_who who who) (is_open before who p) (self who) (subst (λ m. is_open before who m ≡ true) same o)) d.0) d.1)
 
-writes_own : (whole after before : List Entry) (who : Who) (q : ℕ) (call write : Entry) → is_call who q call ≡ true → is_open before who q ≡ true → ((p : ℕ) → each (is_no_other before who p) before ≡ true → is_no_other before who p call ≡ true) → is_write_by who write ≡ true → is_in_order whole after write before ≡ true → is_write_of_call who q write before ≡ true
+writes_own : (whole after before : List Entry) (who : Who) (q : ℕ) (call write : Entry) → is_call who q call ≡ true → is_open before who q ≡ true
+    → ((p : ℕ) → each (is_no_other before who p) before ≡ true → is_no_other before who p call ≡ true) → is_write_by who write ≡ true
+    → is_in_order whole after write before ≡ true → is_write_of_call who q write before ≡ true
 writes_own whole after before who q call (W by file block number value through) c o f w h =
     let is : by ≡ who = (tells_who {a = by} {b = who}).sound w in
     subst (λ (x : Who). is_write_of_call who q (W x file block number value through) before ≡ true) (sym is)
@@ -103,7 +119,8 @@ writes_own whole after before who q call (W by file block number value through) 
     (subst (λ (x : Who). is_write_of before x file block number value (open_call before x before) ≡ true) is h))
 writes_own whole after before who q call other c o f w h = absurd (cc)
 
-unanswered : (whole after before : List Entry) (who : Who) (q : ℕ) (entry : Entry) → is_answer who q entry ≡ true → is_in_order whole after entry before ≡ true → exists (is_answer who q) before ≡ false
+unanswered : (whole after before : List Entry) (who : Who) (q : ℕ) (entry : Entry) → is_answer who q entry ≡ true
+    → is_in_order whole after entry before ≡ true → exists (is_answer who q) before ≡ false
 unanswered whole after before who q (A by n said) a h =
     let w = and_parts (same_who by who) (n == q) a in
     let is : by ≡ who = (tells_who {a = by} {b = who}).sound w.0 in
@@ -112,14 +129,18 @@ unanswered whole after before who q (A by n said) a h =
 unanswered whole after before who q other a h = absurd (cc)
 
 -- the C of a call, then a write of its incarnation, then the A of the call
-pub put_kept : (whole : List Entry) (c p k : ℕ) (who : Who) (q : ℕ) (call write answer : Entry) → KeepsBelow Rule.Ordered whole (k + 1) → c < p → p < k → k < length whole → slice_get whole c ≡ Some call → slice_get whole p ≡ Some write → slice_get whole k ≡ Some answer → is_call who q call ≡ true → is_write_by who write ≡ true → is_answer who q answer ≡ true → (is_through write || is_stored (reverse (take k whole)) write) ≡ true → somewhere (is_put_kept (reverse (take k whole)) who q) (reverse (take k whole)) ≡ true
+pub put_kept : (whole : List Entry) (c p k : ℕ) (who : Who) (q : ℕ) (call write answer : Entry) → KeepsBelow Rule.Ordered whole (k + 1) → c < p → p < k
+    → k < length whole → slice_get whole c ≡ Some call → slice_get whole p ≡ Some write → slice_get whole k ≡ Some answer → is_call who q call ≡ true
+    → is_write_by who write ≡ true → is_answer who q answer ≡ true → (is_through write || is_stored (reverse (take k whole)) write) ≡ true
+    → somewhere (is_put_kept (reverse (take k whole)) who q) (reverse (take k whole)) ≡ true
 put_kept whole c p k who q call write answer ordered first second within at_c at_p at_k is_c is_w is_a kept =
     let up_k : k ≤ length whole = omega arith in
     let up_p : p ≤ length whole = omega arith in
     let none_k = unanswered (reverse whole) (drop (k + 1) whole) (reverse (take k whole)) who q answer is_a (ordered k answer (omega arith) at_k) in
     let none_p : exists (is_answer who q) (reverse (take p whole)) ≡ false = none_before (is_answer who q) whole p k (omega arith) up_k none_k in
     let called : exists (is_call who q) (reverse (take p whole)) ≡ true = exists_before (is_call who q) whole c p call first up_p at_c is_c in
-    let opened : is_open (reverse (take p whole)) who q ≡ true = and_from (exists (is_call who q) (reverse (take p whole))) (not (exists (is_answer who q) (reverse (take p whole)))) called (ap not none_p) in
+    let opened : is_open (reverse (take p whole)) who q ≡ true = and_from (exists (is_call who q) (reverse (take p whole)))
+    (not (exists (is_answer who q) (reverse (take p whole)))) called (ap not none_p) in
     let own = writes_own (reverse whole) (drop (p + 1) whole) (reverse (take p whole)) who q call write is_c opened
     (λ n e. each_before (is_no_other (reverse (take p whole)) who n) whole c p call first up_p at_c e) is_w (ordered p write (omega arith) at_p) in
     somewhere_before (is_put_kept (reverse (take k whole)) who q) whole p k write second up_k at_p

@@ -18,7 +18,8 @@ some_one : {X : Type 0} (x y : X) → Some x ≡ Some y → x ≡ y
 some_one x y e = cc
 
 -- the entry at one place, by what stands there
-at_place : (test : ℕ → Entry → Bool) (whole : List Entry) (k place : ℕ) (x entry : Entry) → place ≡ k → slice_get whole k ≡ Some x → slice_get whole place ≡ Some entry → test k x ≡ true → test place entry ≡ true
+at_place : (test : ℕ → Entry → Bool) (whole : List Entry) (k place : ℕ) (x entry : Entry) → place ≡ k → slice_get whole k ≡ Some x
+    → slice_get whole place ≡ Some entry → test k x ≡ true → test place entry ≡ true
 at_place test whole k place x entry same e there h =
     let at_k : slice_get whole k ≡ Some entry = subst (λ i. slice_get whole i ≡ Some entry) same there in
     let is : x ≡ entry = some_one x entry (sym e ∙ at_k) in
@@ -29,7 +30,8 @@ pub pass_none : (test : ℕ → Entry → Bool) (whole : List Entry) (from to : 
 pass_none test whole from to h place entry a b there = absurd (omega arith)
 
 -- the next entry passes, too
-pub pass_up : (test : ℕ → Entry → Bool) (whole : List Entry) (from k : ℕ) (x : Entry) → slice_get whole k ≡ Some x → test k x ≡ true → PassBetween test whole from k → PassBetween test whole from (k + 1)
+pub pass_up : (test : ℕ → Entry → Bool) (whole : List Entry) (from k : ℕ) (x : Entry) → slice_get whole k ≡ Some x → test k x ≡ true
+    → PassBetween test whole from k → PassBetween test whole from (k + 1)
 pass_up test whole from k x e h below place entry a b there =
     elim (cases_lt place k) [
       | inl l ↦ below place entry a l there
@@ -37,7 +39,8 @@ pass_up test whole from k x e h below place entry a b there =
     ]
 
 -- the entry before them passes, too
-pub pass_down : (test : ℕ → Entry → Bool) (whole : List Entry) (k to : ℕ) (x : Entry) → slice_get whole k ≡ Some x → test k x ≡ true → PassBetween test whole (k + 1) to → PassBetween test whole k to
+pub pass_down : (test : ℕ → Entry → Bool) (whole : List Entry) (k to : ℕ) (x : Entry) → slice_get whole k ≡ Some x → test k x ≡ true
+    → PassBetween test whole (k + 1) to → PassBetween test whole k to
 pass_down test whole k to x e h above place entry a b there =
     elim (cases_lt k place) [
       | inl l ↦ above place entry (omega arith) b there
@@ -45,23 +48,31 @@ pass_down test whole k to x e h above place entry a b there =
     ]
 
 -- the entry before them was looked at, and the front is its place where it does not pass
-pub pass_back : (test : ℕ → Entry → Bool) (whole : List Entry) (left to : ℕ) (passes : Bool) (x : Entry) (front : ℕ) → 0 < left → slice_get whole (left - 1) ≡ Some x → front ≡ (if passes then to else left - 1) → (passes ≡ true → test (left - 1) x ≡ true) → PassBetween test whole left to → PassBetween test whole (left - 1) front
+pub pass_back : (test : ℕ → Entry → Bool) (whole : List Entry) (left to : ℕ) (passes : Bool) (x : Entry) (front : ℕ) → 0 < left
+    → slice_get whole (left - 1) ≡ Some x → front ≡ (if passes then to else left - 1) → (passes ≡ true → test (left - 1) x ≡ true)
+    → PassBetween test whole left to → PassBetween test whole (left - 1) front
 pass_back test whole left to true x front up e is h below =
     let same : left ≡ (left - 1) + 1 = omega arith in
-    subst (λ f. PassBetween test whole (left - 1) f) (sym is) (pass_down test whole (left - 1) to x e (h refl) (subst (λ k. PassBetween test whole k to) same below))
+    subst (λ f. PassBetween test whole (left - 1) f) (sym is)
+    (pass_down test whole (left - 1) to x e (h refl) (subst (λ k. PassBetween test whole k to) same below))
 pass_back test whole left to false x front up e is h below = pass_none test whole (left - 1) front (omega arith)
 
 -- ---- the rule of losses, by its parts
 
-all_parts : (whole : List Entry) (place : ℕ) (entry : Entry) → is_naming whole place entry ≡ true → is_told whole place entry ≡ true → is_over whole place entry ≡ true → is_ended whole place entry ≡ true → keeps_at Reported whole place entry ≡ true
+all_parts : (whole : List Entry) (place : ℕ) (entry : Entry) → is_naming whole place entry ≡ true → is_told whole place entry ≡ true
+    → is_over whole place entry ≡ true → is_ended whole place entry ≡ true → keeps_at Reported whole place entry ≡ true
 all_parts whole place (L who file block first last) n t o e =
-    and_from (ends_first (L who file block first last) who file (reverse (take place whole)) && not (exists (loss_covers (L who file block first last)) (drop (place + 1) whole)))
+    and_from (ends_first (L who file block first last) who file (reverse (take place whole)) && not
+    (exists (loss_covers (L who file block first last)) (drop (place + 1) whole)))
     (is_reported (reverse whole) (L who file block first last ∷ reverse (take place whole)) who (loss_told file block first last) (drop (place + 1) whole))
-    (and_from (ends_first (L who file block first last) who file (reverse (take place whole))) (not (exists (loss_covers (L who file block first last)) (drop (place + 1) whole))) e o) t
+    (and_from (ends_first (L who file block first last) who file (reverse (take place whole)))
+    (not (exists (loss_covers (L who file block first last)) (drop (place + 1) whole))) e o) t
 all_parts whole place (A who q (Lost spans)) n t o e = n
 all_parts whole place other n t o e = refl
 
-pub all_below : (whole : List Entry) (named told over ended front : ℕ) → PassBetween (is_naming whole) whole 0 named → PassBetween (is_told whole) whole 0 told → PassBetween (is_over whole) whole 0 over → PassBetween (is_ended whole) whole 0 ended → front ≤ named → front ≤ told → front ≤ over → front ≤ ended → KeepsBelow Reported whole front
+pub all_below : (whole : List Entry) (named told over ended front : ℕ) → PassBetween (is_naming whole) whole 0 named
+    → PassBetween (is_told whole) whole 0 told → PassBetween (is_over whole) whole 0 over → PassBetween (is_ended whole) whole 0 ended → front ≤ named
+    → front ≤ told → front ≤ over → front ≤ ended → KeepsBelow Reported whole front
 all_below whole named told over ended front n t o e a b c d place entry below there =
     all_parts whole place entry
     (n place entry (omega arith) (omega arith) there)

@@ -50,7 +50,8 @@ at_place whole k place x entry same e there =
     some_one x entry (sym e ∙ at_k)
 
 -- from the place of an entry that has not to report
-one_before : (test : Entry → Bool) (whole : List Entry) (k to : ℕ) (x : Entry) → slice_get whole k ≡ Some x → test x ≡ false → NoneBetween test whole (k + 1) to → NoneBetween test whole k to
+one_before : (test : Entry → Bool) (whole : List Entry) (k to : ℕ) (x : Entry) → slice_get whole k ≡ Some x → test x ≡ false
+    → NoneBetween test whole (k + 1) to → NoneBetween test whole k to
 one_before test whole k to x e f none place entry a b there =
     elim (cases_lt k place) [
       | inl l ↦ none place entry (omega arith) b there
@@ -60,13 +61,16 @@ one_before test whole k to x e f none place entry a b there =
 nothing : (test : Entry → Bool) (whole : List Entry) (from to : ℕ) → to ≤ from → NoneBetween test whole from to
 nothing test whole from to h place entry a b there = absurd (omega arith)
 
-pub takes_none : (whole : List Entry) (place : ℕ) (x : Entry) (marks : List (Spot × ℕ)) (key : Option Spot) → key ≡ None → slice_get whole place ≡ Some x → IsReportKey (reverse whole) x key → TakesReport whole place marks marks
+pub takes_none : (whole : List Entry) (place : ℕ) (x : Entry) (marks : List (Spot × ℕ)) (key : Option Spot) → key ≡ None
+    → slice_get whole place ≡ Some x → IsReportKey (reverse whole) x key → TakesReport whole place marks marks
 takes_none whole place x marks key nil e known next who file =
     let quiet : must_report (reverse whole) who file x ≡ false =
     none_of (must_report (reverse whole) who file x) (λ t. let wrong : None ≡ Some (spot who file 0) = sym nil ∙ known who file t in absurd (cc)) in
     one_before (must_report (reverse whole) who file) whole place (length whole - mark_at marks (spot who file 0)) x e quiet (next who file)
 
-pub takes_some : (whole : List Entry) (place : ℕ) (x : Entry) (old new : List (Spot × ℕ)) (key : Option Spot) (at : Spot) → key ≡ Some at → place < length whole → slice_get whole place ≡ Some x → IsReportKey (reverse whole) x key → IsMarked at (length whole - place) old new → TakesReport whole place old new
+pub takes_some : (whole : List Entry) (place : ℕ) (x : Entry) (old new : List (Spot × ℕ)) (key : Option Spot) (at : Spot) → key ≡ Some at
+    → place < length whole → slice_get whole place ≡ Some x → IsReportKey (reverse whole) x key → IsMarked at (length whole - place) old new
+    → TakesReport whole place old new
 takes_some whole place x old new key at is within e known marked next who file =
     elim (cases_Bool (same_spot at (spot who file 0))) [
       | inl y ↦
@@ -87,7 +91,8 @@ takes_some whole place x old new key at is within e known marked next who file =
     ]
 
 -- what a mark tells of a key
-pub next_free : (whole : List Entry) (left : ℕ) (marks : List (Spot × ℕ)) (who : Who) (file : ℕ) (key : Spot) (head call : ℕ) → AreNext whole left marks → key ≡ spot who file 0 → head ≡ mark_at marks key → call ≡ length whole - head → NoneBetween (must_report (reverse whole) who file) whole left call
+pub next_free : (whole : List Entry) (left : ℕ) (marks : List (Spot × ℕ)) (who : Who) (file : ℕ) (key : Spot) (head call : ℕ) → AreNext whole left marks
+    → key ≡ spot who file 0 → head ≡ mark_at marks key → call ≡ length whole - head → NoneBetween (must_report (reverse whole) who file) whole left call
 next_free whole left marks who file key head call next is_key is_head is_call =
     let is : call ≡ length whole - mark_at marks (spot who file 0) = is_call ∙ ap (λ n. length whole - n) (is_head ∙ ap (λ k. mark_at marks k) is_key) in
     subst (λ k. NoneBetween (must_report (reverse whole) who file) whole left k) (sym is) (next who file)
@@ -113,14 +118,18 @@ or_last : (a b : Bool) → b ≡ true → (a || b) ≡ true
 or_last true b h = refl
 or_last false b h = h
 
-one_past : (all before : List Entry) (who : Who) (loss : Loss) (x : Entry) (after : List Entry) → must_report all who loss.file x ≡ false → is_reported all (x ∷ before) who loss after ≡ true → is_reported all before who loss (x ∷ after) ≡ true
+one_past : (all before : List Entry) (who : Who) (loss : Loss) (x : Entry) (after : List Entry) → must_report all who loss.file x ≡ false
+    → is_reported all (x ∷ before) who loss after ≡ true → is_reported all before who loss (x ∷ after) ≡ true
 one_past all before who loss x after f h =
     and_from (not (must_report all who loss.file x) || is_named_at_once all before who loss x after)
     (must_report all who loss.file x || (names all who loss x || is_reported all (x ∷ before) who loss after))
     (ap (λ b. not b || is_named_at_once all before who loss x after) f)
-    (or_last (must_report all who loss.file x) (names all who loss x || is_reported all (x ∷ before) who loss after) (or_last (names all who loss x) (is_reported all (x ∷ before) who loss after) h))
+    (or_last (must_report all who loss.file x) (names all who loss x || is_reported all (x ∷ before) who loss after)
+    (or_last (names all who loss x) (is_reported all (x ∷ before) who loss after) h))
 
-past_all : (whole : List Entry) (who : Who) (loss : Loss) (n from : ℕ) → NoneBetween (must_report (reverse whole) who loss.file) whole from (from + n) → from + n ≤ length whole → is_reported (reverse whole) (reverse (take (from + n) whole)) who loss (drop (from + n) whole) ≡ true → is_reported (reverse whole) (reverse (take from whole)) who loss (drop from whole) ≡ true
+past_all : (whole : List Entry) (who : Who) (loss : Loss) (n from : ℕ) → NoneBetween (must_report (reverse whole) who loss.file) whole from (from + n)
+    → from + n ≤ length whole → is_reported (reverse whole) (reverse (take (from + n) whole)) who loss (drop (from + n) whole) ≡ true
+    → is_reported (reverse whole) (reverse (take from whole)) who loss (drop from whole) ≡ true
 past_all whole who loss zero from none l h =
     let same : from + 0 ≡ from = omega arith in
     subst (λ k. is_reported (reverse whole) (reverse (take k whole)) who loss (drop k whole) ≡ true) same h
@@ -139,13 +148,17 @@ past_all whole who loss (suc n) from none l h =
     ]
 
 -- up to a place no entry has to report it
-past : (whole : List Entry) (who : Who) (loss : Loss) (from to : ℕ) → from ≤ to → to ≤ length whole → NoneBetween (must_report (reverse whole) who loss.file) whole from to → is_reported (reverse whole) (reverse (take to whole)) who loss (drop to whole) ≡ true → is_reported (reverse whole) (reverse (take from whole)) who loss (drop from whole) ≡ true
+past : (whole : List Entry) (who : Who) (loss : Loss) (from to : ℕ) → from ≤ to → to ≤ length whole
+    → NoneBetween (must_report (reverse whole) who loss.file) whole from to
+    → is_reported (reverse whole) (reverse (take to whole)) who loss (drop to whole) ≡ true
+    → is_reported (reverse whole) (reverse (take from whole)) who loss (drop from whole) ≡ true
 past whole who loss from to a b none h =
     let up : to ≡ from + (to - from) = omega arith in
     past_all whole who loss (to - from) from (subst (λ k. NoneBetween (must_report (reverse whole) who loss.file) whole from k) up none) (omega arith)
     (subst (λ k. is_reported (reverse whole) (reverse (take k whole)) who loss (drop k whole) ≡ true) up h)
 
-named_now : (all before : List Entry) (who : Who) (loss : Loss) (x : Entry) (after : List Entry) → names all who loss x ≡ true → is_reported all before who loss (x ∷ after) ≡ true
+named_now : (all before : List Entry) (who : Who) (loss : Loss) (x : Entry) (after : List Entry) → names all who loss x ≡ true
+    → is_reported all before who loss (x ∷ after) ≡ true
 named_now all before who loss (A by q (Lost spans)) after h = ap (λ b. b || is_reported all (A by q (Lost spans) ∷ before) who loss after) h
 named_now all before who loss other after h = absurd (cc)
 
@@ -156,13 +169,17 @@ drop_all (x ∷ xs) zero h = absurd (omega arith)
 drop_all (x ∷ xs) (suc k) h = drop_all xs k (omega arith)
 
 -- no call has to
-pub never_told : (whole : List Entry) (who : Who) (loss : Loss) (from to : ℕ) → from ≤ length whole → length whole ≤ to → NoneBetween (must_report (reverse whole) who loss.file) whole from to → is_reported (reverse whole) (reverse (take from whole)) who loss (drop from whole) ≡ true
+pub never_told : (whole : List Entry) (who : Who) (loss : Loss) (from to : ℕ) → from ≤ length whole → length whole ≤ to
+    → NoneBetween (must_report (reverse whole) who loss.file) whole from to
+    → is_reported (reverse whole) (reverse (take from whole)) who loss (drop from whole) ≡ true
 never_told whole who loss from to a b none =
     past whole who loss from (length whole) a (omega arith) (λ place entry c d there. none place entry c (omega arith) there)
     (subst (λ l. is_reported (reverse whole) (reverse (take (length whole) whole)) who loss l ≡ true) (sym (drop_all whole (length whole) (omega arith))) refl)
 
 -- an answer names it before one has to
-pub told_before : (whole : List Entry) (who : Who) (loss : Loss) (from to at : ℕ) (x : Entry) → from ≤ at → at ≤ to → slice_get whole at ≡ Some x → names (reverse whole) who loss x ≡ true → NoneBetween (must_report (reverse whole) who loss.file) whole from to → is_reported (reverse whole) (reverse (take from whole)) who loss (drop from whole) ≡ true
+pub told_before : (whole : List Entry) (who : Who) (loss : Loss) (from to at : ℕ) (x : Entry) → from ≤ at → at ≤ to → slice_get whole at ≡ Some x
+    → names (reverse whole) who loss x ≡ true → NoneBetween (must_report (reverse whole) who loss.file) whole from to
+    → is_reported (reverse whole) (reverse (take from whole)) who loss (drop from whole) ≡ true
 told_before whole who loss from to at x a b there h none =
     let within : at < length whole = slice_get_within whole at x there in
     past whole who loss from at a (omega arith) (λ place entry c d e. none place entry c (omega arith) e)
@@ -170,7 +187,8 @@ told_before whole who loss from to at x a b there h none =
     (named_now (reverse whole) (reverse (take at whole)) who loss x (drop (at + 1) whole) h))
 
 -- the first answer of a call
-at_once : (all behind before : List Entry) (who : Who) (loss : Loss) (x y : Entry) (after : List Entry) → answers x y ≡ true → names all who loss y ≡ true → is_in_order all behind y (x ∷ before) ≡ true → is_named_at_once all before who loss x (y ∷ after) ≡ true
+at_once : (all behind before : List Entry) (who : Who) (loss : Loss) (x y : Entry) (after : List Entry) → answers x y ≡ true
+    → names all who loss y ≡ true → is_in_order all behind y (x ∷ before) ≡ true → is_named_at_once all before who loss x (y ∷ after) ≡ true
 at_once all behind before who loss (C by q told) (A other n said) after a h ordered =
     let p = and_parts (same_who other by) (nat_eq n q) a in
     let same : other ≡ by = tells_who.sound p.0 in
@@ -182,7 +200,8 @@ at_once all behind before who loss (C by q told) (A other n said) after a h orde
 at_once all behind before who loss (C by q told) other after a h ordered = absurd (cc)
 at_once all behind before who loss x y after a h ordered = absurd (cc)
 
-called_now : (all before : List Entry) (who : Who) (loss : Loss) (x y : Entry) (after : List Entry) → names all who loss y ≡ true → is_named_at_once all before who loss x (y ∷ after) ≡ true → is_reported all before who loss (x ∷ y ∷ after) ≡ true
+called_now : (all before : List Entry) (who : Who) (loss : Loss) (x y : Entry) (after : List Entry) → names all who loss y ≡ true
+    → is_named_at_once all before who loss x (y ∷ after) ≡ true → is_reported all before who loss (x ∷ y ∷ after) ≡ true
 called_now all before who loss x y after h once =
     and_from (not (must_report all who loss.file x) || is_named_at_once all before who loss x (y ∷ after))
     (must_report all who loss.file x || (names all who loss x || is_reported all (x ∷ before) who loss (y ∷ after)))
@@ -191,7 +210,10 @@ called_now all before who loss x y after h once =
     (or_last (names all who loss x) (is_reported all (x ∷ before) who loss (y ∷ after)) (named_now all (x ∷ before) who loss y after h)))
 
 -- the call that has to is answered at once by an A that names it
-pub told_at_once : (whole : List Entry) (who : Who) (loss : Loss) (from to : ℕ) (x y : Entry) → from ≤ to → slice_get whole to ≡ Some x → slice_get whole (to + 1) ≡ Some y → names (reverse whole) who loss y ≡ true → answers x y ≡ true → keeps_at Ordered whole (to + 1) y ≡ true → NoneBetween (must_report (reverse whole) who loss.file) whole from to → is_reported (reverse whole) (reverse (take from whole)) who loss (drop from whole) ≡ true
+pub told_at_once : (whole : List Entry) (who : Who) (loss : Loss) (from to : ℕ) (x y : Entry) → from ≤ to → slice_get whole to ≡ Some x
+    → slice_get whole (to + 1) ≡ Some y → names (reverse whole) who loss y ≡ true → answers x y ≡ true → keeps_at Ordered whole (to + 1) y ≡ true
+    → NoneBetween (must_report (reverse whole) who loss.file) whole from to
+    → is_reported (reverse whole) (reverse (take from whole)) who loss (drop from whole) ≡ true
 told_at_once whole who loss from to x y a there_x there_y h answered ordered none =
     let within : to < length whole = slice_get_within whole to x there_x in
     let in_order : is_in_order (reverse whole) (drop ((to + 1) + 1) whole) y (x ∷ reverse (take to whole)) ≡ true =

@@ -25,10 +25,13 @@ false_of true b f h = absurd (let t = f refl in cc)
 false_of false b f h = refl
 
 -- where the links of a key lead to none, no entry passes a test of entries of that key
-pub none_first : (test : Entry → Bool) (kind : Kind) (key : Spot) (whole : List Entry) (from to : ℕ) → ((entry : Entry) → test entry ≡ true → is_link kind key entry ≡ true) → IsFree kind key whole from to → NoneBetween test whole from to
+pub none_first : (test : Entry → Bool) (kind : Kind) (key : Spot) (whole : List Entry) (from to : ℕ)
+    → ((entry : Entry) → test entry ≡ true → is_link kind key entry ≡ true) → IsFree kind key whole from to → NoneBetween test whole from to
 none_first test kind key whole from to linked free p y a b h = false_of (test y) (is_link kind key y) (linked y) (free p y a b h)
 
-pub none_more : (test : Entry → Bool) (kind : Kind) (key : Spot) (whole : List Entry) (next k to : ℕ) (x : Entry) → ((entry : Entry) → test entry ≡ true → is_link kind key entry ≡ true) → 0 < k → slice_get whole (k - 1) ≡ Some x → test x ≡ false → IsFree kind key whole next (k - 1) → NoneBetween test whole k to → NoneBetween test whole next to
+pub none_more : (test : Entry → Bool) (kind : Kind) (key : Spot) (whole : List Entry) (next k to : ℕ) (x : Entry)
+    → ((entry : Entry) → test entry ≡ true → is_link kind key entry ≡ true) → 0 < k → slice_get whole (k - 1) ≡ Some x → test x ≡ false
+    → IsFree kind key whole next (k - 1) → NoneBetween test whole k to → NoneBetween test whole next to
 none_more test kind key whole next k to x linked up there fails free none p y a b h =
     elim (cases_lt p (k - 1)) [
       | inl l ↦ none_first test kind key whole next (k - 1) linked free p y a l h
@@ -43,13 +46,16 @@ none_more test kind key whole next k to x linked up there fails free none p y a 
     ]
 
 -- a write that stands has the key of its block
-stands_linked_at : (whole before : List Entry) (who : Who) (file block : ℕ) (entry : Entry) → stands whole before who file block entry ≡ true → is_link Writes (block_spot file block) entry ≡ true
+stands_linked_at : (whole before : List Entry) (who : Who) (file block : ℕ) (entry : Entry) → stands whole before who file block entry ≡ true
+    → is_link Writes (block_spot file block) entry ≡ true
 stands_linked_at whole before who file block (W by f b n v through) h =
     (and_parts (nat_eq f file && nat_eq b block) _ h).0
 stands_linked_at whole before who file block other h = absurd (cc)
 
-pub stands_linked : (key : Spot) (whole before : List Entry) (who : Who) (file block : ℕ) → key ≡ block_spot file block → (entry : Entry) → stands whole before who file block entry ≡ true → is_link Writes key entry ≡ true
-stands_linked key whole before who file block e entry h = subst (λ k. is_link Writes k entry ≡ true) (sym e) (stands_linked_at whole before who file block entry h)
+pub stands_linked : (key : Spot) (whole before : List Entry) (who : Who) (file block : ℕ) → key ≡ block_spot file block → (entry : Entry)
+    → stands whole before who file block entry ≡ true → is_link Writes key entry ≡ true
+stands_linked key whole before who file block e entry h =
+    subst (λ k. is_link Writes k entry ≡ true) (sym e) (stands_linked_at whole before who file block entry h)
 
 -- a Z that cuts a block has the key of its file
 cuts_linked_at : (file block : ℕ) (entry : Entry) → cuts entry file block ≡ true → is_link Cuts (block_spot file 0) entry ≡ true
@@ -63,32 +69,39 @@ cuts_linked key file block e entry h = subst (λ k. is_link Cuts k entry ≡ tru
 
 -- ---- values
 
-value_past : (test : Entry → Bool) (file block : ℕ) (x : Entry) (before : List Entry) → test x ≡ false → cuts x file block ≡ false → last_value test (since_cut (x ∷ before) file block) ≡ last_value test (since_cut before file block)
+value_past : (test : Entry → Bool) (file block : ℕ) (x : Entry) (before : List Entry) → test x ≡ false → cuts x file block ≡ false
+    → last_value test (since_cut (x ∷ before) file block) ≡ last_value test (since_cut before file block)
 value_past test file block x before t c =
     ap (λ b. last_value test (if b then [] else x ∷ since_cut before file block)) c
     ∙ ap (λ b. if b then value_written x else last_value test (since_cut before file block)) t
 
-value_cut : (test : Entry → Bool) (file block : ℕ) (x : Entry) (before : List Entry) → cuts x file block ≡ true → last_value test (since_cut (x ∷ before) file block) ≡ 0
+value_cut : (test : Entry → Bool) (file block : ℕ) (x : Entry) (before : List Entry) → cuts x file block ≡ true
+    → last_value test (since_cut (x ∷ before) file block) ≡ 0
 value_cut test file block x before c = ap (λ b. last_value test (if b then [] else x ∷ since_cut before file block)) c
 
-value_hit : (test : Entry → Bool) (file block : ℕ) (x : Entry) (before : List Entry) → test x ≡ true → cuts x file block ≡ false → last_value test (since_cut (x ∷ before) file block) ≡ value_written x
+value_hit : (test : Entry → Bool) (file block : ℕ) (x : Entry) (before : List Entry) → test x ≡ true → cuts x file block ≡ false
+    → last_value test (since_cut (x ∷ before) file block) ≡ value_written x
 value_hit test file block x before t c =
     ap (λ b. last_value test (if b then [] else x ∷ since_cut before file block)) c
     ∙ ap (λ b. if b then value_written x else last_value test (since_cut before file block)) t
 
 -- no entry between two places stands, or cuts
-none_value : (test : Entry → Bool) (file block : ℕ) (whole : List Entry) (from to : ℕ) → from ≤ to → to ≤ length whole → NoneBetween test whole from to → NoneBetween (λ entry. cuts entry file block) whole from to → last_value test (since_cut (reverse (take to whole)) file block) ≡ last_value test (since_cut (reverse (take from whole)) file block)
+none_value : (test : Entry → Bool) (file block : ℕ) (whole : List Entry) (from to : ℕ) → from ≤ to → to ≤ length whole → NoneBetween test whole from to
+    → NoneBetween (λ entry. cuts entry file block) whole from to
+    → last_value test (since_cut (reverse (take to whole)) file block) ≡ last_value test (since_cut (reverse (take from whole)) file block)
 none_value test file block whole from to a b none uncut =
     climb (λ l. last_value test (since_cut l file block) ≡ last_value test (since_cut (reverse (take from whole)) file block)) whole from to a b refl
     (λ place entry before c d there h. value_past test file block entry before (none place entry c d there) (uncut place entry c d there) ∙ h)
 
 -- none stands since a cut
-pub cut_value : (test : Entry → Bool) (file block : ℕ) (whole : List Entry) (from to : ℕ) → to ≤ length whole → NoneBetween test whole from to → HasBetween (λ entry. cuts entry file block) whole from to → last_value test (since_cut (reverse (take to whole)) file block) ≡ 0
+pub cut_value : (test : Entry → Bool) (file block : ℕ) (whole : List Entry) (from to : ℕ) → to ≤ length whole → NoneBetween test whole from to
+    → HasBetween (λ entry. cuts entry file block) whole from to → last_value test (since_cut (reverse (take to whole)) file block) ≡ 0
 cut_value test file block whole from to b none cut =
     let low = cut.low in
     let below = cut.below in
     let here : last_value test (since_cut (reverse (take (cut.place + 1) whole)) file block) ≡ 0 =
-    ap (λ l. last_value test (since_cut l file block)) (taken_here whole cut.place cut.entry cut.there) ∙ value_cut test file block cut.entry (reverse (take cut.place whole)) cut.passes in
+    ap (λ l. last_value test (since_cut l file block)) (taken_here whole cut.place cut.entry cut.there)
+    ∙ value_cut test file block cut.entry (reverse (take cut.place whole)) cut.passes in
     climb (λ l. last_value test (since_cut l file block) ≡ 0) whole (cut.place + 1) to (omega arith) b here
     (λ place entry before c d there h.
     elim (cases_Bool (cuts entry file block)) [
@@ -97,17 +110,22 @@ cut_value test file block whole from to b none cut =
     ])
 
 -- none stands at all
-pub zero_value : (test : Entry → Bool) (file block : ℕ) (whole : List Entry) (at to : ℕ) → at ≡ 0 → to ≤ length whole → NoneBetween test whole at to → NoneBetween (λ entry. cuts entry file block) whole at to → last_value test (since_cut (reverse (take to whole)) file block) ≡ 0
+pub zero_value : (test : Entry → Bool) (file block : ℕ) (whole : List Entry) (at to : ℕ) → at ≡ 0 → to ≤ length whole → NoneBetween test whole at to
+    → NoneBetween (λ entry. cuts entry file block) whole at to → last_value test (since_cut (reverse (take to whole)) file block) ≡ 0
 zero_value test file block whole at to zero b none uncut =
     none_value test file block whole at to (omega arith) b none uncut
     ∙ ap (λ k. last_value test (since_cut (reverse (take k whole)) file block)) zero
 
-uncut_write : (whole before : List Entry) (who : Who) (file block : ℕ) (entry : Entry) → stands whole before who file block entry ≡ true → cuts entry file block ≡ false
+uncut_write : (whole before : List Entry) (who : Who) (file block : ℕ) (entry : Entry) → stands whole before who file block entry ≡ true
+    → cuts entry file block ≡ false
 uncut_write whole before who file block (W by f b n v through) h = refl
 uncut_write whole before who file block other h = absurd (cc)
 
 -- the last that stands, and no cut behind it
-pub hit_value : (all before : List Entry) (who : Who) (file block : ℕ) (whole : List Entry) (k to : ℕ) (x : Entry) → 0 < k → k ≤ to → to ≤ length whole → slice_get whole (k - 1) ≡ Some x → stands all before who file block x ≡ true → NoneBetween (stands all before who file block) whole k to → NoneBetween (λ entry. cuts entry file block) whole k to → last_value (stands all before who file block) (since_cut (reverse (take to whole)) file block) ≡ value_written x
+pub hit_value : (all before : List Entry) (who : Who) (file block : ℕ) (whole : List Entry) (k to : ℕ) (x : Entry) → 0 < k → k ≤ to → to ≤ length whole
+    → slice_get whole (k - 1) ≡ Some x → stands all before who file block x ≡ true → NoneBetween (stands all before who file block) whole k to
+    → NoneBetween (λ entry. cuts entry file block) whole k to
+    → last_value (stands all before who file block) (since_cut (reverse (take to whole)) file block) ≡ value_written x
 hit_value all before who file block whole k to x up a b there t none uncut =
     none_value (stands all before who file block) file block whole k to a b none uncut
     ∙ ap (λ l. last_value (stands all before who file block) (since_cut l file block)) (taken_last whole k x up there)

@@ -34,14 +34,16 @@ at_place whole k place x entry same e there =
     let at_k : slice_get whole k ≡ Some entry = subst (λ i. slice_get whole i ≡ Some entry) same there in
     some_one x entry (sym e ∙ at_k)
 
-pub no_later_next : (whole : List Entry) (k : ℕ) (x : Entry) (time : ℕ) → slice_get whole k ≡ Some x → time ≤ store_time x time → AreNoLater whole k time → AreNoLater whole (k + 1) (store_time x time)
+pub no_later_next : (whole : List Entry) (k : ℕ) (x : Entry) (time : ℕ) → slice_get whole k ≡ Some x → time ≤ store_time x time
+    → AreNoLater whole k time → AreNoLater whole (k + 1) (store_time x time)
 no_later_next whole k x time e up all place entry b there =
     elim (cases_lt place k) [
       | inl l ↦ later entry time (store_time x time) up (all place entry l there)
       | inr least ↦ subst (λ y. IsNoLater (store_time x time) y) (at_place whole k place x entry (omega arith) e there) (itself x time)
     ]
 
-pub rises_next : (whole : List Entry) (k : ℕ) (z : Entry) (time : ℕ) → slice_get whole k ≡ Some z → time ≤ store_time z time → AreNoLater whole k time → Rises whole k → Rises whole (k + 1)
+pub rises_next : (whole : List Entry) (k : ℕ) (z : Entry) (time : ℕ) → slice_get whole k ≡ Some z → time ≤ store_time z time → AreNoLater whole k time
+    → Rises whole k → Rises whole (k + 1)
 rises_next whole k z time e up all rises early late x y a b there_x there_y =
     elim (cases_lt late k) [
       | inl l ↦ rises early late x y a l there_x there_y

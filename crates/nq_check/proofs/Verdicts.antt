@@ -16,7 +16,8 @@ abbrev pub found_before : (xs : List Entry) (place : ℕ) → Option Fault
 found_before xs place = least_fault (reverse xs) (drop place xs) (reverse (take place xs))
 
 -- at the next place it is the same, or else that of the entry there
-pub next_place : (xs : List Entry) (k : ℕ) (x : Entry) → slice_get xs k ≡ Some x → found_before xs (k + 1) ≡ option_or (found_before xs k) (fault_at k (first_rule (reverse xs) (drop (k + 1) xs) x (reverse (take k xs))))
+pub next_place : (xs : List Entry) (k : ℕ) (x : Entry) → slice_get xs k ≡ Some x
+    → found_before xs (k + 1) ≡ option_or (found_before xs k) (fault_at k (first_rule (reverse xs) (drop (k + 1) xs) x (reverse (take k xs))))
 next_place xs k x e =
     let within : k < length xs = slice_get_within xs k x e in
     let long : length (reverse (take k xs)) ≡ k = length-reverse (take k xs) ∙ length-take-le k xs (omega arith) in
@@ -32,12 +33,14 @@ pub stays : (n : ℕ) (xs : List Entry) (k : ℕ) (f : Fault) → k + n ≡ leng
 stays zero xs k f l e = sym (at_the_end xs k (omega arith)) ∙ e
 stays (suc n) xs k f l e =
     elim (slice_get_cases xs k).1 [
-      | inl h ↦ stays n xs (k + 1) f (omega arith) (next_place xs k h.0 h.2 ∙ ap (λ o. option_or o (fault_at k (first_rule (reverse xs) (drop (k + 1) xs) h.0 (reverse (take k xs))))) e)
+      | inl h ↦ stays n xs (k + 1) f (omega arith)
+          (next_place xs k h.0 h.2 ∙ ap (λ o. option_or o (fault_at k (first_rule (reverse xs) (drop (k + 1) xs) h.0 (reverse (take k xs))))) e)
       | inr h ↦ absurd (omega arith)
     ]
 
 -- the entry at a place is at fault, and none before it is
-pub found_here : (xs : List Entry) (k : ℕ) (x : Entry) (rule : Rule) → slice_get xs k ≡ Some x → found_before xs k ≡ None → first_rule (reverse xs) (drop (k + 1) xs) x (reverse (take k xs)) ≡ Some rule → verdict (reverse xs) ≡ Some (record { place = k; rule = rule })
+pub found_here : (xs : List Entry) (k : ℕ) (x : Entry) (rule : Rule) → slice_get xs k ≡ Some x → found_before xs k ≡ None
+    → first_rule (reverse xs) (drop (k + 1) xs) x (reverse (take k xs)) ≡ Some rule → verdict (reverse xs) ≡ Some (record { place = k; rule = rule })
 found_here xs k x rule e none r =
     let within : k < length xs = slice_get_within xs k x e in
     let here = first_rule (reverse xs) (drop (k + 1) xs) x (reverse (take k xs)) in
@@ -45,7 +48,8 @@ found_here xs k x rule e none r =
     (next_place xs k x e ∙ ap (λ o. option_or o (fault_at k here)) none ∙ ap (fault_at k) r)
 
 -- neither it is nor one before it
-pub none_here : (xs : List Entry) (k : ℕ) (x : Entry) → slice_get xs k ≡ Some x → found_before xs k ≡ None → first_rule (reverse xs) (drop (k + 1) xs) x (reverse (take k xs)) ≡ None → found_before xs (k + 1) ≡ None
+pub none_here : (xs : List Entry) (k : ℕ) (x : Entry) → slice_get xs k ≡ Some x → found_before xs k ≡ None
+    → first_rule (reverse xs) (drop (k + 1) xs) x (reverse (take k xs)) ≡ None → found_before xs (k + 1) ≡ None
 none_here xs k x e none r =
     let here = first_rule (reverse xs) (drop (k + 1) xs) x (reverse (take k xs)) in
     next_place xs k x e ∙ ap (λ o. option_or o (fault_at k here)) none ∙ ap (fault_at k) r

@@ -23,7 +23,8 @@ IsBusyCall None q = ⊥
 IsBusyCall (Some busy) q = busy ≡ q
 
 -- the call is open and asks this, and what it is not told to have made, it has not made
-pub record IsOpened (whole before : List Entry) (who : Who) (q : ℕ) (writing : Option Writing) (sizing : Option Sizing) (wrote resized read : Bool) : Type 0 where
+pub record IsOpened (whole before : List Entry) (who : Who) (q : ℕ) (writing : Option Writing) (sizing : Option Sizing)
+    (wrote resized read : Bool) : Type 0 where
   pub opened : is_open before who q ≡ true
   pub told : Told
   pub call : call_of before who q ≡ Some told
@@ -70,7 +71,8 @@ pub record IsNext (who : Who) (next : Option Line) (old new : List ((ℕ × ℕ)
 
 -- where the lines tell of the entries before it, an entry stands in order, and the new lines tell of it, too
 abbrev pub StandsInOrder : (whole after : List Entry) → Entry → (old new : List ((ℕ × ℕ) × Line)) → Type 0
-StandsInOrder whole after entry old new = (before : List Entry) → AreLines whole before old → (is_in_order whole after entry before ≡ true) × AreLines whole (entry ∷ before) new
+StandsInOrder whole after entry old new =
+    (before : List Entry) → AreLines whole before old → (is_in_order whole after entry before ≡ true) × AreLines whole (entry ∷ before) new
 
 -- whether an entry tells nothing of the order of calls
 abbrev pub is_else : Entry → Bool

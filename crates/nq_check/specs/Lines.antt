@@ -48,7 +48,8 @@ begun q told = record { q = q; writing = writing_of told; sizing = sizing_of tol
 -- the line behind a C: its call opens where none is open, and is busy where the next entry says so
 abbrev pub after_call_at : Line → (q : ℕ) (told : Told) (is_busy : Bool) → (current : Option Open) (busy : Option ℕ) → Option Line
 after_call_at line q told is_busy None None = Some (record { highest = q; last = line.last; current = Some (begun q told); busy = None })
-after_call_at line q told is_busy (Some current) None = if is_busy then Some (record { highest = q; last = line.last; current = Some current; busy = Some q }) else None
+after_call_at line q told is_busy (Some current) None =
+    if is_busy then Some (record { highest = q; last = line.last; current = Some current; busy = Some q }) else None
 after_call_at line q told is_busy current (Some other) = None
 
 abbrev pub after_call : Line → (q : ℕ) (told : Told) (is_busy : Bool) → Option Line
@@ -58,7 +59,14 @@ after_call line q told is_busy = if nat_le q line.highest then None else after_c
 abbrev pub after_write_of : Line → (file block number value : ℕ) → (current : Option Open) (busy : Option ℕ) → Option Line
 after_write_of line file block number value (Some current) None =
     if current.wrote || nat_le number line.last || not (is_writing file block value current.writing) then None
-    else Some (record { highest = line.highest; last = number; current = Some (record { q = current.q; writing = current.writing; sizing = current.sizing; wrote = true; resized = current.resized; read = current.read }); busy = None })
+    else Some
+    (record {
+      highest = line.highest;
+      last = number;
+      current = Some
+          (record { q = current.q; writing = current.writing; sizing = current.sizing; wrote = true; resized = current.resized; read = current.read });
+      busy = None;
+    })
 after_write_of line file block number value current busy = None
 
 -- the line behind a Z of the open call
@@ -66,7 +74,14 @@ abbrev pub after_resize_of : Line → (q file to : ℕ) → (current : Option Op
 after_resize_of line q file to None = None
 after_resize_of line q file to (Some current) =
     if (current.q == q) && not current.resized && is_sizing file to current.sizing
-    then Some (record { highest = line.highest; last = line.last; current = Some (record { q = current.q; writing = current.writing; sizing = current.sizing; wrote = current.wrote; resized = true; read = current.read }); busy = line.busy })
+    then Some
+    (record {
+      highest = line.highest;
+      last = line.last;
+      current = Some
+          (record { q = current.q; writing = current.writing; sizing = current.sizing; wrote = current.wrote; resized = true; read = current.read });
+      busy = line.busy;
+    })
     else None
 
 -- the line behind a read of the open call
@@ -74,13 +89,22 @@ abbrev pub after_read_of : Line → (q : ℕ) → (current : Option Open) → Op
 after_read_of line q None = None
 after_read_of line q (Some current) =
     if (current.q == q) && not current.read
-    then Some (record { highest = line.highest; last = line.last; current = Some (record { q = current.q; writing = current.writing; sizing = current.sizing; wrote = current.wrote; resized = current.resized; read = true }); busy = line.busy })
+    then Some
+    (record {
+      highest = line.highest;
+      last = line.last;
+      current = Some
+          (record { q = current.q; writing = current.writing; sizing = current.sizing; wrote = current.wrote; resized = current.resized; read = true });
+      busy = line.busy;
+    })
     else None
 
 -- the line behind an A: of the busy call where there is one, else of the open one
 abbrev pub after_answer_of : Line → (q : ℕ) → (current : Option Open) (busy : Option ℕ) → Option Line
-after_answer_of line q current (Some busy) = if busy == q then Some (record { highest = line.highest; last = line.last; current = current; busy = None }) else None
-after_answer_of line q (Some current) None = if current.q == q then Some (record { highest = line.highest; last = line.last; current = None; busy = None }) else None
+after_answer_of line q current (Some busy) =
+    if busy == q then Some (record { highest = line.highest; last = line.last; current = current; busy = None }) else None
+after_answer_of line q (Some current) None =
+    if current.q == q then Some (record { highest = line.highest; last = line.last; current = None; busy = None }) else None
 after_answer_of line q None None = None
 
 -- the line of an incarnation, in a list of them

@@ -64,4 +64,5 @@ pub record IsLinkedNext (kind : Kind) (place : ℕ) (entry : Entry) (old new : L
 pub record IsLinked (kind : Kind) (whole : List Entry) (linked : ℕ) (heads : List (Spot × ℕ)) (earlier : List ℕ) : Type 0 where
   pub long : length earlier ≡ linked
   pub newest : (key : Spot) → IsFree kind key whole (mark_at heads key) linked
-  pub back : (place : ℕ) (entry : Entry) (e : ℕ) → slice_get whole place ≡ Some entry → slice_get earlier place ≡ Some e → IsFree kind (spot_of kind entry) whole e place
+  pub back : (place : ℕ) (entry : Entry) (e : ℕ) → slice_get whole place ≡ Some entry → slice_get earlier place ≡ Some e
+      → IsFree kind (spot_of kind entry) whole e place

@@ -50,7 +50,8 @@ pub record NamesAnew (before : List Entry) (who : Who) (call : Option Told) (spa
 pub record NamesUpTo (whole before : List Entry) (who : Who) (call : Option Told) (spans : List Span) (place : ℕ) (old new : List (Spot × ℕ)) : Type 0 where
   pub keeps : KeepsMarks old new
   pub marks : (later : List (Spot × ℕ)) → KeepsMarks new later → Each (HasMark later who) (drop place spans) → Each (HasMark later who) spans
-  pub names : Each (IsNamed old) before → Each (HasNoMark new who) (drop place spans) → name_losses whole before who call (drop place spans) ≡ true → name_losses whole before who call spans ≡ true
+  pub names : Each (IsNamed old) before → Each (HasNoMark new who) (drop place spans) → name_losses whole before who call (drop place spans) ≡ true
+      → name_losses whole before who call spans ≡ true
 
 -- all spans do so
 pub record NamesAll (whole before : List Entry) (who : Who) (call : Option Told) (spans : List Span) (old new : List (Spot × ℕ)) : Type 0 where
@@ -62,7 +63,8 @@ pub record NamesAll (whole before : List Entry) (who : Who) (call : Option Told)
 abbrev pub NamesLost : (whole : List Entry) (place : ℕ) (who : Who) (q : ℕ) (spans : List Span) (old new : List (Spot × ℕ)) → Type 0
 NamesLost whole place who q spans old new =
     Each (IsNamed old) (reverse (take place whole))
-    → (name_losses (reverse whole) (reverse (take place whole)) who (call_of (reverse whole) who q) spans ≡ true) × (Each (HasMark new who) spans × Each (IsNamed new) (reverse (take place whole)))
+    → (name_losses (reverse whole) (reverse (take place whole)) who (call_of (reverse whole) who q) spans ≡ true)
+    × (Each (HasMark new who) spans × Each (IsNamed new) (reverse (take place whole)))
 
 -- where each loss that is named before it has a mark, an entry names losses anew, and what it names has a mark, too
 abbrev pub NamesOn : (whole : List Entry) (place : ℕ) → Entry → (old new : List (Spot × ℕ)) → Type 0

@@ -31,7 +31,8 @@ IsReportKey whole entry key = (who : Who) (file : ℕ) → must_report whole who
 -- from a place on, no entry has to report the losses of an incarnation on a file before the one that their mark tells,
 -- counted from the end
 abbrev pub AreNext : (whole : List Entry) (place : ℕ) → List (Spot × ℕ) → Type 0
-AreNext whole place next = (who : Who) (file : ℕ) → NoneBetween (must_report (reverse whole) who file) whole place (length whole - mark_at next (spot who file 0))
+AreNext whole place next =
+    (who : Who) (file : ℕ) → NoneBetween (must_report (reverse whole) who file) whole place (length whole - mark_at next (spot who file 0))
 
 -- what tells so from the next place on tells so from the place of an entry on
 abbrev pub TakesReport : (whole : List Entry) (place : ℕ) → (old new : List (Spot × ℕ)) → Type 0

@@ -12,8 +12,7 @@ ghost use Rattle.nq_model.specs.CutOffTest.{has_passed, is_store_over};
 ghost use Rattle.nq_model.specs.JournalTest.{each};
 ghost use Rattle.nq_model.specs.Table.{same_who};
 
-use crate::links::{Heads, Key, Kind, Links, head_at, link, own_key, set_head};
-use crate::reports::file_key;
+use crate::links::{Heads, Key, Kind, Links, file_key, head_at, link, own_key, set_head};
 use crate::sought::back_from;
 use nq_base::{Entry, FileId, NoMemory, Ticks, Who};
 use nq_rules::excused::{Granted, WRITE_SLACK, grant_by, has_passed, is_grant_over, is_long_wait};

@@ -5,11 +5,11 @@ ghost use Rattle.std.specs.Prelude.{◌≡◌, ◌<◌, length};
 ghost use Rattle.nq_check.specs.Tables.{AreTables};
 
 use crate::covering::{covers_at, write_spot};
-use crate::links::{Heads, Key, head_at, own_key, set_head};
+use crate::links::{Heads, Key, file_key, head_at, own_key, set_head};
 use crate::marks::{Marks, Spot, mark_at};
 use crate::sought::call_along;
 use crate::tables::Tables;
-use nq_base::{BlockNo, Entry, FileId, NoMemory, Number, Said, Told, Who};
+use nq_base::{Entry, FileId, NoMemory, Number, Said, Told, Who};
 use nq_rules::entries::covers;
 use std::alloc::Global;
 use std::collections::HashMap;
@@ -106,13 +106,6 @@ fn settle(
     }
 }
 
-/// The key of a file, as an incarnation knows it.
-pub(crate) fn file_key(who: &Who, file: FileId) -> Key
-    ensures { result ≡ ((who.now.host, who.now.inc), (file, 0)) }
-{
-    own_key(who, file, BlockNo(0))
-}
-
 /// The file of a call that has to report losses.
 fn file_of(call: Option<Told>) -> FileId {
     let Some(told) = call else {
@@ -128,6 +121,82 @@ fn file_of(call: Option<Told>) -> FileId {
     }
 }
 
+/// Sets the fates of the delayed writes that an S or L covers.
+fn settle_covered(
+    search: &mut Search,
+    places: &Marks,
+    whole: &[Entry],
+    place: usize,
+    entry: &Entry,
+) {
+    match entry {
+        Entry::S {
+            who,
+            file,
+            block,
+            first,
+            last,
+            ..
+        }
+        | Entry::L {
+            who,
+            file,
+            block,
+            first,
+            last,
+        } => {
+            let key = own_key(who, *file, *block);
+            let from = last_covered(search, places, whole, entry, write_spot(who, *last), key);
+            settle(search, whole, from, *first, place, entry);
+        }
+        _ => {}
+    }
+}
+
+/// Sets the fates of the losses that an A names.
+fn settle_named(search: &mut Search, tables: &Tables, whole: &[Entry], place: usize, entry: &Entry)
+    requires tables { AreTables whole.now tables.now }
+{
+    match entry {
+        Entry::A {
+            who,
+            q,
+            said: Said::Lost(_),
+        } => {
+            let file = file_of(call_along(&tables.calls, whole, who, *q));
+            let from = head_at(&search.losses, file_key(who, file));
+            settle(search, whole, from, Number(0), place, entry);
+        }
+        _ => {}
+    }
+}
+
+/// The last entry of a key, counted from 1; then the one at a place is the last.
+fn follow(heads: &mut Heads, key: Key, place: usize) -> Result<usize, NoMemory>
+    requires { place < 18446744073709551615 }
+{
+    let earlier = head_at(heads, key);
+    set_head(heads, key, place + 1)?;
+    Ok(earlier)
+}
+
+/// The delayed write before a delayed write, or the L before an L, where those after it look.
+fn link_back(search: &mut Search, place: usize, entry: &Entry) -> Result<usize, NoMemory>
+    requires { place < 18446744073709551615 }
+{
+    match entry {
+        Entry::W {
+            who,
+            file,
+            block,
+            through,
+            ..
+        } if !*through => { follow(&mut search.writes, own_key(who, *file, *block), place) }
+        Entry::L { who, file, .. } => follow(&mut search.losses, file_key(who, *file), place),
+        _ => Ok(0),
+    }
+}
+
 /// Takes in the entry at a place.
 fn take_in(
     search: &mut Search,
@@ -140,56 +209,9 @@ fn take_in(
     requires tables { AreTables whole.now tables.now }
     requires within { place < length whole.now }
 {
-    let mut earlier = 0;
-    match entry {
-        Entry::W {
-            who,
-            file,
-            block,
-            through,
-            ..
-        } if !*through => {
-            let key = own_key(who, *file, *block);
-            earlier = head_at(&search.writes, key);
-            set_head(&mut search.writes, key, place + 1)?;
-        }
-        Entry::S {
-            who,
-            file,
-            block,
-            first,
-            last,
-            ..
-        } => {
-            let key = own_key(who, *file, *block);
-            let from = last_covered(search, places, whole, entry, write_spot(who, *last), key);
-            settle(search, whole, from, *first, place, entry);
-        }
-        Entry::L {
-            who,
-            file,
-            block,
-            first,
-            last,
-        } => {
-            let key = own_key(who, *file, *block);
-            let from = last_covered(search, places, whole, entry, write_spot(who, *last), key);
-            settle(search, whole, from, *first, place, entry);
-            let key = file_key(who, *file);
-            earlier = head_at(&search.losses, key);
-            set_head(&mut search.losses, key, place + 1)?;
-        }
-        Entry::A {
-            who,
-            q,
-            said: Said::Lost(_),
-        } => {
-            let file = file_of(call_along(&tables.calls, whole, who, *q));
-            let from = head_at(&search.losses, file_key(who, file));
-            settle(search, whole, from, Number(0), place, entry);
-        }
-        _ => {}
-    }
+    settle_covered(search, places, whole, place, entry);
+    settle_named(search, tables, whole, place, entry);
+    let earlier = link_back(search, place, entry)?;
     search.fates.push(NOWHERE)?;
     search.earlier.push(earlier)?;
     Ok(())

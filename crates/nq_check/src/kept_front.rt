@@ -8,17 +8,16 @@ ghost use Rattle.nq_check.specs.Links.{IsLinked};
 ghost use Rattle.nq_check.specs.Tables.{AreTables};
 ghost use Rattle.nq_check.specs.declared.links.Kind.TheVariants.{Delays};
 ghost use Rattle.nq_rules.specs.declared.Rule.{Rule};
-ghost use Rattle.nq_model.specs.Journal.{call_of};
 ghost use Rattle.nq_model.specs.JournalTest.{is_answer};
 
 use crate::fates::Fates;
 use crate::latest::latest_of;
 use crate::puts::is_put_kept;
 use crate::sought::call_along;
-use crate::syncs::{is_resize_kept, is_sync_kept};
+use crate::syncs::{Asked, is_resize_kept, is_sync_kept};
 use crate::tables::Tables;
 use crate::trail::{Trail, no_trail, take_in};
-use nq_base::{Entry, NoMemory, Said, Told, Who};
+use nq_base::{Entry, NoMemory, Said, Told};
 use nq_rules::synchronized::is_kept;
 use std::alloc::Global;
 
@@ -30,32 +29,27 @@ fn is_seen_kept(
     whole: &[Entry],
     place: usize,
     entry: &Entry,
-    by: &Who,
-    n: u64,
-    call: &Option<Told>,
+    asked: &Asked,
 ) -> bool
     requires tables { AreTables whole.now tables.now }
     requires there { (place < length whole.now) × (slice_get whole.now place ≡ Some entry.now) }
-    requires answer { is_answer by.now n entry.now ≡ true }
+    requires answer { is_answer asked.now.who.now asked.now.q entry.now ≡ true }
     requires ordered { KeepsBelow Rule.Ordered whole.now (place + 1) }
     requires kept { KeepsBelow Rule.Synchronized whole.now place }
     requires linked { IsLinked Delays whole.now place trail.now.delays.heads.entries trail.now.delays.earlier.items }
-    ensures { IsTrue result → is_kept (reverse whole.now) (reverse (take place whole.now)) by.now n call.now ≡ true }
+    ensures { IsTrue result → is_kept (reverse whole.now) (reverse (take place whole.now)) asked.now.who.now asked.now.q asked.now.call ≡ true }
 {
-    let Some(told) = call else {
+    let Some(told) = asked.call else {
         return false;
     };
     match told {
         Told::WriteSync { .. } => {
-            let latest = latest_of(&trail.latests, by);
-            is_put_kept(tables, whole, &latest, place, entry, by, n)
+            let latest = latest_of(&trail.latests, asked.who);
+            is_put_kept(tables, whole, &latest, place, entry, asked.who, asked.q)
         }
-        Told::Sync { file } => is_sync_kept(tables, fates, trail, whole, place, by, *file),
-        Told::Resize { file, .. } => {
-            is_resize_kept(tables, fates, trail, whole, place, by, n, *file)
-        }
-        Told::Remove { file } => {
-            is_resize_kept(tables, fates, trail, whole, place, by, n, *file)
+        Told::Sync { file } => is_sync_kept(tables, fates, trail, whole, place, asked.who, file),
+        Told::Resize { file, .. } | Told::Remove { file } => {
+            is_resize_kept(tables, fates, trail, whole, place, asked, file)
         }
         _ => false,
     }
@@ -69,22 +63,20 @@ fn is_ok_kept(
     whole: &[Entry],
     place: usize,
     entry: &Entry,
-    by: &Who,
-    n: u64,
+    asked: &Asked,
 ) -> bool
     requires tables { AreTables whole.now tables.now }
     requires there { (place < length whole.now) × (slice_get whole.now place ≡ Some entry.now) }
-    requires answer { is_answer by.now n entry.now ≡ true }
+    requires answer { is_answer asked.now.who.now asked.now.q entry.now ≡ true }
     requires ordered { KeepsBelow Rule.Ordered whole.now (place + 1) }
     requires kept { KeepsBelow Rule.Synchronized whole.now place }
     requires linked { IsLinked Delays whole.now place trail.now.delays.heads.entries trail.now.delays.earlier.items }
-    ensures { result ≡ is_kept (reverse whole.now) (reverse (take place whole.now)) by.now n (call_of (reverse whole.now) by.now n) }
+    ensures { result ≡ is_kept (reverse whole.now) (reverse (take place whole.now)) asked.now.who.now asked.now.q asked.now.call }
 {
-    let call = call_along(&tables.calls, whole, by, n);
-    if is_seen_kept(tables, fates, trail, whole, place, entry, by, n, &call) {
+    if is_seen_kept(tables, fates, trail, whole, place, entry, asked) {
         return true;
     }
-    is_kept(whole, &whole[..place], by, n, &call)
+    is_kept(whole, &whole[..place], asked.who, asked.q, &asked.call)
 }
 
 /// Whether an A that says ok is kept, where links show what its call asks.
@@ -107,18 +99,15 @@ fn is_kept_at(
         Entry::A {
             who,
             q,
-            said: Said::Ok,
-        } => is_ok_kept(tables, fates, trail, whole, place, entry, who, *q),
-        Entry::A {
-            who,
-            q,
-            said: Said::OkValue(_),
-        } => is_ok_kept(tables, fates, trail, whole, place, entry, who, *q),
-        Entry::A {
-            who,
-            q,
-            said: Said::OkBy { .. },
-        } => is_ok_kept(tables, fates, trail, whole, place, entry, who, *q),
+            said: Said::Ok | Said::OkValue(_) | Said::OkBy { .. },
+        } => {
+            let asked = Asked {
+                who,
+                q: *q,
+                call: call_along(&tables.calls, whole, who, *q),
+            };
+            is_ok_kept(tables, fates, trail, whole, place, entry, &asked)
+        }
         _ => true,
     }
 }

@@ -21,6 +21,13 @@ use nq_rules::calls::is_reading;
 use nq_rules::entries::{cuts, is_read_by, is_through, is_write_by, is_write_on, value_written};
 use nq_rules::legal::Reading;
 
+/// Where to look first for what became of a delayed write, and how far the entries account for what they cover.
+#[derive(Clone, Copy)]
+struct Hints<'a> {
+    fates: &'a Fates,
+    accounted: usize,
+}
+
 /// Whether an entry is a counted read.
 fn is_counted(tables: &Tables, whole: &[Entry], entry: &Entry) -> bool
     requires tables { AreTables whole.now tables.now }
@@ -45,24 +52,17 @@ fn is_counted(tables: &Tables, whole: &[Entry], entry: &Entry) -> bool
 
 /// Whether an S covers the write at a place. The entry that is its fate is looked at first: where all entries are known to
 /// account for what they cover, no S covers a write that was lost.
-fn is_stored(
-    tables: &Tables,
-    fates: &Fates,
-    accounted: usize,
-    whole: &[Entry],
-    at: usize,
-    write: &Entry,
-) -> bool
+fn is_stored(tables: &Tables, hints: &Hints, whole: &[Entry], at: usize, write: &Entry) -> bool
     requires tables { AreTables whole.now tables.now }
-    requires accounted { KeepsBelow Rule.Accounted whole.now accounted }
+    requires accounted { KeepsBelow Rule.Accounted whole.now hints.now.accounted }
     requires there { slice_get whole.now at ≡ Some write.now }
     ensures { result ≡ is_stored (reverse whole.now) write.now }
 {
-    let fate = fate_at(fates, at);
+    let fate = fate_at(hints.fates, at);
     if is_stored_at(whole, fate, write) {
         return true;
     }
-    if accounted >= whole.len() && is_lost_at(whole, fate, write) {
+    if hints.accounted >= whole.len() && is_lost_at(whole, fate, write) {
         return false;
     }
     is_somewhere(&tables.covers, whole, Sought::Store(write))
@@ -90,8 +90,7 @@ fn is_lost(
 /// Whether the write at a place stands for the read at another.
 fn stands(
     tables: &Tables,
-    fates: &Fates,
-    accounted: usize,
+    hints: &Hints,
     whole: &[Entry],
     place: usize,
     read: &Reading,
@@ -99,47 +98,39 @@ fn stands(
     write: &Entry,
 ) -> bool
     requires tables { AreTables whole.now tables.now }
-    requires accounted { KeepsBelow Rule.Accounted whole.now accounted }
+    requires accounted { KeepsBelow Rule.Accounted whole.now hints.now.accounted }
     requires there { slice_get whole.now at ≡ Some write.now }
     requires within { place < length whole.now }
     ensures { result ≡ stands (reverse whole.now) (reverse (take place whole.now)) read.now.who.now read.now.file read.now.block write.now }
 {
     is_write_on(write, read.file, read.block)
         && (is_through(write)
-            || (is_stored(tables, fates, accounted, whole, at, write)
+            || (is_stored(tables, hints, whole, at, write)
                 || is_write_by(write, read.who)
-                    && !is_lost(tables, fates, whole, place, at, write)))
+                    && !is_lost(tables, hints.fates, whole, place, at, write)))
 }
 
 /// The place of the last write before a read that stands for it, counted from 1, or 0 where there is none.
 fn last_standing(
     tables: &Tables,
-    fates: &Fates,
-    accounted: usize,
+    hints: &Hints,
     whole: &[Entry],
     place: usize,
     read: &Reading,
 ) -> usize
     requires tables { AreTables whole.now tables.now }
-    requires accounted { KeepsBelow Rule.Accounted whole.now accounted }
+    requires accounted { KeepsBelow Rule.Accounted whole.now hints.now.accounted }
     requires within { place < length whole.now }
     ensures low { result ≤ place }
-    ensures none { NoneBetween (stands (reverse whole.now) (reverse (take place whole.now)) read.now.who.now read.now.file read.now.block) whole.now result place }
-    ensures there { 0 < result → (write : Entry) → slice_get whole.now (result - 1) ≡ Some write → stands (reverse whole.now) (reverse (take place whole.now)) read.now.who.now read.now.file read.now.block write ≡ true }
+    ensures none { NoneBetween (stands (reverse whole.now) (reverse (take place whole.now)) read.now.who.now read.now.file read.now.block) whole.now
+        result place }
+    ensures there { 0 < result → (write : Entry) → slice_get whole.now (result - 1) ≡ Some write
+        → stands (reverse whole.now) (reverse (take place whole.now)) read.now.who.now read.now.file read.now.block write ≡ true }
 {
     let key = block_key(read.file, read.block);
     let mut at = back_from(&tables.writes, Kind::Writes, key, whole, place);
     while at > 0 {
-        if stands(
-            tables,
-            fates,
-            accounted,
-            whole,
-            place,
-            read,
-            at - 1,
-            &whole[at - 1],
-        ) {
+        if stands(tables, hints, whole, place, read, at - 1, &whole[at - 1]) {
             return at;
         }
         at = back_from(&tables.writes, Kind::Writes, key, whole, at - 1);
@@ -168,18 +159,17 @@ fn is_cut_since(tables: &Tables, whole: &[Entry], from: usize, place: usize, rea
 /// The value of the last write before a read that stands for it, or 0 where there is none.
 fn standing_value(
     tables: &Tables,
-    fates: &Fates,
-    accounted: usize,
+    hints: &Hints,
     whole: &[Entry],
     place: usize,
     read: &Reading,
 ) -> u32
     requires tables { AreTables whole.now tables.now }
-    requires accounted { KeepsBelow Rule.Accounted whole.now accounted }
+    requires accounted { KeepsBelow Rule.Accounted whole.now hints.now.accounted }
     requires within { place < length whole.now }
     ensures { result ≡ standing_value (reverse whole.now) (reverse (take place whole.now)) read.now.who.now read.now.file read.now.block }
 {
-    let at = last_standing(tables, fates, accounted, whole, place, read);
+    let at = last_standing(tables, hints, whole, place, read);
     if is_cut_since(tables, whole, at, place, read) {
         return 0;
     }
@@ -192,18 +182,18 @@ fn standing_value(
 /// Whether a counted read is legal.
 fn is_legal_read(
     tables: &Tables,
-    fates: &Fates,
-    accounted: usize,
+    hints: &Hints,
     whole: &[Entry],
     place: usize,
     read: &Reading,
 ) -> bool
     requires tables { AreTables whole.now tables.now }
-    requires accounted { KeepsBelow Rule.Accounted whole.now accounted }
+    requires accounted { KeepsBelow Rule.Accounted whole.now hints.now.accounted }
     requires within { place < length whole.now }
-    ensures { result ≡ is_legal_read (reverse whole.now) (reverse (take place whole.now)) read.now.who.now read.now.q read.now.file read.now.block read.now.value }
+    ensures { result ≡ is_legal_read (reverse whole.now) (reverse (take place whole.now)) read.now.who.now read.now.q read.now.file read.now.block
+        read.now.value }
 {
-    read.value == standing_value(tables, fates, accounted, whole, place, read)
+    read.value == standing_value(tables, hints, whole, place, read)
         && is_reading(call_along(&tables.calls, whole, read.who, read.q))
         && is_somewhere(
             &tables.calls,
@@ -276,16 +266,9 @@ fn answers_legally(tables: &Tables, whole: &[Entry], by: &Who, n: u64, v: u32) -
 }
 
 /// Whether the entry at a place is legal, as the links show.
-fn is_legal(
-    tables: &Tables,
-    fates: &Fates,
-    accounted: usize,
-    whole: &[Entry],
-    place: usize,
-    entry: &Entry,
-) -> bool
+fn is_legal(tables: &Tables, hints: &Hints, whole: &[Entry], place: usize, entry: &Entry) -> bool
     requires tables { AreTables whole.now tables.now }
-    requires accounted { KeepsBelow Rule.Accounted whole.now accounted }
+    requires accounted { KeepsBelow Rule.Accounted whole.now hints.now.accounted }
     requires within { place < length whole.now }
     ensures { result ≡ is_legal_at (reverse whole.now) entry.now (reverse (take place whole.now)) }
 {
@@ -301,8 +284,7 @@ fn is_legal(
             !is_counted(tables, whole, entry)
                 || is_legal_read(
                     tables,
-                    fates,
-                    accounted,
+                    hints,
                     whole,
                     place,
                     &Reading {
@@ -339,8 +321,9 @@ pub(crate) fn legal_front(
     requires accounted { KeepsBelow Rule.Accounted whole.now accounted }
     ensures { KeepsBelow Rule.Legal whole.now result }
 {
+    let hints = Hints { fates, accounted };
     for (place, entry) in whole.iter().enumerate() {
-        if !is_legal(tables, fates, accounted, whole, place, entry) {
+        if !is_legal(tables, &hints, whole, place, entry) {
             return place;
         }
     }

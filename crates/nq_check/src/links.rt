@@ -4,6 +4,7 @@
 ghost use Rattle.std.specs.Prelude.{◌≡◌, ◌<◌, IfOk, OnOk, length};
 ghost use Rattle.nq_check.specs.Links.{IsLinked, IsLinkedNext, is_member, spot_of};
 ghost use Rattle.nq_check.specs.Marks.{IsMarked, mark_at, same_spot};
+ghost use Rattle.nq_check.specs.declared.links.Kind.TheVariants.{Grants, Stores, Own, Calls, Writes, Covers, Cuts, Delays};
 
 use nq_base::{BlockNo, Entry, FileId, NoMemory, Who};
 use std::alloc::Global;
@@ -69,6 +70,13 @@ pub(crate) fn own_key(who: &Who, file: FileId, block: BlockNo) -> Key
     )
 }
 
+/// The key of a file as an incarnation's own.
+pub(crate) fn file_key(who: &Who, file: FileId) -> Key
+    ensures { result ≡ ((who.now.host, who.now.inc), (file, 0)) }
+{
+    own_key(who, file, BlockNo(0))
+}
+
 /// Whether two keys are one.
 pub(crate) fn same_key(a: Key, b: Key) -> bool
     ensures { result ≡ same_spot a b }
@@ -76,77 +84,129 @@ pub(crate) fn same_key(a: Key, b: Key) -> bool
     (a.0.0 == b.0.0 && a.0.1 == b.0.1) && (a.1.0 == b.1.0 && a.1.1 == b.1.1)
 }
 
+/// The key of a grant, and of an L that asks for it.
+fn grant_key(entry: &Entry) -> Key
+    ensures { result ≡ spot_of Grants entry.now }
+{
+    match entry {
+        Entry::G { who, file, .. } | Entry::L { who, file, .. } => file_key(who, *file),
+        _ => ((0, 0), (0, 0)),
+    }
+}
+
+/// The key of an S among those of its file, and of an L that asks for it.
+fn store_key(entry: &Entry) -> Key
+    ensures { result ≡ spot_of Stores entry.now }
+{
+    match entry {
+        Entry::S { who, file, .. } | Entry::L { who, file, .. } => file_key(who, *file),
+        _ => ((0, 0), (0, 0)),
+    }
+}
+
+/// The key of a write among those of its incarnation, and of an L that asks for it.
+fn write_key(entry: &Entry) -> Key
+    ensures { result ≡ spot_of Own entry.now }
+{
+    match entry {
+        Entry::W {
+            who,
+            file,
+            block,
+            ..
+        }
+        | Entry::L {
+            who,
+            file,
+            block,
+            ..
+        } => own_key(who, *file, *block),
+        _ => ((0, 0), (0, 0)),
+    }
+}
+
+/// The key of an entry of a call.
+fn call_key_of(entry: &Entry) -> Key
+    ensures { result ≡ spot_of Calls entry.now }
+{
+    match entry {
+        Entry::C { who, q, .. } | Entry::R { who, q, .. } | Entry::A { who, q, .. } => call_key(
+            who, *q,
+        ),
+        _ => ((0, 0), (0, 0)),
+    }
+}
+
+/// The key of a write among those of its block, and of a read that asks for it.
+fn block_key_of(entry: &Entry) -> Key
+    ensures { result ≡ spot_of Writes entry.now }
+{
+    match entry {
+        Entry::W { file, block, .. } | Entry::R { file, block, .. } => block_key(*file, *block),
+        _ => ((0, 0), (0, 0)),
+    }
+}
+
+/// The key of an S or L, and of a read that asks for it.
+fn cover_key(entry: &Entry) -> Key
+    ensures { result ≡ spot_of Covers entry.now }
+{
+    match entry {
+        Entry::S {
+            who,
+            file,
+            block,
+            ..
+        }
+        | Entry::L {
+            who,
+            file,
+            block,
+            ..
+        }
+        | Entry::R {
+            who,
+            file,
+            block,
+            ..
+        } => own_key(who, *file, *block),
+        _ => ((0, 0), (0, 0)),
+    }
+}
+
+/// The key of a Z, and of a read that asks for it.
+fn cut_key(entry: &Entry) -> Key
+    ensures { result ≡ spot_of Cuts entry.now }
+{
+    match entry {
+        Entry::Z { file, .. } | Entry::R { file, .. } => block_key(*file, BlockNo(0)),
+        _ => ((0, 0), (0, 0)),
+    }
+}
+
+/// The key of a delayed write among those of its file.
+fn delay_key(entry: &Entry) -> Key
+    ensures { result ≡ spot_of Delays entry.now }
+{
+    match entry {
+        Entry::W { who, file, .. } => file_key(who, *file),
+        _ => ((0, 0), (0, 0)),
+    }
+}
+
 /// The key of an entry.
 pub(crate) fn key_of(kind: Kind, entry: &Entry) -> Key
     ensures { result ≡ spot_of kind entry.now }
 {
     match kind {
-        Kind::Grants => match entry {
-            Entry::G { who, file, .. } => own_key(who, *file, BlockNo(0)),
-            Entry::L { who, file, .. } => own_key(who, *file, BlockNo(0)),
-            _ => ((0, 0), (0, 0)),
-        },
-        Kind::Stores => match entry {
-            Entry::S { who, file, .. } => own_key(who, *file, BlockNo(0)),
-            Entry::L { who, file, .. } => own_key(who, *file, BlockNo(0)),
-            _ => ((0, 0), (0, 0)),
-        },
-        Kind::Own => match entry {
-            Entry::W {
-                who,
-                file,
-                block,
-                ..
-            } => own_key(who, *file, *block),
-            Entry::L {
-                who,
-                file,
-                block,
-                ..
-            } => own_key(who, *file, *block),
-            _ => ((0, 0), (0, 0)),
-        },
-        Kind::Calls => match entry {
-            Entry::C { who, q, .. } => call_key(who, *q),
-            Entry::R { who, q, .. } => call_key(who, *q),
-            Entry::A { who, q, .. } => call_key(who, *q),
-            _ => ((0, 0), (0, 0)),
-        },
-        Kind::Writes => match entry {
-            Entry::W { file, block, .. } => block_key(*file, *block),
-            Entry::R { file, block, .. } => block_key(*file, *block),
-            _ => ((0, 0), (0, 0)),
-        },
-        Kind::Covers => match entry {
-            Entry::S {
-                who,
-                file,
-                block,
-                ..
-            } => own_key(who, *file, *block),
-            Entry::L {
-                who,
-                file,
-                block,
-                ..
-            } => own_key(who, *file, *block),
-            Entry::R {
-                who,
-                file,
-                block,
-                ..
-            } => own_key(who, *file, *block),
-            _ => ((0, 0), (0, 0)),
-        },
-        Kind::Cuts => match entry {
-            Entry::Z { file, .. } => block_key(*file, BlockNo(0)),
-            Entry::R { file, .. } => block_key(*file, BlockNo(0)),
-            _ => ((0, 0), (0, 0)),
-        },
-        Kind::Delays => match entry {
-            Entry::W { who, file, .. } => own_key(who, *file, BlockNo(0)),
-            _ => ((0, 0), (0, 0)),
-        },
+        Kind::Grants => grant_key(entry),
+        Kind::Stores => store_key(entry),
+        Kind::Own => write_key(entry),
+        Kind::Calls => call_key_of(entry),
+        Kind::Writes => block_key_of(entry),
+        Kind::Covers => cover_key(entry),
+        Kind::Cuts => cut_key(entry),
+        Kind::Delays => delay_key(entry),
     }
 }
 

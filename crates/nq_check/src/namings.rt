@@ -90,7 +90,8 @@ fn name_anew(
     span: &Span,
 ) -> Result<bool, NoMemory>
     requires within { place < length whole.now }
-    ensures { IfOk result (λ yes. IsTrue yes → NamesAnew (reverse (take place whole.now)) by.now call.now span.now (place + 1) names.old.named.entries names.new.named.entries) }
+    ensures { IfOk result (λ yes. IsTrue yes
+        → NamesAnew (reverse (take place whole.now)) by.now call.now span.now (place + 1) names.old.named.entries names.new.named.entries) }
 {
     let key = loss_key(by, span.first, span.last);
     let at = head_at(&names.lost, key);
@@ -111,7 +112,9 @@ fn name_all_anew(
     spans: &Spans,
 ) -> Result<bool, NoMemory>
     requires within { place < length whole.now }
-    ensures { IfOk result (λ yes. IsTrue yes → NamesAll (reverse whole.now) (reverse (take place whole.now)) by.now call.now spans.now.items names.old.named.entries names.new.named.entries) }
+    ensures { IfOk result (λ yes. IsTrue yes
+        → NamesAll (reverse whole.now) (reverse (take place whole.now)) by.now call.now spans.now.items names.old.named.entries
+        names.new.named.entries) }
 {
     for index in 0..spans.len() {
         let span = span_at(spans, index);

@@ -4,7 +4,6 @@ ghost use Rattle.std.specs.Prelude.{◌≡◌, ◌+◌, ◌<◌, true, IsTrue, S
 ghost use Rattle.std.specs.List.{slice_get};
 ghost use Rattle.nq_check.specs.Fronts.{KeepsBelow};
 ghost use Rattle.nq_check.specs.Losses.{PassBetween, is_told};
-ghost use Rattle.nq_check.specs.Marks.{spot};
 ghost use Rattle.nq_rules.specs.Named.{is_reported};
 ghost use Rattle.nq_check.specs.Reports.{AreNext, IsReportKey, TakesReport, answers, reports_of};
 ghost use Rattle.nq_check.specs.Tables.{AreTables};
@@ -14,23 +13,16 @@ ghost use Rattle.nq_model.specs.ReportedTest.{is_busy_answer, names};
 
 use crate::behind::front_with;
 use crate::covering::entry_at;
-use crate::links::{Heads, Key, head_at, own_key, set_head};
+use crate::links::{Heads, Key, file_key, head_at, set_head};
 use crate::namings::loss_key;
 use crate::sought::call_along;
 use crate::tables::Tables;
-use nq_base::{BlockNo, Entry, FileId, Loss, NoMemory, Said, Told, Who};
+use nq_base::{Entry, Loss, NoMemory, Said, Told, Who};
 use nq_rules::calls::speaks_of;
 use nq_rules::entries::{is_answer, is_busy_answer};
 use nq_rules::named::are_names_of;
 use std::alloc::Global;
 use std::collections::HashMap;
-
-/// The key of a file, as an incarnation's own.
-pub(crate) fn file_key(who: &Who, file: FileId) -> Key
-    ensures { result ≡ spot who.now file 0 }
-{
-    own_key(who, file, BlockNo(0))
-}
 
 /// The incarnation and file whose losses a call reports, if any.
 fn reports_of(who: &Who, told: &Told) -> Option<Key>
@@ -90,7 +82,7 @@ fn take_report(
 }
 
 /// Whether an entry is an A `lost` that names a loss.
-fn names(tables: &Tables, whole: &[Entry], by: &Who, loss: &Loss, entry: &Entry) -> bool
+pub(crate) fn names(tables: &Tables, whole: &[Entry], by: &Who, loss: &Loss, entry: &Entry) -> bool
     requires tables { AreTables whole.now tables.now }
     ensures { result ≡ names (reverse whole.now) by.now loss.now entry.now }
 {

@@ -10,32 +10,19 @@ ghost use Rattle.nq_model.specs.ReportedTest.{names};
 ghost use Rattle.nq_model.specs.SynchronizedTest.{are_stored_or_told, is_named_loss, is_stored_or_told};
 
 use crate::covering::entry_at;
-use crate::fates::{Fates, fate_at, file_key};
-use crate::links::{Key, Kind, Links, head_at, key_of, same_key};
-use crate::sought::call_along;
+use crate::fates::{Fates, fate_at};
+use crate::links::{Key, Kind, Links, file_key, head_at, key_of, same_key};
+use crate::reports::names;
 use crate::tables::Tables;
-use nq_base::{Entry, FileId, Loss, Said, Who};
-use nq_rules::calls::speaks_of;
+use nq_base::{Entry, FileId, Loss, Who};
 use nq_rules::entries::{loss_covers, store_covers};
-use nq_rules::named::are_names_of;
 
-/// Whether an entry is an A `lost` of an incarnation on the file of a loss, and names the loss.
-fn names(tables: &Tables, whole: &[Entry], by: &Who, loss: &Loss, entry: &Entry) -> bool
-    requires tables { AreTables whole.now tables.now }
-    ensures { result ≡ names (reverse whole.now) by.now loss.now entry.now }
-{
-    match entry {
-        Entry::A {
-            who,
-            q,
-            said: Said::Lost(spans),
-        } => {
-            *by == *who
-                && are_names_of(loss, spans)
-                && speaks_of(loss.file, call_along(&tables.calls, whole, who, *q))
-        }
-        _ => false,
-    }
+/// Whose delayed writes have to be settled: those of an incarnation on a file, before a place.
+#[derive(Clone, Copy)]
+pub(crate) struct Settling<'a> {
+    pub(crate) who: &'a Who,
+    pub(crate) file: FileId,
+    pub(crate) place: usize,
 }
 
 /// Whether the entry at a place, among those before an answer, names a loss.
@@ -176,39 +163,32 @@ fn delayed_before(delays: &Links, whole: &[Entry], key: Key, place: usize, at: u
     at
 }
 
-/// Whether each delayed write of an incarnation on a file before a place is stored, by an S among the `stores`, or told. Those
-/// before another place are known to be.
+/// Whether each of the delayed writes that have to be settled is stored, by an S among the `stores`, or told. Those before
+/// another place are known to be.
 pub(crate) fn are_settled(
     tables: &Tables,
     fates: &Fates,
     delays: &Links,
     whole: &[Entry],
     stores: &[Entry],
-    place: usize,
     known: usize,
-    by: &Who,
-    on: FileId,
+    these: &Settling,
 ) -> bool
     requires tables { AreTables whole.now tables.now }
-    requires linked { IsLinked Delays whole.now place delays.now.heads.entries delays.now.earlier.items }
-    requires within { place < length whole.now }
-    requires known { (known ≤ place) × (are_stored_or_told (reverse whole.now) (reverse stores.now) (reverse (take known whole.now)) by.now on ≡ true) }
-    ensures { IsTrue result → are_stored_or_told (reverse whole.now) (reverse stores.now) (reverse (take place whole.now)) by.now on ≡ true }
+    requires linked { IsLinked Delays whole.now these.now.place delays.now.heads.entries delays.now.earlier.items }
+    requires within { these.now.place < length whole.now }
+    requires known { (known ≤ these.now.place) × (are_stored_or_told (reverse whole.now) (reverse stores.now) (reverse (take known whole.now))
+        these.now.who.now these.now.file ≡ true) }
+    ensures { IsTrue result → are_stored_or_told (reverse whole.now) (reverse stores.now) (reverse (take these.now.place whole.now)) these.now.who.now
+        these.now.file ≡ true }
 {
+    let place = these.place;
     let answered = &whole[..place];
-    let key = file_key(by, on);
+    let key = file_key(these.who, these.file);
     let mut at = last_delayed(delays, whole, key, place);
     while at > known {
-        let write = &whole[at - 1];
-        if !is_settled(
-            tables,
-            fates,
-            whole,
-            stores,
-            answered,
-            fate_at(fates, at - 1),
-            write,
-        ) {
+        let fate = fate_at(fates, at - 1);
+        if !is_settled(tables, fates, whole, stores, answered, fate, &whole[at - 1]) {
             return false;
         }
         at = delayed_before(delays, whole, key, place, at - 1);

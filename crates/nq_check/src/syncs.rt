@@ -11,15 +11,23 @@ ghost use Rattle.nq_rules.specs.declared.Rule.TheVariants.{Synchronized};
 ghost use Rattle.nq_model.specs.JournalTest.{somewhere};
 ghost use Rattle.nq_model.specs.SynchronizedTest.{are_stored_or_told, is_settled_resize};
 
-use crate::fates::{Fates, file_key};
+use crate::fates::Fates;
 use crate::latest::latest_of;
-use crate::links::head_at;
-use crate::settled::are_settled;
+use crate::links::{file_key, head_at};
+use crate::settled::{Settling, are_settled};
 use crate::sought::call_along;
 use crate::tables::Tables;
 use crate::trail::Trail;
 use nq_base::{Entry, FileId, Said, Told, Who};
 use nq_rules::entries::is_resize_by;
+
+/// A call as its A names it, and what it asks.
+#[derive(Clone, Copy)]
+pub(crate) struct Asked<'a> {
+    pub(crate) who: &'a Who,
+    pub(crate) q: u64,
+    pub(crate) call: Option<Told>,
+}
 
 /// Whether a call is a `sync` of a file.
 fn is_sync_of(on: FileId, call: Option<Told>) -> bool
@@ -140,17 +148,12 @@ pub(crate) fn is_sync_kept(
     ensures { IsTrue result → are_stored_or_told (reverse whole.now) (reverse whole.now) (reverse (take place whole.now)) by.now on ≡ true }
 {
     let known = synced_before(tables, trail, whole, place, by, on);
-    are_settled(
-        tables,
-        fates,
-        &trail.delays,
-        whole,
-        whole,
+    let these = Settling {
+        who: by,
+        file: on,
         place,
-        known,
-        by,
-        on,
-    )
+    };
+    are_settled(tables, fates, &trail.delays, whole, whole, known, &these)
 }
 
 /// Whether the last Z of an incarnation before an A is the Z of its call, and each delayed write on the file before the A is
@@ -161,30 +164,33 @@ pub(crate) fn is_resize_kept(
     trail: &Trail,
     whole: &[Entry],
     place: usize,
-    by: &Who,
-    n: u64,
+    asked: &Asked,
     on: FileId,
 ) -> bool
     requires tables { AreTables whole.now tables.now }
     requires linked { IsLinked Delays whole.now place trail.now.delays.heads.entries trail.now.delays.earlier.items }
     requires within { place < length whole.now }
     requires kept { KeepsBelow Synchronized whole.now place }
-    ensures { IsTrue result → somewhere (is_settled_resize (reverse whole.now) (reverse (take place whole.now)) by.now n on) (reverse (take place whole.now)) ≡ true }
+    ensures { IsTrue result → somewhere (is_settled_resize (reverse whole.now) (reverse (take place whole.now)) asked.now.who.now asked.now.q on)
+        (reverse (take place whole.now)) ≡ true }
 {
-    let at = latest_of(&trail.latests, by).resize;
-    if at >= place || !is_resize_by(&whole[at], by, n) {
+    let at = latest_of(&trail.latests, asked.who).resize;
+    if at >= place || !is_resize_by(&whole[at], asked.who, asked.q) {
         return false;
     }
-    let known = resized_before(tables, trail, whole, at, place, by, on);
+    let known = resized_before(tables, trail, whole, at, place, asked.who, on);
+    let these = Settling {
+        who: asked.who,
+        file: on,
+        place,
+    };
     are_settled(
         tables,
         fates,
         &trail.delays,
         whole,
         &whole[..at],
-        place,
         known,
-        by,
-        on,
+        &these,
     )
 }

@@ -5,9 +5,8 @@ ghost use Rattle.nq_check.specs.Links.{IsLinkedNext};
 ghost use Rattle.nq_check.specs.Tables.{AreTables};
 ghost use Rattle.nq_check.specs.declared.links.Kind.TheVariants.{Delays};
 
-use crate::fates::file_key;
 use crate::latest::{Latests, note};
-use crate::links::{Heads, Kind, Links, link_entry, set_head};
+use crate::links::{Heads, Kind, Links, file_key, link_entry, set_head};
 use crate::sought::call_along;
 use crate::tables::Tables;
 use nq_base::{Entry, NoMemory, Said, Told};
@@ -65,7 +64,8 @@ pub(crate) fn take_in(
 ) -> Result<(), NoMemory>
     requires tables { AreTables whole.now tables.now }
     requires within { place < length whole.now }
-    ensures { OnOk result (IsLinkedNext Delays place entry.now trail.old.delays.heads.entries trail.new.delays.heads.entries trail.old.delays.earlier.items trail.new.delays.earlier.items) }
+    ensures { OnOk result (IsLinkedNext Delays place entry.now trail.old.delays.heads.entries trail.new.delays.heads.entries
+        trail.old.delays.earlier.items trail.new.delays.earlier.items) }
 {
     link_entry(&mut trail.delays, Kind::Delays, place, entry)?;
     note(&mut trail.latests, place, entry)?;

@@ -54,11 +54,7 @@ fn block_words(alloc: Global, entry: &Entry) -> Result<String, NoMemory> {
             ..
         } => {
             let word = if *through { "writes" } else { "delays" };
-            let file = file.0;
-            let block = block.0;
-            let number = number.0;
-            let value = *value;
-            Ok(format!(in alloc; "{word} {file}:{block} = {value}, write {number}")?)
+            written_words(alloc, word, file.0, block.0, *value, number.0)
         }
         Entry::R {
             file,
@@ -73,6 +69,25 @@ fn block_words(alloc: Global, entry: &Entry) -> Result<String, NoMemory> {
             let value = *value;
             Ok(format!(in alloc; "{word} {file}:{block} = {value}")?)
         }
+        _ => stored_words(alloc, entry),
+    }
+}
+
+/// A write.
+fn written_words(
+    alloc: Global,
+    word: &str,
+    file: u32,
+    block: u32,
+    value: u32,
+    number: u64,
+) -> Result<String, NoMemory> {
+    Ok(format!(in alloc; "{word} {file}:{block} = {value}, write {number}")?)
+}
+
+/// A store or a loss.
+fn stored_words(alloc: Global, entry: &Entry) -> Result<String, NoMemory> {
+    match entry {
         Entry::S {
             file,
             block,

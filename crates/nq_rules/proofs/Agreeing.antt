@@ -58,29 +58,39 @@ and_same false b c f = refl
 and_same true b c f = rw (f refl) (and_true b)
 
 -- an answer that stands in order is the first of its call
-first_answer : (whole : List Entry) (by : Who) (q : ℕ) (told : Told) (next : Entry) (before after : List Entry) → is_answer by q next ≡ true → is_in_order whole after next (C by q told ∷ before) ≡ true → not (exists (is_answer by q) before) ≡ true
+first_answer : (whole : List Entry) (by : Who) (q : ℕ) (told : Told) (next : Entry) (before after : List Entry) → is_answer by q next ≡ true
+    → is_in_order whole after next (C by q told ∷ before) ≡ true → not (exists (is_answer by q) before) ≡ true
 first_answer whole by q told (A who n said) before after e o =
     let h = (tells_answer by q (A who n said)).sound e in
     let at : not (exists (is_answer by n) before) ≡ true = subst (λ (w : Who). not (exists (is_answer w n) before) ≡ true) h.0 o in
     subst (λ (m : ℕ). not (exists (is_answer by m) before) ≡ true) h.1 at
 first_answer whole by q told other before after e o = absurd (cc)
 
-named_same : (whole : List Entry) (who : Who) (loss : Loss) (entry : Entry) (before after : List Entry) → Ahead (InOrder whole) (entry ∷ before) after → is_named_at_once whole before who loss entry after ≡ is_named_next whole who loss entry after
+named_same : (whole : List Entry) (who : Who) (loss : Loss) (entry : Entry) (before after : List Entry) → Ahead (InOrder whole) (entry ∷ before) after
+    → is_named_at_once whole before who loss entry after ≡ is_named_next whole who loss entry after
 named_same whole who loss (C by q told) before [] h = refl
 named_same whole who loss (C by q told) before (next ∷ after) h =
-    and_same (is_answer by q next) (names whole who loss next) (not (exists (is_answer by q) before)) (λ e. first_answer whole by q told next before after e h.0)
+    and_same (is_answer by q next) (names whole who loss next) (not (exists (is_answer by q) before))
+    (λ e. first_answer whole by q told next before after e h.0)
 named_same whole who loss other before after h = refl
 
-reported_on : (whole : List Entry) (who : Who) (loss : Loss) (before after : List Entry) → Ahead (InOrder whole) before after → is_reported whole before who loss after ≡ is_reported_in whole who loss after
+reported_on : (whole : List Entry) (who : Who) (loss : Loss) (before after : List Entry) → Ahead (InOrder whole) before after
+    → is_reported whole before who loss after ≡ is_reported_in whole who loss after
 reported_on whole who loss before [] h = refl
 reported_on whole who loss before (entry ∷ after) h =
-    let once : is_named_at_once whole before who loss entry after ≡ is_named_next whole who loss entry after = named_same whole who loss entry before after h.1 in
-    let rest : is_reported whole (entry ∷ before) who loss after ≡ is_reported_in whole who loss after = reported_on whole who loss (entry ∷ before) after h.1 in
-    ap (λ n. (not (must_report whole who loss.file entry) || n) && (must_report whole who loss.file entry || (names whole who loss entry || is_reported whole (entry ∷ before) who loss after))) once
-    ∙ ap (λ r. (not (must_report whole who loss.file entry) || is_named_next whole who loss entry after) && (must_report whole who loss.file entry || (names whole who loss entry || r))) rest
+    let once : is_named_at_once whole before who loss entry after ≡ is_named_next whole who loss entry after = named_same whole who loss entry before
+    after h.1 in
+    let rest : is_reported whole (entry ∷ before) who loss after ≡ is_reported_in whole who loss after = reported_on whole who loss (entry ∷ before)
+    after h.1 in
+    ap (λ n. (not (must_report whole who loss.file entry) || n) &&
+    (must_report whole who loss.file entry || (names whole who loss entry || is_reported whole (entry ∷ before) who loss after))) once
+    ∙ ap (λ r. (not (must_report whole who loss.file entry) || is_named_next whole who loss entry after) &&
+    (must_report whole who loss.file entry || (names whole who loss entry || r))) rest
 
-pub reported_same : (whole after : List Entry) (entry : Entry) (before : List Entry) → Ahead (InOrder whole) (entry ∷ before) after → is_reported_at whole after entry before ≡ is_reported_by_law whole after entry before
-reported_same whole after (L who file block first last) before h = reported_on whole who (loss_told file block first last) (L who file block first last ∷ before) after h
+pub reported_same : (whole after : List Entry) (entry : Entry) (before : List Entry) → Ahead (InOrder whole) (entry ∷ before) after
+    → is_reported_at whole after entry before ≡ is_reported_by_law whole after entry before
+reported_same whole after (L who file block first last) before h =
+    reported_on whole who (loss_told file block first last) (L who file block first last ∷ before) after h
 reported_same whole after (A who q (Lost spans)) before h = refl
 reported_same whole after other before h = refl
 
@@ -91,7 +101,8 @@ other_is true true e h a b = h
 other_is true false e h a b = absurd (cc)
 other_is false o e h a b = absurd (cc)
 
-only_at : (before : List Entry) (by : Who) (p q : ℕ) (entry : Entry) (entries : List Entry) → is_no_other before by p entry ≡ true → each (is_no_other before by p) entries ≡ true → is_open before by q ≡ true → is_call by q entry ≡ true → q ≡ p
+only_at : (before : List Entry) (by : Who) (p q : ℕ) (entry : Entry) (entries : List Entry) → is_no_other before by p entry ≡ true
+    → each (is_no_other before by p) entries ≡ true → is_open before by q ≡ true → is_call by q entry ≡ true → q ≡ p
 only_at before by p q (C who n told) entries here none opened call =
     let h = and_parts (same_who who by) (n == q) call in
     let same : n ≡ q = eqb-true n q h.1 in
@@ -101,7 +112,8 @@ only_at before by p q (C who n told) entries here none opened call =
 only_at before by p q other entries here none opened call = absurd (cc)
 
 -- where another open call would have to be this one, an open call is this one
-only_here : (before : List Entry) (by : Who) (p q : ℕ) (entries : List Entry) → each (is_no_other before by p) entries ≡ true → exists (is_call by q) entries ≡ true → is_open before by q ≡ true → q ≡ p
+only_here : (before : List Entry) (by : Who) (p q : ℕ) (entries : List Entry) → each (is_no_other before by p) entries ≡ true
+    → exists (is_call by q) entries ≡ true → is_open before by q ≡ true → q ≡ p
 only_here before by p q [] none call opened = absurd (cc)
 only_here before by p q (entry ∷ entries) none call opened =
     let h = and_parts (is_no_other before by p entry) (each (is_no_other before by p) entries) none in
@@ -114,7 +126,8 @@ only_here before by p q (entry ∷ entries) none call opened =
 abbrev WritesAlone : (before : List Entry) (by : Who) (file block value q : ℕ) → Bool
 WritesAlone before by file block value q = each (is_no_other before by q) before && writes file block value (call_of before by q)
 
-of_call : (before : List Entry) (by : Who) (file block number value : ℕ) (found : Option ℕ) → is_write_of before by file block number value found ≡ true → (q : ℕ) → is_open before by q ≡ true → WritesAlone before by file block value q ≡ true
+of_call : (before : List Entry) (by : Who) (file block number value : ℕ) (found : Option ℕ) → is_write_of before by file block number value found ≡ true
+    → (q : ℕ) → is_open before by q ≡ true → WritesAlone before by file block value q ≡ true
 of_call before by file block number value None h q opened = absurd (cc)
 of_call before by file block number value (Some p) h q opened =
     let fresh = not (exists (is_numbered by number) before) in
@@ -131,29 +144,37 @@ middle false o a w k f = refl
 middle true false a w k f = refl
 middle true true a w k f = let h = and_parts a w (f refl refl) in rw (h.0, h.1) refl
 
-alone_by : (before : List Entry) (who by : Who) (file block number value q : ℕ) → is_write_in_order before by file block number value ≡ true → same_who by who ≡ true → is_open before who q ≡ true → WritesAlone before who file block value q ≡ true
+alone_by : (before : List Entry) (who by : Who) (file block number value q : ℕ) → is_write_in_order before by file block number value ≡ true
+    → same_who by who ≡ true → is_open before who q ≡ true → WritesAlone before who file block value q ≡ true
 alone_by before who by file block number value q h s opened =
     let e : who ≡ by = sym ((tells_who {a = by} {b = who}).sound s) in
     let open_by : is_open before by q ≡ true = subst (λ (w : Who). is_open before w q ≡ true) e opened in
-    subst (λ (w : Who). WritesAlone before w file block value q ≡ true) (sym e) (of_call before by file block number value (open_call before by before) h q open_by)
+    subst (λ (w : Who). WritesAlone before w file block value q ≡ true) (sym e)
+    (of_call before by file block number value (open_call before by before) h q open_by)
 
-put_same : (answered : List Entry) (who : Who) (q : ℕ) (entry : Entry) (before : List Entry) → WriteInOrder entry before → is_put_kept answered who q entry before ≡ is_put_kept_by_law answered who q entry before
+put_same : (answered : List Entry) (who : Who) (q : ℕ) (entry : Entry) (before : List Entry) → WriteInOrder entry before
+    → is_put_kept answered who q entry before ≡ is_put_kept_by_law answered who q entry before
 put_same answered who q (W by file block number value through) before h =
     middle (same_who by who) (is_open before who q) (each (is_no_other before who q) before) (writes file block value (call_of before who q))
     (is_through (W by file block number value through) || is_stored answered (W by file block number value through))
     (alone_by before who by file block number value q h)
 put_same answered who q other before h = refl
 
-somewhere_same : (f g : Entry → List Entry → Bool) (Fact : Entry → List Entry → Type 0) → ((entry : Entry) (before : List Entry) → Fact entry before → f entry before ≡ g entry before) → (journal : List Entry) → Throughout Fact journal → somewhere f journal ≡ somewhere g journal
+somewhere_same : (f g : Entry → List Entry → Bool) (Fact : Entry → List Entry → Type 0)
+    → ((entry : Entry) (before : List Entry) → Fact entry before → f entry before ≡ g entry before) → (journal : List Entry) → Throughout Fact journal
+    → somewhere f journal ≡ somewhere g journal
 somewhere_same f g Fact same [] h = refl
 somewhere_same f g Fact same (entry ∷ before) h =
     ap (λ x. x || somewhere f before) (same entry before h.0) ∙ ap (λ x. g entry before || x) (somewhere_same f g Fact same before h.1)
 
-kept_call : (whole before : List Entry) (who : Who) (q : ℕ) (call : Option Told) → Throughout WriteInOrder before → is_kept whole before who q call ≡ is_kept_by_law whole before who q call
-kept_call whole before who q (Some (WriteSync file block value)) h = somewhere_same (is_put_kept before who q) (is_put_kept_by_law before who q) WriteInOrder (put_same before who q) before h
+kept_call : (whole before : List Entry) (who : Who) (q : ℕ) (call : Option Told) → Throughout WriteInOrder before
+    → is_kept whole before who q call ≡ is_kept_by_law whole before who q call
+kept_call whole before who q (Some (WriteSync file block value)) h =
+    somewhere_same (is_put_kept before who q) (is_put_kept_by_law before who q) WriteInOrder (put_same before who q) before h
 kept_call whole before who q other h = refl
 
-pub kept_same : (whole : List Entry) (entry : Entry) (before : List Entry) → Throughout WriteInOrder before → is_kept_at whole entry before ≡ is_kept_at_by_law whole entry before
+pub kept_same : (whole : List Entry) (entry : Entry) (before : List Entry) → Throughout WriteInOrder before
+    → is_kept_at whole entry before ≡ is_kept_at_by_law whole entry before
 kept_same whole (A who q Ok) before h = kept_call whole before who q (call_of whole who q) h
 kept_same whole (A who q (OkValue value)) before h = kept_call whole before who q (call_of whole who q) h
 kept_same whole (A who q (OkBy value packet)) before h = kept_call whole before who q (call_of whole who q) h
@@ -196,7 +217,8 @@ or_second true b h t = h
 or_second false b h t = absurd (cc)
 
 -- a counted read that stands in order is the first of its call
-counted_first : (whole after : List Entry) (who : Who) (q : ℕ) (entry : Entry) (before : List Entry) → is_in_order whole after entry before ≡ true → is_counted_by whole who q entry ≡ true → number_of (is_counted_by whole who q) before ≡ 0
+counted_first : (whole after : List Entry) (who : Who) (q : ℕ) (entry : Entry) (before : List Entry) → is_in_order whole after entry before ≡ true
+    → is_counted_by whole who q entry ≡ true → number_of (is_counted_by whole who q) before ≡ 0
 counted_first whole after who q (R by n file block value served) before o e =
     let read : Entry = R by n file block value served in
     let h = and_parts (is_read_by who q read) (is_counted whole read) e in
@@ -204,18 +226,21 @@ counted_first whole after who q (R by n file block value served) before o e =
     let w : by ≡ who = (tells_who {a = by} {b = who}).sound r.0 in
     let m : n ≡ q = eqb-true n q r.1 in
     let in_order = or_second (is_counted whole read) (is_read_in_order whole before by n) o h.1 in
-    let none : not (exists (is_counted_by whole by n) before) ≡ true = (and_parts (is_open before by n) (not (exists (is_counted_by whole by n) before)) in_order).1 in
+    let none : not (exists (is_counted_by whole by n) before) ≡ true =
+    (and_parts (is_open before by n) (not (exists (is_counted_by whole by n) before)) in_order).1 in
     let of_who = subst (λ (z : Who). not (exists (is_counted_by whole z n) before) ≡ true) w none in
     none_of (is_counted_by whole who q) before (subst (λ (k : ℕ). not (exists (is_counted_by whole who k) before) ≡ true) m of_who)
 counted_first whole after who q other before o e = absurd (cc)
 
-one_counted : (whole after journal : List Entry) (who : Who) (q : ℕ) → AtEachPlace (InOrder whole) after journal → number_of (is_counted_by whole who q) journal ≤ 1
+one_counted : (whole after journal : List Entry) (who : Who) (q : ℕ) → AtEachPlace (InOrder whole) after journal
+    → number_of (is_counted_by whole who q) journal ≤ 1
 one_counted whole after [] who q h = omega arith
 one_counted whole after (entry ∷ before) who q h =
     one_if (is_counted_by whole who q entry) (number_of (is_counted_by whole who q) before)
     (one_counted whole (entry ∷ after) before who q h.1) (counted_first whole after who q entry before h.0)
 
-with_by : (whole : List Entry) (who : Who) (q value : ℕ) (entry : Entry) → is_counted_with whole who q value entry ≡ true → is_counted_by whole who q entry ≡ true
+with_by : (whole : List Entry) (who : Who) (q value : ℕ) (entry : Entry) → is_counted_with whole who q value entry ≡ true
+    → is_counted_by whole who q entry ≡ true
 with_by whole who q value (R by n file block v served) h = (and_parts (v == value) (is_counted_by whole who q (R by n file block v served)) h).1
 with_by whole who q value other h = absurd (cc)
 
@@ -227,16 +252,19 @@ one_with true own all l m some none =
     eq-eqb own 1 one ∙ sym (le-leb all 1 m)
 one_with false own all l m some none = let zero : own ≡ 0 = none refl in rw zero refl
 
-answer_same : (whole : List Entry) (who : Who) (q value : ℕ) → AtEachPlace (InOrder whole) [] whole → is_legal_answer whole who q value ≡ is_legal_answer_by_law whole who q value
+answer_same : (whole : List Entry) (who : Who) (q value : ℕ) → AtEachPlace (InOrder whole) [] whole
+    → is_legal_answer whole who q value ≡ is_legal_answer_by_law whole who q value
 unfolding is_legal_answer
 answer_same whole who q value h =
-    one_with (exists (is_counted_with whole who q value) whole) (number_of (is_counted_with whole who q value) whole) (number_of (is_counted_by whole who q) whole)
+    one_with (exists (is_counted_with whole who q value) whole) (number_of (is_counted_with whole who q value) whole)
+    (number_of (is_counted_by whole who q) whole)
     (fewer (is_counted_with whole who q value) (is_counted_by whole who q) whole (with_by whole who q value))
     (one_counted whole [] whole who q h)
     (some_of (is_counted_with whole who q value) whole)
     (none_of (is_counted_with whole who q value) whole)
 
-pub legal_same : (whole : List Entry) (entry : Entry) (before : List Entry) → AtEachPlace (InOrder whole) [] whole → is_legal_at whole entry before ≡ is_legal_at_by_law whole entry before
+pub legal_same : (whole : List Entry) (entry : Entry) (before : List Entry) → AtEachPlace (InOrder whole) [] whole
+    → is_legal_at whole entry before ≡ is_legal_at_by_law whole entry before
 legal_same whole (A who q (OkValue value)) before h = ap (λ b. not (is_reading (call_of whole who q)) || b) (answer_same whole who q value h)
 legal_same whole (A who q (OkBy value packet)) before h = ap (λ b. not (is_reading (call_of whole who q)) || b) (answer_same whole who q value h)
 legal_same whole other before h = refl
@@ -248,7 +276,8 @@ pub record Same (whole after : List Entry) (entry : Entry) (before : List Entry)
   pub reported : is_reported_at whole after entry before ≡ is_reported_by_law whole after entry before
   pub kept : is_kept_at whole entry before ≡ is_kept_at_by_law whole entry before
 
-pub all_same : (whole after journal : List Entry) → AtEachPlace (InOrder whole) after journal → Ahead (InOrder whole) journal after → AtEachPlace (Same whole) after journal
+pub all_same : (whole after journal : List Entry) → AtEachPlace (InOrder whole) after journal → Ahead (InOrder whole) journal after
+    → AtEachPlace (Same whole) after journal
 all_same whole after [] h ahead = tt
 all_same whole after (entry ∷ before) h ahead = (
   record {

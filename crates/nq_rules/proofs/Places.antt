@@ -22,7 +22,8 @@ taken_here xs k x e =
     last_first xs k x within ∙ ap (λ y. y ∷ reverse (take k xs)) here
 
 -- and where it does not, some element passes from the next place on
-pub any_past : {X : Type 0} (test : X → Bool) (xs : List X) (k : ℕ) (x : X) → slice_get xs k ≡ Some x → test x ≡ false → list_any test (drop k xs) ≡ list_any test (drop (k + 1) xs)
+pub any_past : {X : Type 0} (test : X → Bool) (xs : List X) (k : ℕ) (x : X) → slice_get xs k ≡ Some x → test x ≡ false
+    → list_any test (drop k xs) ≡ list_any test (drop (k + 1) xs)
 any_past test xs k x e f = rw (drop_here xs k x e, f) refl
 
 -- there is an element at each place
@@ -66,11 +67,13 @@ any_near test xs k =
     ∙ ap (exists test) (take-append-drop k xs) ∙ sym (exists_turned test xs)
 
 -- one that passes among those from a place on
-pub near_first : {X : Type 0} (test : X → Bool) (xs front back : List X) (k : ℕ) → front ≡ take k xs → back ≡ drop k xs → list_any test back ≡ true → true ≡ exists test (reverse xs)
+pub near_first : {X : Type 0} (test : X → Bool) (xs front back : List X) (k : ℕ) → front ≡ take k xs → back ≡ drop k xs → list_any test back ≡ true
+    → true ≡ exists test (reverse xs)
 near_first test xs front back k f b t =
     ap (λ r. r || list_any test (take k xs)) (sym t ∙ ap (list_any test) b) ∙ any_near test xs k
 
 -- where none of them passes, one of those before it
-pub near_then : {X : Type 0} (test : X → Bool) (xs front back : List X) (k : ℕ) → front ≡ take k xs → back ≡ drop k xs → list_any test back ≡ false → list_any test front ≡ exists test (reverse xs)
+pub near_then : {X : Type 0} (test : X → Bool) (xs front back : List X) (k : ℕ) → front ≡ take k xs → back ≡ drop k xs → list_any test back ≡ false
+    → list_any test front ≡ exists test (reverse xs)
 near_then test xs front back k f b t =
     ap (list_any test) f ∙ ap (λ r. r || list_any test (take k xs)) (sym t ∙ ap (list_any test) b) ∙ any_near test xs k

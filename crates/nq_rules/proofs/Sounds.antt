@@ -28,29 +28,37 @@ use Rattle.nq_rules.specs.Verdict.{fault_at, least_fault, verdict}
 
 -- ---- facts at each place
 
-at_each : (P Q : List Entry → Entry → List Entry → Type 0) → ((after : List Entry) (entry : Entry) (before : List Entry) → P after entry before → Q after entry before) → (after journal : List Entry) → AtEachPlace P after journal → AtEachPlace Q after journal
+at_each : (P Q : List Entry → Entry → List Entry → Type 0)
+    → ((after : List Entry) (entry : Entry) (before : List Entry) → P after entry before → Q after entry before) → (after journal : List Entry)
+    → AtEachPlace P after journal → AtEachPlace Q after journal
 at_each P Q f after [] h = tt
 at_each P Q f after (entry ∷ before) h = (f after entry before h.0, at_each P Q f (entry ∷ after) before h.1)
 
-both : (P Q : List Entry → Entry → List Entry → Type 0) → (after journal : List Entry) → AtEachPlace P after journal → AtEachPlace Q after journal → AtEachPlace (λ a e b. P a e b × Q a e b) after journal
+both : (P Q : List Entry → Entry → List Entry → Type 0) → (after journal : List Entry) → AtEachPlace P after journal → AtEachPlace Q after journal
+    → AtEachPlace (λ a e b. P a e b × Q a e b) after journal
 both P Q after [] p q = tt
 both P Q after (entry ∷ before) p q = ((p.0, q.0), both P Q (entry ∷ after) before p.1 q.1)
 
 -- a test that is true at each place
-each_true : (test : List Entry → Entry → List Entry → Bool) (after journal : List Entry) → AtEachPlace (λ a e b. test a e b ≡ true) after journal → at_each_place test after journal ≡ true
+each_true : (test : List Entry → Entry → List Entry → Bool) (after journal : List Entry) → AtEachPlace (λ a e b. test a e b ≡ true) after journal
+    → at_each_place test after journal ≡ true
 each_true test after [] h = refl
-each_true test after (entry ∷ before) h = and_from (test after entry before) (at_each_place test (entry ∷ after) before) h.0 (each_true test (entry ∷ after) before h.1)
+each_true test after (entry ∷ before) h =
+    and_from (test after entry before) (at_each_place test (entry ∷ after) before) h.0 (each_true test (entry ∷ after) before h.1)
 
-each_so : (test : List Entry → Entry → List Entry → Bool) (after journal : List Entry) → at_each_place test after journal ≡ true → AtEachPlace (λ a e b. test a e b ≡ true) after journal
+each_so : (test : List Entry → Entry → List Entry → Bool) (after journal : List Entry) → at_each_place test after journal ≡ true
+    → AtEachPlace (λ a e b. test a e b ≡ true) after journal
 each_so test after [] h = tt
 each_so test after (entry ∷ before) h =
     let p = and_parts (test after entry before) (at_each_place test (entry ∷ after) before) h in (p.0, each_so test (entry ∷ after) before p.1)
 
-throughout_true : (test : Entry → List Entry → Bool) (after journal : List Entry) → AtEachPlace (λ a e b. test e b ≡ true) after journal → throughout test journal ≡ true
+throughout_true : (test : Entry → List Entry → Bool) (after journal : List Entry) → AtEachPlace (λ a e b. test e b ≡ true) after journal
+    → throughout test journal ≡ true
 throughout_true test after [] h = refl
 throughout_true test after (entry ∷ before) h = and_from (test entry before) (throughout test before) h.0 (throughout_true test (entry ∷ after) before h.1)
 
-throughout_so : (test : Entry → List Entry → Bool) (after journal : List Entry) → throughout test journal ≡ true → AtEachPlace (λ a e b. test e b ≡ true) after journal
+throughout_so : (test : Entry → List Entry → Bool) (after journal : List Entry) → throughout test journal ≡ true
+    → AtEachPlace (λ a e b. test e b ≡ true) after journal
 throughout_so test after [] h = tt
 throughout_so test after (entry ∷ before) h =
     let p = and_parts (test entry before) (throughout test before) h in (p.0, throughout_so test (entry ∷ after) before p.1)
@@ -66,7 +74,9 @@ record Faultless (whole after : List Entry) (entry : Entry) (before : List Entry
   kept : is_kept_at whole entry before ≡ true
 
 abbrev first_of_five : (a b c d e : Bool) → Option Rule
-first_of_five a b c d e = if a then (if b then (if c then (if d then (if e then None else Some Synchronized) else Some Reported) else Some Accounted) else Some Ordered) else Some Legal
+first_of_five a b c d e =
+    if a then (if b then (if c then (if d then (if e then None else Some Synchronized) else Some Reported) else Some Accounted) else Some Ordered) else
+    Some Legal
 
 none_of_five : (a b c d e : Bool) → first_of_five a b c d e ≡ None → (a ≡ true) × (b ≡ true) × (c ≡ true) × (d ≡ true) × (e ≡ true)
 none_of_five true true true true true h = (refl, refl, refl, refl, refl)
@@ -76,14 +86,17 @@ none_of_five true true false d e h = absurd (cc)
 none_of_five true false c d e h = absurd (cc)
 none_of_five false b c d e h = absurd (cc)
 
-five_of : (whole after : List Entry) (entry : Entry) (before : List Entry) → first_rule whole after entry before ≡ first_of_five (is_legal_at whole entry before) (is_in_order whole after entry before) (is_accounted_at whole entry before) (is_cut_off after entry before && is_reported_at whole after entry before) (is_kept_at whole entry before)
+five_of : (whole after : List Entry) (entry : Entry) (before : List Entry)
+    → first_rule whole after entry before ≡ first_of_five (is_legal_at whole entry before) (is_in_order whole after entry before)
+    (is_accounted_at whole entry before) (is_cut_off after entry before && is_reported_at whole after entry before) (is_kept_at whole entry before)
 unfolding first_rule
 five_of whole after entry before = refl
 
 faultless : (whole after : List Entry) (entry : Entry) (before : List Entry) → first_rule whole after entry before ≡ None → Faultless whole after entry before
 faultless whole after entry before h =
     let told = is_cut_off after entry before && is_reported_at whole after entry before in
-    let f = none_of_five (is_legal_at whole entry before) (is_in_order whole after entry before) (is_accounted_at whole entry before) told (is_kept_at whole entry before) (sym (five_of whole after entry before) ∙ h) in
+    let f = none_of_five (is_legal_at whole entry before) (is_in_order whole after entry before) (is_accounted_at whole entry before) told
+    (is_kept_at whole entry before) (sym (five_of whole after entry before) ∙ h) in
     let g = and_parts (is_cut_off after entry before) (is_reported_at whole after entry before) f.3 in
     record { legal = f.0; ordered = f.1; accounted = f.2; excused = g.0; reported = g.1; kept = f.4 }
 
@@ -151,7 +164,9 @@ faultless_lawful journal f =
     let both_hold = both (Faultless journal) (Same journal) [] journal f same in
     let Both : List Entry → Entry → List Entry → Type 0 = λ a e b. Faultless journal a e b × Same journal a e b in
     record {
-      legal = at_each (Faultless journal) (λ a e b. is_legal_at_by_law journal e b ≡ true) (λ a e b h. sym (legal_same journal e b ordered) ∙ h.legal) [] journal f;
+      legal =
+          at_each (Faultless journal) (λ a e b. is_legal_at_by_law journal e b ≡ true) (λ a e b h. sym (legal_same journal e b ordered) ∙ h.legal) []
+          journal f;
       ordered = ordered;
       accounted = at_each (Faultless journal) (λ a e b. is_accounted_at journal e b ≡ true) (λ a e b h. h.accounted) [] journal f;
       excused = at_each (Faultless journal) (λ a e b. is_cut_off a e b ≡ true) (λ a e b h. h.excused) [] journal f;
@@ -171,7 +186,10 @@ record Held (whole after : List Entry) (entry : Entry) (before : List Entry) : T
   reported : is_reported_by_law whole after entry before ≡ true
   kept : is_kept_at_by_law whole entry before ≡ true
 
-held : (whole after journal : List Entry) → AtEachPlace (λ a e b. is_legal_at_by_law whole e b ≡ true) after journal → AtEachPlace (InOrder whole) after journal → AtEachPlace (λ a e b. is_accounted_at whole e b ≡ true) after journal → AtEachPlace (λ a e b. is_cut_off a e b ≡ true) after journal → AtEachPlace (λ a e b. is_reported_by_law whole a e b ≡ true) after journal → AtEachPlace (λ a e b. is_kept_at_by_law whole e b ≡ true) after journal → AtEachPlace (Held whole) after journal
+held : (whole after journal : List Entry) → AtEachPlace (λ a e b. is_legal_at_by_law whole e b ≡ true) after journal
+    → AtEachPlace (InOrder whole) after journal → AtEachPlace (λ a e b. is_accounted_at whole e b ≡ true) after journal
+    → AtEachPlace (λ a e b. is_cut_off a e b ≡ true) after journal → AtEachPlace (λ a e b. is_reported_by_law whole a e b ≡ true) after journal
+    → AtEachPlace (λ a e b. is_kept_at_by_law whole e b ≡ true) after journal → AtEachPlace (Held whole) after journal
 held whole after [] l o a x r k = tt
 held whole after (entry ∷ before) l o a x r k = (
   record { legal = l.0; ordered = o.0; accounted = a.0; excused = x.0; reported = r.0; kept = k.0 },
@@ -184,7 +202,16 @@ lawful_faultless journal l =
     let all : AtEachPlace (Held journal) [] journal = held journal [] journal l.legal l.ordered l.accounted l.excused l.reported l.kept in
     let Both : List Entry → Entry → List Entry → Type 0 = λ a e b. Held journal a e b × Same journal a e b in
     at_each Both (Faultless journal)
-    (λ a e b h. record { legal = legal_same journal e b l.ordered ∙ h.0.legal; ordered = h.0.ordered; accounted = h.0.accounted; excused = h.0.excused; reported = h.1.reported ∙ h.0.reported; kept = h.1.kept ∙ h.0.kept })
+    (λ a e b h. record {
+      legal = legal_same journal e b l.ordered
+          ∙ h.0.legal;
+      ordered = h.0.ordered;
+      accounted = h.0.accounted;
+      excused = h.0.excused;
+      reported = h.1.reported ∙ h.0.reported;
+      kept = h.1.kept
+          ∙ h.0.kept;
+    })
     [] journal (both (Held journal) (Same journal) [] journal all same)
 
 pub faultless_where_sound : (journal : List Entry) → IsSound journal → verdict journal ≡ None

@@ -21,11 +21,13 @@ is_named_at_once whole before who loss call after = false
 abbrev pub is_reported : (whole before : List Entry) (who : Who) (loss : Loss) (after : List Entry) → Bool
 is_reported whole before who loss [] = true
 is_reported whole before who loss (entry ∷ after) =
-    (not (must_report whole who loss.file entry) || is_named_at_once whole before who loss entry after) && (must_report whole who loss.file entry || (names whole who loss entry || is_reported whole (entry ∷ before) who loss after))
+    (not (must_report whole who loss.file entry) || is_named_at_once whole before who loss entry after) &&
+    (must_report whole who loss.file entry || (names whole who loss entry || is_reported whole (entry ∷ before) who loss after))
 
 -- what is asked of an L, that it is reported; and of an A `lost`, that each of its spans names an earlier L of the
 -- incarnation on the file of the call, for the first time
 abbrev pub is_reported_at : (whole after : List Entry) → Entry → (before : List Entry) → Bool
-is_reported_at whole after (L who file block first last) before = is_reported whole (L who file block first last ∷ before) who (loss_told file block first last) after
+is_reported_at whole after (L who file block first last) before =
+    is_reported whole (L who file block first last ∷ before) who (loss_told file block first last) after
 is_reported_at whole after (A who q (Lost spans)) before = name_losses whole before who (call_of whole who q) spans.items
 is_reported_at whole after other before = true

@@ -213,7 +213,7 @@ fn storm<K: Sink>(
         (K.held out.old) (K.held out.new) (K.faults out.old) (K.faults out.new)) }
 {
     match first_of(fates, kind) {
-        Some(fate) => run_storm(alloc, fate, start, events, out).status(),
+        Some(mut fate) => run_storm(alloc, &mut *fate, start, events, out).status(),
         None => usage(out),
     }
 }

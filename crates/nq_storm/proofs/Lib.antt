@@ -1,3 +1,4 @@
+mod Asking
 mod Finding
 pub mod Counting
 pub mod Playing

@@ -1,6 +1,7 @@
 pub mod Kinds
 pub mod Heads
 pub mod Storming
+pub mod Asking
 pub mod Lawful
 pub mod Counts
 pub mod Ending

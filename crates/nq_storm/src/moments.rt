@@ -3,10 +3,12 @@
 ghost use Rattle.std.specs.List.{AllByRecursion};
 ghost use Rattle.std.specs.Prelude.{◌≡◌, ◌<◌, ◌≤◌, ◌+◌, ◌-◌, ◌^◌, ◌++◌, ◌∷◌, [], ℕ, List, Option, IfSome, IsNone, length, reverse, take};
 ghost use Rattle.nq_base.specs.declared.Event.{Event};
+ghost use Rattle.nq_io.specs.Faults.{count_up};
 ghost use Rattle.nq_model.specs.Stepped.{most_events, most_sent};
 ghost use Rattle.nq_model.specs.World.{Head};
 ghost use Rattle.nq_play.specs.Going.{IsAt};
 ghost use Rattle.nq_play.specs.Reaching.{IsReached};
+ghost use Rattle.nq_storm.specs.Asking.{AsksForNext};
 ghost use Rattle.nq_storm.specs.Ending.{CountsFaults, Gives, Halts, IsInStorm, Stands, ending_of};
 ghost use Rattle.nq_storm.specs.Storming.{IsChosen, IsOffered, word_behind};
 ghost use Rattle.nq_storm.specs.declared.stormed.Stormed.{Stormed};
@@ -133,6 +135,8 @@ pub(crate) fn pass_moment<K: Keeper>(
     ensures halts { (result ≡ Stormed.Done → ⊥) → (head : Head) (events : List Event) → length events ≡ earlier
         → IsAt head events world.old (K.content world.old.server.keeper) delivered.old
         → Halts result head events × Stands result head events world.new (K.content world.new.server.keeper) }
+    ensures asked { result ≡ Stormed.Done → asks fate.new ≡ count_up (asks fate.old) }
+    ensures asks { AsksForNext 0 (asks fate.old) (asks fate.new) }
     ensures more { result ≡ Stormed.Done → length ran.new ≡ earlier + 1 }
     ensures same { (result ≡ Stormed.Done → ⊥) → ran.new ≡ ran.old }
     ensures stormy { AllByRecursion IsStormy ran.old → AllByRecursion IsStormy ran.new }

@@ -6,6 +6,7 @@ ghost use Rattle.nq_keeper.specs.StoredKeeper.{empty_kept};
 ghost use Rattle.nq_model.specs.World.{Head as Beginning};
 ghost use Rattle.nq_play.specs.Playing.{beginning};
 ghost use Rattle.nq_replay.specs.Schedules.{NeverFails};
+ghost use Rattle.nq_storm.specs.Asking.{AsksFor, AsksWanted};
 ghost use Rattle.nq_storm.specs.Ending.{IsNoFault, Storms};
 ghost use Rattle.nq_storm.specs.Heads.{storm_head};
 ghost use Rattle.nq_storm.specs.Printed.{StormEnds};
@@ -26,21 +27,23 @@ use nq_storm_rules::Fate;
 use nq_world::World;
 use std::alloc::Global;
 
-/// Runs a storm of so many events, which a fate chooses, over four hosts and two files. It prints the text of its schedule, the text
+/// Runs a storm of so many events, which a fate chooses, asked once for each, over four hosts and two files. It prints the text of its schedule, the text
 /// of that schedule's journal, and a line that counts events, packets and losses. How it ends:
 ///
 /// - `Done`: all of that was printed. The schedule is within skew and keeps to the bounds.
 /// - `WriteFault`: the sink failed, which it has counted; a front of that is printed.
 /// - `Memory`: memory was wanting; a front of that may be printed.
 /// - `Limit`: more than 999,936 packets came before an event, or 100,000 events; prints `limit line 0 packets` or `events`.
+#[tactic(auto, using(crate::proofs::Asking::asks_none))]
 pub fn run_storm<K: Sink>(
     alloc: Global,
-    fate: Box<dyn Fate>,
+    fate: &mut dyn Fate,
     start: u64,
     events: u32,
     out: &mut K,
 ) -> Ending
-    ensures { StormEnds result start events (told fate) (K.held out.old) (K.held out.new) (K.faults out.old) (K.faults out.new) }
+    ensures ends { StormEnds result start events (told fate.old) (K.held out.old) (K.held out.new) (K.faults out.old) (K.faults out.new) }
+    ensures asks { AsksFor result events (asks fate.old) (asks fate.new) }
 {
     match ListKeeper::new(alloc, Vec::new(alloc)) {
         Ok(keeper) => storm_over(alloc, keeper, fate, start, events, out),
@@ -49,17 +52,19 @@ pub fn run_storm<K: Sink>(
 }
 
 /// Runs a storm over a keeper that keeps nothing yet and never fails.
+#[tactic(auto, using(crate::proofs::Asking::asks_none))]
 fn storm_over<L: Keeper + Drop, K: Sink>(
     alloc: Global,
     keeper: L,
-    fate: Box<dyn Fate>,
+    fate: &mut dyn Fate,
     start: u64,
     events: u32,
     out: &mut K,
 ) -> Ending
     requires empty { L.content keeper ≡ Some empty_kept }
     requires never { NeverFails L.faults L.follows keeper }
-    ensures { StormEnds result start events (told fate) (K.held out.old) (K.held out.new) (K.faults out.old) (K.faults out.new) }
+    ensures ends { StormEnds result start events (told fate.old) (K.held out.old) (K.held out.new) (K.faults out.old) (K.faults out.new) }
+    ensures asks { AsksFor result events (asks fate.old) (asks fate.new) }
 {
     let Ok(head) = storm_head(alloc) else {
         return Ending::Memory;
@@ -80,7 +85,7 @@ fn storm_over<L: Keeper + Drop, K: Sink>(
 fn storm_surely<L: Keeper>(
     alloc: Global,
     world: &mut World<L>,
-    fate: Box<dyn Fate>,
+    fate: &mut dyn Fate,
     start: u64,
     events: u32,
     ran: &mut Schedule,
@@ -89,7 +94,8 @@ fn storm_surely<L: Keeper>(
     requires empty { ran.old ≡ [] }
     requires never { NeverFails L.faults L.follows world.old.server.keeper }
     ensures storms { (head : Beginning) → Plays head [] world.old (L.content world.old.server.keeper)
-        → Storms result head start events (told fate) (reverse ran.new) world.new (L.content world.new.server.keeper) }
+        → Storms result head start events (told fate.old) (reverse ran.new) world.new (L.content world.new.server.keeper) }
+    ensures asks { AsksWanted result events (asks fate.old) (asks fate.new) }
     ensures stormy { AllByRecursion IsStormy ran.new }
     ensures reason { IsNoFault result }
 {
@@ -108,7 +114,8 @@ fn tell<L: Keeper, K: Sink>(
     requires head { head.now ≡ storm_head }
     requires stormy { AllByRecursion IsStormy ran.now }
     requires reason { IsNoFault stormed }
-    ensures { (start count : ℕ) (first : Option Rule) → Storms stormed (beginning storm_head) start count first (reverse ran.now) world.now
+    ensures asks { (wanted before now : ℕ) → AsksWanted stormed wanted before now → AsksFor result wanted before now }
+    ensures ends { (start count : ℕ) (first : Option Rule) → Storms stormed (beginning storm_head) start count first (reverse ran.now) world.now
         (L.content world.now.server.keeper)
         → StormEnds result start count first (K.held out.old) (K.held out.new) (K.faults out.old) (K.faults out.new) }
 {

@@ -1,8 +1,9 @@
 //! Storms over a world.
 
 ghost use Rattle.std.specs.List.{AllByRecursion};
-ghost use Rattle.std.specs.Prelude.{◌≡◌, [], length, reverse};
+ghost use Rattle.std.specs.Prelude.{◌≡◌, ◌<◌, [], length, reverse};
 ghost use Rattle.nq_model.specs.World.{Head};
+ghost use Rattle.nq_storm.specs.Asking.{AsksOnce};
 ghost use Rattle.nq_storm.specs.Ending.{CountsFaults, Storms};
 ghost use Rattle.nq_storm_rules.specs.Stormy.{IsStormy};
 ghost use Rattle.nq_world.specs.Playing.{HasSettings, Plays};
@@ -25,7 +26,7 @@ use std::alloc::Global;
 pub fn storm<K: Keeper>(
     alloc: Global,
     world: &mut World<K>,
-    fate: Box<dyn Fate>,
+    fate: &mut dyn Fate,
     start: u64,
     events: u32,
     ran: &mut Schedule,
@@ -33,13 +34,15 @@ pub fn storm<K: Keeper>(
     requires settings { HasSettings 4 60 30 world.old }
     requires empty { ran.old ≡ [] }
     ensures storms { (head : Head) → Plays head [] world.old (K.content world.old.server.keeper)
-        → Storms result head start events (told fate) (reverse ran.new) world.new (K.content world.new.server.keeper) }
+        → Storms result head start events (told fate.old) (reverse ran.new) world.new (K.content world.new.server.keeper) }
+    ensures asks { AsksOnce result (length ran.new) (asks fate.old) (asks fate.new) }
+    ensures early { (result ≡ Stormed.Done → ⊥) → length ran.new < events }
+    ensures whole { result ≡ Stormed.Done → length ran.new ≡ events }
     ensures stormy { AllByRecursion IsStormy ran.new }
     ensures faults { CountsFaults result (K.faults world.old.server.keeper) (K.faults world.new.server.keeper) }
     ensures follows { K.follows world.old.server.keeper world.new.server.keeper }
     ensures settings { HasSettings 4 60 30 world.new }
 {
-    let mut fate = fate;
     let mut words = Words::new(start);
     let mut delivered = Delivered::new(alloc);
     for earlier in 0..events {

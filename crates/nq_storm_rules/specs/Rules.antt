@@ -1,5 +1,6 @@
 -- The rules by which the four fates choose.
-use Rattle.std.specs.Prelude.{ℕ, ◌+◌, ◌-◌, ◌/◌, ◌%◌, ◌^◌, ◌==◌, ◌&&◌, nat_lt, Bool, if◌then◌else◌}
+use Rattle.std.specs.Prelude.{ℕ, zero, suc, ◌+◌, ◌-◌, ◌/◌, ◌%◌, ◌^◌, ◌==◌, ◌&&◌, nat_lt, Bool, if◌then◌else◌}
+use Rattle.nq_io.specs.Faults.{count_up}
 use Rattle.nq_storm_rules.specs.declared.offers.Offer.{Offer}
 
 -- a fate that tells its rule: its kind, whose turn to tick it is, and the next packet that it counts
@@ -7,6 +8,16 @@ pub record Rule : Type 0 where
   pub kind : ℕ
   pub turn : ℕ
   pub next : ℕ
+
+-- a fate that tells its rule, and how often it was asked for a choice
+pub record Asked : Type 0 where
+  pub rule : Rule
+  pub asks : ℕ
+
+-- how often a fate was asked after so many events, for each of which it was asked once
+abbrev pub asked_for : (events before : ℕ) → ℕ
+asked_for zero before = before
+asked_for (suc events) before = count_up (asked_for events before)
 
 -- a place, and the rule from then on
 abbrev pub Choice : Type 0

@@ -25,33 +25,37 @@ fn tick_or_call(turn: u32, offer: &Offer, word: u32) -> (u32, u32)
 #[derive(Drop)]
 pub struct SteadyFate {
     turn: u32,
+    asks: u64,
 }
 
 impl Model for SteadyFate {
-    ghost use Rattle.nq_storm_rules.specs.Rules.{Rule};
+    ghost use Rattle.nq_storm_rules.specs.Rules.{Asked};
 
-    ghost Value = { Rule };
+    ghost Value = { Asked };
 
-    ghost view = { λ f. record { kind = 0; turn = f.turn; next = 0 } };
+    ghost view = { λ f. record { rule = record { kind = 0; turn = f.turn; next = 0 }; asks = f.asks } };
 }
 
 impl SteadyFate {
     /// Before its first choice.
     pub fn new() -> SteadyFate
-        ensures { result ≡ record { kind = 0; turn = 0; next = 0 } }
+        ensures { result ≡ record { rule = record { kind = 0; turn = 0; next = 0 }; asks = 0 } }
     {
-        SteadyFate { turn: 0 }
+        SteadyFate { turn: 0, asks: 0 }
     }
 }
 
 impl Fate for SteadyFate {
-    ghost told = { λ f. Some (record { kind = 0; turn = f.turn; next = 0 }) };
+    ghost told = { λ fate. Some (record { kind = 0; turn = fate.rule.turn; next = 0 }) };
+
+    ghost asks = { λ fate. fate.asks };
 
     fn kind(&self) -> u8 {
         0
     }
 
     fn choose(&mut self, offer: &Offer) -> u32 {
+        self.asks = self.asks.saturating_add(1);
         if offer.fresh < offer.packets {
             return offer.fresh;
         }
@@ -65,33 +69,37 @@ impl Fate for SteadyFate {
 #[derive(Drop)]
 pub struct LossyFate {
     turn: u32,
+    asks: u64,
 }
 
 impl Model for LossyFate {
-    ghost use Rattle.nq_storm_rules.specs.Rules.{Rule};
+    ghost use Rattle.nq_storm_rules.specs.Rules.{Asked};
 
-    ghost Value = { Rule };
+    ghost Value = { Asked };
 
-    ghost view = { λ f. record { kind = 1; turn = f.turn; next = 0 } };
+    ghost view = { λ f. record { rule = record { kind = 1; turn = f.turn; next = 0 }; asks = f.asks } };
 }
 
 impl LossyFate {
     /// Before its first choice.
     pub fn new() -> LossyFate
-        ensures { result ≡ record { kind = 1; turn = 0; next = 0 } }
+        ensures { result ≡ record { rule = record { kind = 1; turn = 0; next = 0 }; asks = 0 } }
     {
-        LossyFate { turn: 0 }
+        LossyFate { turn: 0, asks: 0 }
     }
 }
 
 impl Fate for LossyFate {
-    ghost told = { λ f. Some (record { kind = 1; turn = f.turn; next = 0 }) };
+    ghost told = { λ fate. Some (record { kind = 1; turn = fate.rule.turn; next = 0 }) };
+
+    ghost asks = { λ fate. fate.asks };
 
     fn kind(&self) -> u8 {
         1
     }
 
     fn choose(&mut self, offer: &Offer) -> u32 {
+        self.asks = self.asks.saturating_add(1);
         let word = offer.word;
         if word % 64 == 1 {
             return offer.restarts_at + word / 64 % 4;
@@ -113,33 +121,41 @@ impl Fate for LossyFate {
 pub struct CutFate {
     turn: u32,
     next: u32,
+    asks: u64,
 }
 
 impl Model for CutFate {
-    ghost use Rattle.nq_storm_rules.specs.Rules.{Rule};
+    ghost use Rattle.nq_storm_rules.specs.Rules.{Asked};
 
-    ghost Value = { Rule };
+    ghost Value = { Asked };
 
-    ghost view = { λ f. record { kind = 2; turn = f.turn; next = f.next } };
+    ghost view = { λ f. record { rule = record { kind = 2; turn = f.turn; next = f.next }; asks = f.asks } };
 }
 
 impl CutFate {
     /// Before its first choice.
     pub fn new() -> CutFate
-        ensures { result ≡ record { kind = 2; turn = 0; next = 0 } }
+        ensures { result ≡ record { rule = record { kind = 2; turn = 0; next = 0 }; asks = 0 } }
     {
-        CutFate { turn: 0, next: 0 }
+        CutFate {
+            turn: 0,
+            next: 0,
+            asks: 0,
+        }
     }
 }
 
 impl Fate for CutFate {
-    ghost told = { λ f. Some (record { kind = 2; turn = f.turn; next = f.next }) };
+    ghost told = { λ fate. Some (record { kind = 2; turn = fate.rule.turn; next = fate.rule.next }) };
+
+    ghost asks = { λ fate. fate.asks };
 
     fn kind(&self) -> u8 {
         2
     }
 
     fn choose(&mut self, offer: &Offer) -> u32 {
+        self.asks = self.asks.saturating_add(1);
         if self.next < offer.packets {
             let packet = self.next;
             self.next += 1;
@@ -155,33 +171,38 @@ impl Fate for CutFate {
 
 /// Anything may happen.
 #[derive(Drop)]
-pub struct HostileFate;
+pub struct HostileFate {
+    asks: u64,
+}
 
 impl Model for HostileFate {
-    ghost use Rattle.nq_storm_rules.specs.Rules.{Rule};
+    ghost use Rattle.nq_storm_rules.specs.Rules.{Asked};
 
-    ghost Value = { Rule };
+    ghost Value = { Asked };
 
-    ghost view = { λ f. record { kind = 3; turn = 0; next = 0 } };
+    ghost view = { λ f. record { rule = record { kind = 3; turn = 0; next = 0 }; asks = f.asks } };
 }
 
 impl HostileFate {
     /// Before its first choice.
     pub fn new() -> HostileFate
-        ensures { result ≡ record { kind = 3; turn = 0; next = 0 } }
+        ensures { result ≡ record { rule = record { kind = 3; turn = 0; next = 0 }; asks = 0 } }
     {
-        HostileFate
+        HostileFate { asks: 0 }
     }
 }
 
 impl Fate for HostileFate {
     ghost told = { λ _. Some (record { kind = 3; turn = 0; next = 0 }) };
 
+    ghost asks = { λ fate. fate.asks };
+
     fn kind(&self) -> u8 {
         3
     }
 
     fn choose(&mut self, offer: &Offer) -> u32 {
+        self.asks = self.asks.saturating_add(1);
         offer.word
     }
 }

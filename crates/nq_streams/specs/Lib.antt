@@ -1,2 +1,3 @@
+pub mod Known
 pub mod StdSink
 pub mod StdSource

@@ -1,12 +1,13 @@
 -- A std writer as a sink.
-use Rattle.std.specs.Prelude.{ℕ, ◌≤◌, List, length, take, Option}
+use Rattle.std.specs.Prelude.{ℕ, ◌≤◌, Bool, List, length, take, Option}
 use Rattle.std.specs.Io.KnownBytes.{Appends}
 use Rattle.nq_io.specs.declared.sink.Put.{Put}
 use Rattle.nq_io.specs.declared.sink.Put.TheVariants.{All, Failed}
 
--- a writer, and how often it failed
+-- a writer, whether its bytes are told, and how often it failed
 pub record CountedWriter (W : Type 0) : Type 0 where
   pub writer : W
+  pub tells : Bool
   pub faults : ℕ
 
 -- some of these bytes, from the first on, went to the end of what the writer holds, where that is known

@@ -1,7 +1,8 @@
 //! Sources and sinks.
 
 use anyhow::Result;
-use nq_io::{Got, MemSink, MemSource, Put, Sink, Source, StdSink, StdSource, Whole, read_all};
+use nq_io::{Got, MemSink, MemSource, Put, Sink, Source, Whole, read_all};
+use nq_streams::{StdSink, StdSource};
 use std::alloc::Global;
 use std::io::{ErrorKind, Read, Write};
 use std::{io, str};

@@ -15,7 +15,7 @@ fn end_of_first(text: &[u8]) -> Option<usize> {
 }
 
 /// What a storm of a thousand events prints, starting with 1.
-fn printed(rt: &HostRuntime, fate: Box<dyn Fate>) -> Result<MemSink, Fail> {
+fn printed(rt: &HostRuntime, fate: &mut dyn Fate) -> Result<MemSink, Fail> {
     let alloc = rt.alloc();
     let mut out = MemSink::new(alloc, 4_000_000, Vec::new(alloc))?;
     match run_storm(alloc, fate, 1, 1000, &mut out).status() {
@@ -41,18 +41,15 @@ fn is_replayed(rt: &HostRuntime, text: &[u8]) -> Result<bool, Fail> {
 
 #[test]
 fn a_steady_storm_is_replayed(rt: HostRuntime) -> Result<(), Fail> {
-    let fate = Box::new(rt.alloc(), SteadyFate::new())?;
-    let out = printed(&rt, fate)?;
+    let out = printed(&rt, &mut SteadyFate::new())?;
     assert!(rt; is_replayed(&rt, out.bytes())?);
-    let again = Box::new(rt.alloc(), SteadyFate::new())?;
-    assert!(rt; printed(&rt, again)?.bytes() == out.bytes());
+    assert!(rt; printed(&rt, &mut SteadyFate::new())?.bytes() == out.bytes());
     Ok(())
 }
 
 #[test]
 fn a_lossy_storm_is_replayed(rt: HostRuntime) -> Result<(), Fail> {
-    let fate = Box::new(rt.alloc(), LossyFate::new())?;
-    let out = printed(&rt, fate)?;
+    let out = printed(&rt, &mut LossyFate::new())?;
     assert!(rt; is_replayed(&rt, out.bytes())?);
     Ok(())
 }

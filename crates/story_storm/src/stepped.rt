@@ -63,12 +63,12 @@ fn stormed(rt: &HostRuntime) -> Result<Schedule, Fail>
 {
     let alloc = rt.alloc();
     let head = storm_head(alloc)?;
-    let fate = Box::new(alloc, LossyFate::new())?;
+    let mut fate = LossyFate::new();
     let mut ran = Schedule::new(alloc)?;
     let Ok(mut world) = begin(alloc, &head, ListKeeper::new(alloc, Vec::new(alloc))?) else {
         return Err(Fail::new("there is no world"));
     };
-    let stormed = storm(alloc, &mut world, fate, 1, 1000, &mut ran);
+    let stormed = storm(alloc, &mut world, &mut fate, 1, 1000, &mut ran);
     let _keeper = world.into_keeper();
     match stormed {
         Stormed::Done => Ok(ran),

@@ -9,7 +9,7 @@ use std::test::Fail;
 /// Whether a storm of a fate prints what has this sum.
 fn has_sum(
     rt: &HostRuntime,
-    fate: Box<dyn Fate>,
+    fate: &mut dyn Fate,
     start: u64,
     events: u32,
     sum: &str,
@@ -35,8 +35,8 @@ fn steady_storms_have_their_sums(rt: HostRuntime) -> Result<(), Fail> {
             "6b6390de63622374693d910c04293efaedb69b62ddd72fb5fd7ca8eb63d00760",
         ),
     ] {
-        let fate = Box::new(rt.alloc(), SteadyFate::new())?;
-        assert!(rt; has_sum(&rt, fate, start, events, sum)?, "at {start}");
+        let mut fate = SteadyFate::new();
+        assert!(rt; has_sum(&rt, &mut fate, start, events, sum)?, "at {start}");
     }
     Ok(())
 }
@@ -55,8 +55,8 @@ fn lossy_storms_have_their_sums(rt: HostRuntime) -> Result<(), Fail> {
             "59962c067587c65471d81a6702c42492f8713a0c6560501e5e1b80385f33610e",
         ),
     ] {
-        let fate = Box::new(rt.alloc(), LossyFate::new())?;
-        assert!(rt; has_sum(&rt, fate, start, events, sum)?, "at {start}");
+        let mut fate = LossyFate::new();
+        assert!(rt; has_sum(&rt, &mut fate, start, events, sum)?, "at {start}");
     }
     Ok(())
 }
@@ -75,8 +75,8 @@ fn storms_of_cuts_have_their_sums(rt: HostRuntime) -> Result<(), Fail> {
             "48ca8e26d4b4bd874842db6c22a1d89d943d3eb801385754bce78867250174fc",
         ),
     ] {
-        let fate = Box::new(rt.alloc(), CutFate::new())?;
-        assert!(rt; has_sum(&rt, fate, start, events, sum)?, "at {start}");
+        let mut fate = CutFate::new();
+        assert!(rt; has_sum(&rt, &mut fate, start, events, sum)?, "at {start}");
     }
     Ok(())
 }
@@ -95,8 +95,8 @@ fn hostile_storms_have_their_sums(rt: HostRuntime) -> Result<(), Fail> {
             "0627bedd0a69cb7d32be20e429e086c75c11cc10c8a0aef0530ae64d3d2e389e",
         ),
     ] {
-        let fate = Box::new(rt.alloc(), HostileFate::new())?;
-        assert!(rt; has_sum(&rt, fate, start, events, sum)?, "at {start}");
+        let mut fate = HostileFate::new();
+        assert!(rt; has_sum(&rt, &mut fate, start, events, sum)?, "at {start}");
     }
     Ok(())
 }

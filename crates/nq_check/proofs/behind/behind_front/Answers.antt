@@ -7,8 +7,12 @@ use Rattle.nq_check.proofs.behind.behind_front.Goals as goal
 
 pub loop-left-init : goal.loop-left-init
 loop-left-init c =
-    let whole = c.args.whole.now in
-    (omega arith, none_behind 18446744073709551615 whole (length whole) c.new-marks.result.entries refl, pass_none (is_over whole) whole (length whole) (length whole) (omega arith))
+    let whole = c.args.whole.now in (
+      omega arith,
+      none_behind 18446744073709551615 whole (length whole) c.new-marks.result.entries refl,
+      pass_none (is_over whole) whole (length whole)
+          (length whole) (omega arith),
+    )
 
 pub loop-left-preserved : goal.loop-left-preserved
 loop-left-preserved c =

@@ -14,4 +14,5 @@ returns-in-L c =
     λ t.
     let less : c.mark_at.result < c.below_highest.result = ltb-true c.mark_at.result c.below_highest.result t in
     subst (λ e. IsAbove 18446744073709551615 marks e) (sym s.is)
-    (above_at 18446744073709551615 c.spot.result c.below_highest.result marks s.who s.file s.block s.first s.last c.spot.ensures top (subst (λ n. n < c.below_highest.result) mark less))
+    (above_at 18446744073709551615 c.spot.result c.below_highest.result marks s.who s.file s.block s.first s.last c.spot.ensures top
+    (subst (λ n. n < c.below_highest.result) mark less))

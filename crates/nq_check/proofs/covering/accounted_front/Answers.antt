@@ -15,5 +15,8 @@ loop-place-preserved c =
     let there = slice_get_read whole (length whole) place entry refl c.loop-place-test.true c.index-whole-place.is in
     let split = taken_here whole place entry there in
     let yes : c.in_ok-accounts.field-0 ≡ true = search rules in
-    let h = c.in_ok-accounts.ensures yes (reverse (take place whole)) c.loop-place.invariant.0 in
-    (subst (λ l. Each (IsCoveredTo 18446744073709551615 c.accounts.new.reach) l) (sym split) h.1, one_more Accounted whole place entry there h.0 c.loop-place.invariant.1)
+    let h = c.in_ok-accounts.ensures yes (reverse (take place whole)) c.loop-place.invariant.0 in (
+      subst (λ l. Each (IsCoveredTo 18446744073709551615 c.accounts.new.reach) l) (sym split) h.1,
+      one_more Accounted whole place entry there h.0
+          c.loop-place.invariant.1,
+    )

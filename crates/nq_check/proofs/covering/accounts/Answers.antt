@@ -12,8 +12,10 @@ returns-in-S c =
     let old = c.args.reach.now in
     let new = c.covers_anew.new.reach in
     let s = c.in-S in
-    rw s.is (ok_so c.covers_anew.result (λ anew. IsTrue anew → IsAnew 18446744073709551615 c.spot.result s.first s.last old new) (λ yes. IsTrue yes → Accounts 18446744073709551615 whole (S s.who s.file s.block s.first s.last s.now) old new)
-    (λ yes f t. stored_once 18446744073709551615 whole s.who s.file s.block s.first s.last s.now old new (subst (λ at. IsAnew 18446744073709551615 at s.first s.last old new) c.spot.ensures (f t)))
+    rw s.is (ok_so c.covers_anew.result (λ anew. IsTrue anew → IsAnew 18446744073709551615 c.spot.result s.first s.last old new)
+    (λ yes. IsTrue yes → Accounts 18446744073709551615 whole (S s.who s.file s.block s.first s.last s.now) old new)
+    (λ yes f t. stored_once 18446744073709551615 whole s.who s.file s.block s.first s.last s.now old new
+    (subst (λ at. IsAnew 18446744073709551615 at s.first s.last old new) c.spot.ensures (f t)))
     c.covers_anew.ensures)
 
 pub returns-else-not-covers_at : goal.returns-else-not-covers_at
@@ -23,7 +25,10 @@ returns-else-not-covers_at c =
     let new = c.covers_anew-in-L.new.reach in
     let s = c.in-L in
     let found : c.covers_at.result ≡ true = search rules in
-    let some : exists (covers (L s.who s.file s.block s.first s.last)) whole ≡ true = subst (λ e. exists (covers e) whole ≡ true) s.is (c.covers_at.ensures found) in
-    rw s.is (ok_so c.covers_anew-in-L.result (λ anew. IsTrue anew → IsAnew 18446744073709551615 c.spot-in-L.result s.first s.last old new) (λ yes. IsTrue yes → Accounts 18446744073709551615 whole (L s.who s.file s.block s.first s.last) old new)
-    (λ yes f t. lost_once 18446744073709551615 whole s.who s.file s.block s.first s.last old new some (subst (λ at. IsAnew 18446744073709551615 at s.first s.last old new) c.spot-in-L.ensures (f t)))
+    let some : exists (covers (L s.who s.file s.block s.first s.last)) whole ≡ true = subst (λ e. exists (covers e) whole ≡ true) s.is
+    (c.covers_at.ensures found) in
+    rw s.is (ok_so c.covers_anew-in-L.result (λ anew. IsTrue anew → IsAnew 18446744073709551615 c.spot-in-L.result s.first s.last old new)
+    (λ yes. IsTrue yes → Accounts 18446744073709551615 whole (L s.who s.file s.block s.first s.last) old new)
+    (λ yes f t. lost_once 18446744073709551615 whole s.who s.file s.block s.first s.last old new some
+    (subst (λ at. IsAnew 18446744073709551615 at s.first s.last old new) c.spot-in-L.ensures (f t)))
     c.covers_anew-in-L.ensures)

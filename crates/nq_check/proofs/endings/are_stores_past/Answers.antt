@@ -11,7 +11,8 @@ returns-then-at-eq0 c =
     let upto : c.args.to ≤ lease.place = c.requires.upto in
     let within : lease.place < length whole = c.requires.within in
     let zero : at ≡ 0 = search rules in
-    λ t. none_stored c.file_key-key.result lease.who.now lease.file c.args.now whole at c.args.to c.file_key-key.ensures zero (omega arith) c.last_before-at.ensures.free
+    λ t. none_stored c.file_key-key.result lease.who.now lease.file c.args.now whole at c.args.to c.file_key-key.ensures zero (omega arith)
+    c.last_before-at.ensures.free
 
 pub returns : goal.returns
 returns c =
@@ -25,4 +26,5 @@ returns c =
     let within : lease.place < length whole = c.requires.within in
     let x = c.index-whole-at.result in
     let there = slice_get_read whole (length whole) (at - 1) x refl (omega arith) c.index-whole-at.is in
-    λ t. all_stored c.file_key-key.result lease.who.now lease.file c.args.now whole at c.args.to lease.place x c.file_key-key.ensures up low upto (omega arith) c.last_before-at.ensures.free c.requires.rises there (c.is_store_past.ensures t)
+    λ t. all_stored c.file_key-key.result lease.who.now lease.file c.args.now whole at c.args.to lease.place x c.file_key-key.ensures up low upto
+    (omega arith) c.last_before-at.ensures.free c.requires.rises there (c.is_store_past.ensures t)

@@ -18,4 +18,5 @@ returns-else-not-is_long_wait c =
     let there_y = slice_get_read whole (length whole) at y refl (omega arith) c.index-whole-boot_at.is in
     let long : c.is_long_wait.result ≡ true = search rules in
     let o = c.in-O in
-    λ t. open_end whole end at x y lease.who.now lease.file o.boot o.until o.heard o.now c.grant_before-grant.result less there_y there o.is (sym c.is_long_wait.ensures ∙ long) c.grant_before-grant.ensures (c.are_stores_past.ensures t)
+    λ t. open_end whole end at x y lease.who.now lease.file o.boot o.until o.heard o.now c.grant_before-grant.result less there_y there o.is
+    (sym c.is_long_wait.ensures ∙ long) c.grant_before-grant.ensures (c.are_stores_past.ensures t)

@@ -15,4 +15,5 @@ returns-else-not-is_late c =
     let same : c.is_of.result ≡ true = search rules in
     let late : c.is_late.result ≡ true = search rules in
     let f = c.in-F in
-    λ t. silent_end whole end x f.who lease.who.now f.file lease.file f.until f.heard f.now c.grant_before-grant.result there f.is (sym c.is_of.ensures ∙ same) (sym c.is_late.ensures ∙ late) c.grant_before-grant.ensures (c.are_stores_past.ensures t)
+    λ t. silent_end whole end x f.who lease.who.now f.file lease.file f.until f.heard f.now c.grant_before-grant.result there f.is
+    (sym c.is_of.ensures ∙ same) (sym c.is_late.ensures ∙ late) c.grant_before-grant.ensures (c.are_stores_past.ensures t)

@@ -15,4 +15,5 @@ returns c =
     let within : lease.place < length whole = c.requires.within in
     let x = c.index-whole-at.result in
     let there = slice_get_read whole (length whole) (at - 1) x refl (omega arith) c.index-whole-at.is in
-    grant_if_there c.file_key-key.result lease.who.now lease.file whole at c.args.to x c.grant_by.result c.file_key-key.ensures up low (omega arith) c.last_before-at.ensures.free there c.grant_by.ensures
+    grant_if_there c.file_key-key.result lease.who.now lease.file whole at c.args.to x c.grant_by.result c.file_key-key.ensures up low (omega arith)
+    c.last_before-at.ensures.free there c.grant_by.ensures

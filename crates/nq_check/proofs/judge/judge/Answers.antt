@@ -5,10 +5,13 @@ use Rattle.nq_check.proofs.judge.judge.Goals as goal
 
 pub returns-in-Some : goal.returns-in-Some
 returns-in-Some c =
-    let here = slice_get_read c.args.whole.now (length c.args.whole.now) c.loop-place.place c.index-whole-place.result refl c.loop-place-test.true c.index-whole-place.is in
-    found_here c.args.whole.now c.loop-place.place c.index-whole-place.result c.in-Some.rule here c.loop-place.invariant (sym c.first_rule.ensures ∙ c.in-Some.is)
+    let here = slice_get_read c.args.whole.now (length c.args.whole.now) c.loop-place.place c.index-whole-place.result refl c.loop-place-test.true
+    c.index-whole-place.is in
+    found_here c.args.whole.now c.loop-place.place c.index-whole-place.result c.in-Some.rule here c.loop-place.invariant
+    (sym c.first_rule.ensures ∙ c.in-Some.is)
 
 pub loop-place-preserved : goal.loop-place-preserved
 loop-place-preserved c =
-    let here = slice_get_read c.args.whole.now (length c.args.whole.now) c.loop-place.place c.index-whole-place.result refl c.loop-place-test.true c.index-whole-place.is in
+    let here = slice_get_read c.args.whole.now (length c.args.whole.now) c.loop-place.place c.index-whole-place.result refl c.loop-place-test.true
+    c.index-whole-place.is in
     none_here c.args.whole.now c.loop-place.place c.index-whole-place.result here c.loop-place.invariant (sym c.first_rule.ensures ∙ c.in_default.is)

@@ -10,8 +10,11 @@ use Rattle.nq_check.proofs.kept_front.kept_front.Goals as goal
 pub loop-place-init : goal.loop-place-init
 loop-place-init c =
     let whole = c.args.whole.now in
-    let trail = c.no_trail-trail.result in
-    (none_below Synchronized whole, none_linked Delays whole trail.delays.heads.entries trail.delays.earlier.items c.no_trail-trail.ensures.0 c.no_trail-trail.ensures.1)
+    let trail = c.no_trail-trail.result in (
+      none_below Synchronized whole,
+      none_linked Delays whole trail.delays.heads.entries trail.delays.earlier.items c.no_trail-trail.ensures.0
+          c.no_trail-trail.ensures.1,
+    )
 
 pub is_kept_at-requires-clause-ordered : goal.is_kept_at-requires-clause-ordered
 is_kept_at-requires-clause-ordered c = keeps_less Ordered c.args.whole.now c.args.ordered (c.loop-place.place + 1) c.requires.ordered (omega arith)
@@ -26,5 +29,6 @@ loop-place-preserved c =
     let there = slice_get_read whole (length whole) place entry refl c.loop-place-test.true c.index-whole-place.is in
     let yes : c.is_kept_at.result ≡ true = search rules in (
       one_more Synchronized whole place entry there (sym c.is_kept_at.ensures ∙ yes) c.loop-place.invariant.0,
-      linked_next Delays whole place entry old.heads.entries new.heads.entries old.earlier.items new.earlier.items there c.loop-place.invariant.1 c.in_ok-take_in.ensures,
+      linked_next Delays whole place entry old.heads.entries new.heads.entries old.earlier.items new.earlier.items there c.loop-place.invariant.1
+          c.in_ok-take_in.ensures,
     )

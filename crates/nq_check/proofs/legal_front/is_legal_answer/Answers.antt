@@ -15,7 +15,8 @@ loop-at-init c =
     let from = c.last_of-at.result in
     let low : from ≤ length whole = c.last_of-at.ensures.low in (
       omega arith,
-      number_first (is_counted_with (reverse whole) who q c.args.v) Calls key whole from (valued_linked key (reverse whole) who q c.args.v c.call_key-key.ensures) low c.last_of-at.ensures.free,
+      number_first (is_counted_with (reverse whole) who q c.args.v) Calls key whole from
+          (valued_linked key (reverse whole) who q c.args.v c.call_key-key.ensures) low c.last_of-at.ensures.free,
     )
 
 pub loop-at-preserved : goal.loop-at-preserved
@@ -36,6 +37,8 @@ loop-at-preserved c =
     let there = slice_get_read whole (length whole) (at - 1) x refl (omega arith) c.index-whole-at.is in
     let counts = c.is_counted_with-counts.result in (
       counts_within counts number next at (length whole) c.counted-number.result c.counted-number.ensures low up bound,
-      c.loop-at.invariant.1 ∙ number_last (is_counted_with (reverse whole) who q v) Calls key whole next at x counts number (valued_linked key (reverse whole) who q v c.call_key-key.ensures) up within low there c.is_counted_with-counts.ensures c.back_from-at.ensures.free
+      c.loop-at.invariant.1 ∙ number_last (is_counted_with (reverse whole) who q v) Calls key whole next at x counts number
+          (valued_linked key (reverse whole) who q v c.call_key-key.ensures) up within low there c.is_counted_with-counts.ensures
+          c.back_from-at.ensures.free
           ∙ ap (λ n. number_of (is_counted_with (reverse whole) who q v) (reverse (take next whole)) + n) (sym c.counted-number.ensures),
     )

@@ -6,7 +6,8 @@ use Rattle.nq_check.proofs.legal_front.is_legal_answer.Given as goal
 abbrev pub invariant-loop-at : goal.invariant-loop-at
 invariant-loop-at l =
     (l.number + l.at ≤ length l.whole)
-    × (number_of (is_counted_with (reverse l.whole) l.by l.n l.v) (reverse l.whole) ≡ number_of (is_counted_with (reverse l.whole) l.by l.n l.v) (reverse (take l.at l.whole)) + l.number)
+    × (number_of (is_counted_with (reverse l.whole) l.by l.n l.v) (reverse l.whole) ≡ number_of (is_counted_with (reverse l.whole) l.by l.n l.v)
+    (reverse (take l.at l.whole)) + l.number)
 
 abbrev pub decreases-loop-at : goal.decreases-loop-at
 decreases-loop-at l = l.at

@@ -4,7 +4,8 @@ use Rattle.nq_check.specs.Tables.{NoneBetween}
 use Rattle.nq_check.proofs.legal_front.last_standing.Given as goal
 
 abbrev pub invariant-loop-at : goal.invariant-loop-at
-invariant-loop-at l = (l.at ≤ l.place) × NoneBetween (stands (reverse l.whole) (reverse (take l.place l.whole)) l.read.who.now l.read.file l.read.block) l.whole l.at l.place
+invariant-loop-at l =
+    (l.at ≤ l.place) × NoneBetween (stands (reverse l.whole) (reverse (take l.place l.whole)) l.read.who.now l.read.file l.read.block) l.whole l.at l.place
 
 abbrev pub decreases-loop-at : goal.decreases-loop-at
 decreases-loop-at l = l.at

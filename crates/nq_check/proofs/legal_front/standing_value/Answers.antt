@@ -11,7 +11,8 @@ returns-then-is_cut_since c =
     let read = c.args.read.now in
     let within : place < length whole = c.requires.within in
     let upto : place ≤ length whole = omega arith in
-    sym (cut_value (stands (reverse whole) (reverse (take place whole)) read.who.now read.file read.block) read.file read.block whole c.last_standing-at.result place upto c.last_standing-at.ensures.none (c.is_cut_since.ensures.yes c.if-is_cut_since.true))
+    sym (cut_value (stands (reverse whole) (reverse (take place whole)) read.who.now read.file read.block) read.file read.block whole
+    c.last_standing-at.result place upto c.last_standing-at.ensures.none (c.is_cut_since.ensures.yes c.if-is_cut_since.true))
 
 pub returns-then-at-eq0 : goal.returns-then-at-eq0
 returns-then-at-eq0 c =
@@ -21,7 +22,8 @@ returns-then-at-eq0 c =
     let within : place < length whole = c.requires.within in
     let upto : place ≤ length whole = omega arith in
     let zero : c.last_standing-at.result ≡ 0 = search rules in
-    sym (zero_value (stands (reverse whole) (reverse (take place whole)) read.who.now read.file read.block) read.file read.block whole c.last_standing-at.result place zero upto c.last_standing-at.ensures.none (c.is_cut_since.ensures.no c.if-is_cut_since.false))
+    sym (zero_value (stands (reverse whole) (reverse (take place whole)) read.who.now read.file read.block) read.file read.block whole
+    c.last_standing-at.result place zero upto c.last_standing-at.ensures.none (c.is_cut_since.ensures.no c.if-is_cut_since.false))
 
 pub returns : goal.returns
 returns c =
@@ -37,4 +39,5 @@ returns c =
     let x = c.index-whole-at.result in
     let there = slice_get_read whole (length whole) (at - 1) x refl (omega arith) c.index-whole-at.is in
     c.value_written.ensures
-    ∙ sym (hit_value (reverse whole) (reverse (take place whole)) read.who.now read.file read.block whole at place x up low upto there (c.last_standing-at.ensures.there up x there) c.last_standing-at.ensures.none (c.is_cut_since.ensures.no c.if-is_cut_since.false))
+    ∙ sym (hit_value (reverse whole) (reverse (take place whole)) read.who.now read.file read.block whole at place x up low upto there
+    (c.last_standing-at.ensures.there up x there) c.last_standing-at.ensures.none (c.is_cut_since.ensures.no c.if-is_cut_since.false))

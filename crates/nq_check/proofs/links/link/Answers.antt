@@ -9,7 +9,8 @@ loop-place-preserved c =
     let place = c.loop-place.place in
     let entry = c.index-whole-place.result in
     let there = slice_get_read whole (length whole) place entry refl c.loop-place-test.true c.index-whole-place.is in
-    linked_next c.args.kind whole place entry c.loop-place.links.heads.entries c.link_entry.new.links.heads.entries c.loop-place.links.earlier.items c.link_entry.new.links.earlier.items there c.loop-place.invariant c.in_ok-link_entry.ensures
+    linked_next c.args.kind whole place entry c.loop-place.links.heads.entries c.link_entry.new.links.heads.entries c.loop-place.links.earlier.items
+    c.link_entry.new.links.earlier.items there c.loop-place.invariant c.in_ok-link_entry.ensures
 
 pub loop-place-init : goal.loop-place-init
 loop-place-init c =

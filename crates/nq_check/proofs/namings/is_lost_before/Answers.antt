@@ -14,4 +14,5 @@ returns-then-at-place c =
     let within : place ≤ length whole = c.requires.within in
     let up : 0 < at = omega arith in
     let there = slice_get_read whole (length whole) (at - 1) c.index-whole-at.result refl (omega arith) c.index-whole-at.is in
-    λ t. exists_before (is_lost_as c.args.by.now c.args.call.now c.args.span.now) whole (at - 1) place c.index-whole-at.result (omega arith) within there (sym c.is_lost_as.ensures ∙ t)
+    λ t. exists_before (is_lost_as c.args.by.now c.args.call.now c.args.span.now) whole (at - 1) place c.index-whole-at.result (omega arith) within
+    there (sym c.is_lost_as.ensures ∙ t)

@@ -14,5 +14,8 @@ loop-place-preserved c =
     let entry = c.index-whole-place.result in
     let there = slice_get_read whole (length whole) place entry refl c.loop-place-test.true c.index-whole-place.is in
     let yes : c.in_ok-names_anew.field-0 ≡ true = search rules in
-    let h = c.in_ok-names_anew.ensures yes c.loop-place.invariant.0 in
-    (subst (λ l. Each (IsNamed c.names_anew.new.names.named.entries) l) (sym (taken_here whole place entry there)) h.1, pass_up (is_naming whole) whole 0 place entry there h.0 c.loop-place.invariant.1)
+    let h = c.in_ok-names_anew.ensures yes c.loop-place.invariant.0 in (
+      subst (λ l. Each (IsNamed c.names_anew.new.names.named.entries) l) (sym (taken_here whole place entry there)) h.1,
+      pass_up (is_naming whole) whole
+          0 place entry there h.0 c.loop-place.invariant.1,
+    )

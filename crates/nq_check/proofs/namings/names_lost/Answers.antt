@@ -14,6 +14,8 @@ returns c =
     let before = reverse (take place whole) in
     let old = c.args.names.now.named.entries in
     let new = c.name_all_anew.new.names.named.entries in
-    ok_so c.name_all_anew.result (λ yes. IsTrue yes → NamesAll (reverse whole) before who c.call_along-call.result spans old new) (λ yes. IsTrue yes → NamesLost whole place who c.args.q spans old new)
-    (λ yes f t. lost_on whole place who c.args.q spans old new (subst (λ o. NamesAll (reverse whole) before who o spans old new) c.call_along-call.ensures (f t)))
+    ok_so c.name_all_anew.result (λ yes. IsTrue yes → NamesAll (reverse whole) before who c.call_along-call.result spans old new)
+    (λ yes. IsTrue yes → NamesLost whole place who c.args.q spans old new)
+    (λ yes f t. lost_on whole place who c.args.q spans old new
+    (subst (λ o. NamesAll (reverse whole) before who o spans old new) c.call_along-call.ensures (f t)))
     c.name_all_anew.ensures

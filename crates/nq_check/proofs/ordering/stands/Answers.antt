@@ -20,8 +20,10 @@ returns-in-C c =
     let is_busy = c.is_busy_behind-is_busy.result in
     let next : c.after_call-next.result ≡ after_call (line_at old s.who) s.q s.told is_busy =
     subst (λ (l : Line). c.after_call-next.result ≡ after_call l s.q s.told is_busy) c.line_at.ensures c.after_call-next.ensures in
-    rw s.is (ok_so c.set_next.result (λ yes. IsTrue yes → IsNext s.who c.after_call-next.result old new) (λ yes. IsTrue yes → StandsInOrder whole after (C s.who s.q s.told) old new)
-    (λ yes f t. call_stands whole after s.who s.q s.told is_busy old new c.is_busy_behind-is_busy.ensures (subst (λ (n : Option Line). IsNext s.who n old new) next (f t)))
+    rw s.is (ok_so c.set_next.result (λ yes. IsTrue yes → IsNext s.who c.after_call-next.result old new)
+    (λ yes. IsTrue yes → StandsInOrder whole after (C s.who s.q s.told) old new)
+    (λ yes f t. call_stands whole after s.who s.q s.told is_busy old new c.is_busy_behind-is_busy.ensures
+    (subst (λ (n : Option Line). IsNext s.who n old new) next (f t)))
     c.set_next.ensures)
 
 pub returns-in-W : goal.returns-in-W
@@ -34,8 +36,10 @@ returns-in-W c =
     let found = c.after_write-next.result in
     let next : found ≡ after_write_of (line_at old s.who) s.file s.block s.number s.value (line_at old s.who).current (line_at old s.who).busy =
     subst (λ (l : Line). found ≡ after_write_of l s.file s.block s.number s.value l.current l.busy) c.line_at-in-W.ensures c.after_write-next.ensures in
-    rw s.is (ok_so c.set_next-in-W.result (λ yes. IsTrue yes → IsNext s.who found old new) (λ yes. IsTrue yes → StandsInOrder whole after (W s.who s.file s.block s.number s.value s.through) old new)
-    (λ yes f t. write_stands whole after s.who s.file s.block s.number s.value s.through old new (subst (λ (n : Option Line). IsNext s.who n old new) next (f t)))
+    rw s.is (ok_so c.set_next-in-W.result (λ yes. IsTrue yes → IsNext s.who found old new)
+    (λ yes. IsTrue yes → StandsInOrder whole after (W s.who s.file s.block s.number s.value s.through) old new)
+    (λ yes f t. write_stands whole after s.who s.file s.block s.number s.value s.through old new
+    (subst (λ (n : Option Line). IsNext s.who n old new) next (f t)))
     c.set_next-in-W.ensures)
 
 pub returns-in-Z : goal.returns-in-Z
@@ -48,7 +52,8 @@ returns-in-Z c =
     let found = c.after_resize-next.result in
     let next : found ≡ after_resize_of (line_at old s.who) s.q s.file s.to (line_at old s.who).current =
     subst (λ (l : Line). found ≡ after_resize_of l s.q s.file s.to l.current) c.line_at-in-Z.ensures c.after_resize-next.ensures in
-    rw s.is (ok_so c.set_next-in-Z.result (λ yes. IsTrue yes → IsNext s.who found old new) (λ yes. IsTrue yes → StandsInOrder whole after (Z s.who s.q s.file s.from s.to) old new)
+    rw s.is (ok_so c.set_next-in-Z.result (λ yes. IsTrue yes → IsNext s.who found old new)
+    (λ yes. IsTrue yes → StandsInOrder whole after (Z s.who s.q s.file s.from s.to) old new)
     (λ yes f t. resize_stands whole after s.who s.q s.file s.from s.to old new (subst (λ (n : Option Line). IsNext s.who n old new) next (f t)))
     c.set_next-in-Z.ensures)
 
@@ -62,7 +67,8 @@ returns-in-A c =
     let found = c.after_answer-next.result in
     let next : found ≡ after_answer_of (line_at old s.who) s.q (line_at old s.who).current (line_at old s.who).busy =
     subst (λ (l : Line). found ≡ after_answer_of l s.q l.current l.busy) c.line_at-in-A.ensures c.after_answer-next.ensures in
-    rw s.is (ok_so c.set_next-in-A.result (λ yes. IsTrue yes → IsNext s.who found old new) (λ yes. IsTrue yes → StandsInOrder whole after (A s.who s.q s.said) old new)
+    rw s.is (ok_so c.set_next-in-A.result (λ yes. IsTrue yes → IsNext s.who found old new)
+    (λ yes. IsTrue yes → StandsInOrder whole after (A s.who s.q s.said) old new)
     (λ yes f t. answer_stands whole after s.who s.q s.said old new (subst (λ (n : Option Line). IsNext s.who n old new) next (f t)))
     c.set_next-in-A.ensures)
 
@@ -72,8 +78,10 @@ returns-then-not-may_count c =
     let after = drop (c.args.place + 1) c.args.whole.now in
     let lines = c.args.lines.now.entries in
     let s = c.in-R in
-    let uncounted = not_counted whole c.args.replies.now.entries s.who s.q s.file s.block s.value s.served c.requires.told (sym c.may_count.ensures ∙ c.if-not-may_count.true) in
-    λ t. subst (λ (e : Entry). StandsInOrder whole after e lines lines) (sym s.is) (uncounted_stands whole after s.who s.q s.file s.block s.value s.served lines uncounted)
+    let uncounted = not_counted whole c.args.replies.now.entries s.who s.q s.file s.block s.value s.served c.requires.told
+    (sym c.may_count.ensures ∙ c.if-not-may_count.true) in
+    λ t. subst (λ (e : Entry). StandsInOrder whole after e lines lines) (sym s.is)
+    (uncounted_stands whole after s.who s.q s.file s.block s.value s.served lines uncounted)
 
 pub returns-else-not-may_count : goal.returns-else-not-may_count
 returns-else-not-may_count c =
@@ -85,11 +93,13 @@ returns-else-not-may_count c =
     let found = c.after_read-next.result in
     let next : found ≡ after_read_of (line_at old s.who) s.q (line_at old s.who).current =
     subst (λ (l : Line). found ≡ after_read_of l s.q l.current) c.line_at-in-R.ensures c.after_read-next.ensures in
-    rw s.is (ok_so c.set_next-in-R.result (λ yes. IsTrue yes → IsNext s.who found old new) (λ yes. IsTrue yes → StandsInOrder whole after (R s.who s.q s.file s.block s.value s.served) old new)
+    rw s.is (ok_so c.set_next-in-R.result (λ yes. IsTrue yes → IsNext s.who found old new)
+    (λ yes. IsTrue yes → StandsInOrder whole after (R s.who s.q s.file s.block s.value s.served) old new)
     (λ yes f t. read_stands whole after s.who s.q s.file s.block s.value s.served old new (subst (λ (n : Option Line). IsNext s.who n old new) next (f t)))
     c.set_next-in-R.ensures)
 
 pub returns-in_default : goal.returns-in_default
 returns-in_default c =
     let found : IsTrue c.is_else.result → c.is_else.result ≡ true = λ t. search rules in
-    λ t. else_stands (reverse c.args.whole.now) (drop (c.args.place + 1) c.args.whole.now) c.args.entry.now c.args.lines.now.entries (sym c.is_else.ensures ∙ found t)
+    λ t. else_stands (reverse c.args.whole.now) (drop (c.args.place + 1) c.args.whole.now) c.args.entry.now c.args.lines.now.entries
+    (sym c.is_else.ensures ∙ found t)

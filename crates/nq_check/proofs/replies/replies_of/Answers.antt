@@ -10,4 +10,5 @@ loop-entry-preserved c =
     let place = c.loop-entry.entry-index in
     let entry = c.entry-item.result in
     let there = slice_get_read whole (length whole) place entry refl c.loop-entry-test.true c.entry-item.is in
-    subst (λ l. AreTold l c.tell_of.new.replies.entries) (sym (taken_here whole place entry there)) (c.in_ok-tell_of.ensures (reverse (take place whole)) c.loop-entry.invariant)
+    subst (λ l. AreTold l c.tell_of.new.replies.entries) (sym (taken_here whole place entry there))
+    (c.in_ok-tell_of.ensures (reverse (take place whole)) c.loop-entry.invariant)

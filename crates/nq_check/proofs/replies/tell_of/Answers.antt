@@ -13,7 +13,8 @@ returns-in-Some c =
     let entry = c.args.entry.now in
     let old = c.args.replies.now.entries in
     let new = c.tell.new.replies.entries in
-    on_ok c.tell.result (IsTold c.in-Some.at old new) (TellsOn entry old new) (tells_told entry c.in-Some.at old new (sym c.reply_told.ensures ∙ c.in-Some.is)) c.tell.ensures
+    on_ok c.tell.result (IsTold c.in-Some.at old new) (TellsOn entry old new)
+    (tells_told entry c.in-Some.at old new (sym c.reply_told.ensures ∙ c.in-Some.is)) c.tell.ensures
 
 pub returns-in-None : goal.returns-in-None
 returns-in-None c = tells_none c.args.entry.now c.args.replies.now.entries (sym c.reply_told.ensures ∙ c.in-None.is)

@@ -15,4 +15,5 @@ returns c =
     let e : c.lower-2.result ≤ ended = c.lower-2.ensures.1 in
     let f : front ≤ c.lower.result = c.lower-3.ensures.0 in
     let g : front ≤ c.lower-2.result = c.lower-3.ensures.1 in
-    all_below c.args.whole.now named told over ended front c.in_ok-names.ensures c.in_ok-reported.ensures c.in_ok-behind.ensures c.in_ok-ended.ensures (omega arith) (omega arith) (omega arith) (omega arith)
+    all_below c.args.whole.now named told over ended front c.in_ok-names.ensures c.in_ok-reported.ensures c.in_ok-behind.ensures c.in_ok-ended.ensures
+    (omega arith) (omega arith) (omega arith) (omega arith)

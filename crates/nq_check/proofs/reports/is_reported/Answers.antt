@@ -11,7 +11,8 @@ returns-then-call-whole c =
     let call = c.saturating_sub-call.result in
     let within : c.args.place < length whole = c.requires.within in
     let past : length whole ≤ call = c.if-call-whole.true in
-    let none = next_free whole (c.args.place + 1) c.args.next.now.entries c.args.by.now loss.file c.file_key.result c.head_at.result call c.requires.next c.file_key.ensures c.head_at.ensures c.saturating_sub-call.ensures in
+    let none = next_free whole (c.args.place + 1) c.args.next.now.entries c.args.by.now loss.file c.file_key.result c.head_at.result call
+    c.requires.next c.file_key.ensures c.head_at.ensures c.saturating_sub-call.ensures in
     λ t. never_told whole c.args.by.now loss (c.args.place + 1) call (omega arith) past none
 
 pub returns-then-answered-call : goal.returns-then-answered-call
@@ -26,7 +27,8 @@ returns-then-answered-call c =
     let y = c.index-whole-answered.result in
     let there = slice_get_read whole (length whole) (at - 1) y refl (omega arith) c.index-whole-answered.is in
     let yes : c.names.result ≡ true = search rules in
-    let none = next_free whole (c.args.place + 1) c.args.next.now.entries c.args.by.now loss.file c.file_key.result c.head_at.result call c.requires.next c.file_key.ensures c.head_at.ensures c.saturating_sub-call.ensures in
+    let none = next_free whole (c.args.place + 1) c.args.next.now.entries c.args.by.now loss.file c.file_key.result c.head_at.result call
+    c.requires.next c.file_key.ensures c.head_at.ensures c.saturating_sub-call.ensures in
     λ t. told_before whole c.args.by.now loss (c.args.place + 1) call (at - 1) y (omega arith) upto there (sym c.names.ensures ∙ yes) none
 
 pub returns : goal.returns
@@ -50,5 +52,7 @@ returns c =
     let there_y : slice_get whole (call + 1) ≡ Some y = subst (λ i. slice_get whole i ≡ Some y) same there in
     let yes : c.names.result ≡ true = search rules in
     let in_order = c.requires.ordered (call + 1) y (omega arith) there_y in
-    let none = next_free whole (c.args.place + 1) c.args.next.now.entries c.args.by.now loss.file c.file_key.result c.head_at.result call c.requires.next c.file_key.ensures c.head_at.ensures c.saturating_sub-call.ensures in
-    λ t. told_at_once whole c.args.by.now loss (c.args.place + 1) call x y (omega arith) there_x there_y (sym c.names.ensures ∙ yes) (sym c.answers.ensures ∙ t) in_order none
+    let none = next_free whole (c.args.place + 1) c.args.next.now.entries c.args.by.now loss.file c.file_key.result c.head_at.result call
+    c.requires.next c.file_key.ensures c.head_at.ensures c.saturating_sub-call.ensures in
+    λ t. told_at_once whole c.args.by.now loss (c.args.place + 1) call x y (omega arith) there_x there_y (sym c.names.ensures ∙ yes)
+    (sym c.answers.ensures ∙ t) in_order none

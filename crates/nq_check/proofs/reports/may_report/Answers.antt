@@ -7,4 +7,5 @@ pub returns-then-is_busy_behind : goal.returns-then-is_busy_behind
 returns-then-is_busy_behind c =
     let whole = reverse c.args.whole.now in
     let s = c.in-C in
-    λ who file h. busy_key whole s.who s.q s.told (c.is_busy_behind.ensures c.if-is_busy_behind.true) who file (subst (λ e. must_report whole who file e ≡ true) s.is h)
+    λ who file h. busy_key whole s.who s.q s.told (c.is_busy_behind.ensures c.if-is_busy_behind.true) who file
+    (subst (λ e. must_report whole who file e ≡ true) s.is h)

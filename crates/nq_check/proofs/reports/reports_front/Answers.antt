@@ -20,5 +20,6 @@ loop-left-preserved c =
     let there = slice_get_read whole (length whole) (left - 1) x refl (omega arith) c.index-whole-place.is in (
       omega arith,
       c.in_ok-take_report.ensures (next_before whole left c.loop-left.next.entries up c.loop-left.invariant.1),
-      pass_back (is_told whole) whole left c.loop-left.front c.is_told-told.result x c.front_with-front.result up there c.front_with-front.ensures c.is_told-told.ensures c.loop-left.invariant.2,
+      pass_back (is_told whole) whole left c.loop-left.front c.is_told-told.result x c.front_with-front.result up there c.front_with-front.ensures
+          c.is_told-told.ensures c.loop-left.invariant.2,
     )

@@ -5,4 +5,5 @@ use Rattle.nq_check.proofs.settled.is_lost_at.Goals as goal
 
 pub returns-in-Some : goal.returns-in-Some
 returns-in-Some c =
-    λ t. exists_there (λ entry. loss_covers entry c.args.write.now) c.args.entries.now c.args.at c.in-Some.entry.now c.in-Some.ensures (sym c.loss_covers.ensures ∙ t)
+    λ t. exists_there (λ entry. loss_covers entry c.args.write.now) c.args.entries.now c.args.at c.in-Some.entry.now c.in-Some.ensures
+    (sym c.loss_covers.ensures ∙ t)

@@ -15,4 +15,5 @@ returns-then-same_key-clause-free c =
     let link = slice_get_read earlier (length whole) place c.index-earlier.result.now (sym c.requires.linked.long) c.requires.within c.index-earlier.ensures in
     let same : same_spot (spot_of c.args.kind entry) c.args.key ≡ true =
     subst (λ k. same_spot k c.args.key ≡ true) c.key_of.ensures (sym c.same_key.ensures ∙ c.if-same_key.true) in
-    back_free c.args.kind whole (length whole) c.args.links.now.heads.entries earlier place entry c.index-earlier.result.now c.args.key c.requires.linked there link same
+    back_free c.args.kind whole (length whole) c.args.links.now.heads.entries earlier place entry c.index-earlier.result.now c.args.key
+    c.requires.linked there link same

@@ -34,7 +34,10 @@ loop-at-preserved c =
     let told = told_by c.index-whole-at.result who q in (
       omega arith,
       c.loop-at.invariant.1
-          ∙ ap (λ o. option_or o c.loop-at.call) (told_last c.call_key-key.result who q whole next at c.index-whole-at.result c.call_key-key.ensures up within low there c.back_from-at.ensures.free)
+          ∙ ap (λ o. option_or o c.loop-at.call)
+          (told_last c.call_key-key.result who q whole next at c.index-whole-at.result c.call_key-key.ensures up within low there
+          c.back_from-at.ensures.free)
           ∙ told_more (call_of (reverse (take next whole)) who q) told c.loop-at.call
-          ∙ ap (λ o. option_or (call_of (reverse (take next whole)) who q) o) (ap (λ t. option_or t c.loop-at.call) (sym c.told_by.ensures) ∙ sym c.or-call.ensures),
+          ∙ ap (λ o. option_or (call_of (reverse (take next whole)) who q) o)
+          (ap (λ t. option_or t c.loop-at.call) (sym c.told_by.ensures) ∙ sym c.or-call.ensures),
     )

@@ -9,4 +9,6 @@ returns c =
     let s = c.args.sought in
     let within : c.args.place ≤ length whole = let w = c.requires.within in omega arith in
     c.is_along.ensures
-    ∙ sym (skip_exists (passes s) c.kind_sought.result c.key_sought.result whole c.back_from-from.result c.args.place (sought_here s c.kind_sought.result c.key_sought.result c.kind_sought.ensures c.key_sought.ensures) c.back_from-from.ensures.low within c.back_from-from.ensures.free)
+    ∙ sym (skip_exists (passes s) c.kind_sought.result c.key_sought.result whole c.back_from-from.result c.args.place
+    (sought_here s c.kind_sought.result c.key_sought.result c.kind_sought.ensures c.key_sought.ensures) c.back_from-from.ensures.low within
+    c.back_from-from.ensures.free)

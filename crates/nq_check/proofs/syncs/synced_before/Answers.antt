@@ -11,4 +11,5 @@ returns-then-is_ok_to_sync-clause-known c =
     let below : at < c.args.place = c.if-at-place.true in
     let within : c.args.place < length whole = c.requires.within in
     let there = slice_get_read whole (length whole) at entry refl (omega arith) c.index-whole-at.is in
-    ok_synced (reverse whole) (reverse (take at whole)) c.args.by.now c.args.on entry (sym c.is_ok_to_sync.ensures ∙ c.if-is_ok_to_sync.true) (c.requires.kept at entry below there)
+    ok_synced (reverse whole) (reverse (take at whole)) c.args.by.now c.args.on entry (sym c.is_ok_to_sync.ensures ∙ c.if-is_ok_to_sync.true)
+    (c.requires.kept at entry below there)

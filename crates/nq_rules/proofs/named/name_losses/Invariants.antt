@@ -3,4 +3,6 @@ use Rattle.nq_model.specs.ReportedTest.{name_losses}
 use Rattle.nq_rules.proofs.named.name_losses.Given as goal
 
 abbrev pub invariant-loop-place : goal.invariant-loop-place
-invariant-loop-place l = name_losses (reverse l.whole) (reverse l.before) l.by l.call l.spans.items ≡ name_losses (reverse l.whole) (reverse l.before) l.by l.call (drop l.place l.spans.items)
+invariant-loop-place l =
+    name_losses (reverse l.whole) (reverse l.before) l.by l.call l.spans.items ≡ name_losses (reverse l.whole) (reverse l.before) l.by l.call
+    (drop l.place l.spans.items)

@@ -1,8 +1,8 @@
-use Rattle.std.proofs.Common.{◌∙◌, refl, subst, sym, arith}
+use Rattle.std.proofs.Common.{◌∙◌, ap, length, refl, arith}
 use Rattle.std.proofs.lemmas.List.{length-reverse}
 use Rattle.std.specs.Prelude.{reverse}
+use Rattle.nq_storm.proofs.Asking.{cut_short, once_more}
 use Rattle.nq_storm.proofs.Whole.{begins, counts_on, drawn, further, is_cut, is_whole}
-use Rattle.nq_storm.specs.Ending.{IsInStorm}
 use Rattle.nq_storm.proofs.storms.storm.Goals as goal
 
 pub loop-earlier-init : goal.loop-earlier-init
@@ -10,6 +10,7 @@ loop-earlier-init g c = record {
   words = c.new-words.ensures;
   many = rw c.requires.empty refl;
   storm = λ head plays. begins head _ _ c.args.ran.now _ _ _ c.requires.empty plays c.new-delivered.ensures;
+  asks = refl;
   stormy = rw c.requires.empty tt;
   faults = refl;
   follows = g.met.K.Keeper.follows_itself c.args.world.now.server.keeper;
@@ -23,10 +24,8 @@ loop-earlier-preserved g c =
       words = further c.args.start c.loop-earlier.earlier c.draw-word.result _ c.draw-word.new.self c.loop-earlier.invariant.words c.draw-word.ensures;
       many = c.pass_moment.ensures.more c.in-Done.is;
       storm = λ head plays.
-          c.pass_moment.ensures.passes c.in-Done.is head c.args.start _ word
-          (subst (λ v. IsInStorm head c.args.start ((goal.Fate-dyn g (c.args.fate.vtable, c.args.fate.value)).told c.args.fate.value) (reverse c.loop-earlier.ran)
-          ((goal.Fate-dyn g v).told v.1) c.loop-earlier.world (g.K.Keeper.content c.loop-earlier.world.server.keeper) c.loop-earlier.delivered)
-          (sym c.deref_box_mut-1.ensures.value.1) (c.loop-earlier.invariant.storm head plays));
+          c.pass_moment.ensures.passes c.in-Done.is head c.args.start _ word (c.loop-earlier.invariant.storm head plays);
+      asks = once_more c.loop-earlier.earlier _ _ _ c.loop-earlier.invariant.asks (c.pass_moment.ensures.asked c.in-Done.is);
       stormy = c.pass_moment.ensures.stormy c.loop-earlier.invariant.stormy;
       faults = c.in-Done.ensures.faults ∙ c.loop-earlier.invariant.faults;
       follows = g.met.K.Keeper.follows_on _ _ _ c.loop-earlier.invariant.follows c.pass_moment.ensures.follows;
@@ -44,6 +43,9 @@ returns-in_default g c =
           let here = c.loop-earlier.invariant.storm head plays in
           is_cut c.pass_moment.result head c.args.start c.args.events c.loop-earlier.earlier _ _ ran c.pass_moment.new.ran _ _ _ _ _ other same c.loop-earlier.invariant.many c.loop-earlier-test.true here
           (c.pass_moment.ensures.halts other head (reverse ran) count here.at);
+      asks = rw (ap length same ∙ c.loop-earlier.invariant.many) (cut_short c.pass_moment.result c.loop-earlier.earlier _ _ _ other c.loop-earlier.invariant.asks c.pass_moment.ensures.asks);
+      early = λ ended. rw (ap length same ∙ c.loop-earlier.invariant.many) c.loop-earlier-test.true;
+      whole = λ done. absurd (other done);
       stormy = c.pass_moment.ensures.stormy c.loop-earlier.invariant.stormy;
       faults = counts_on c.pass_moment.result _ _ _ c.loop-earlier.invariant.faults c.pass_moment.ensures.faults;
       follows = g.met.K.Keeper.follows_on _ _ _ c.loop-earlier.invariant.follows c.pass_moment.ensures.follows;
@@ -53,6 +55,9 @@ returns-in_default g c =
 pub returns : goal.returns
 returns g c = record {
   storms = λ head plays. is_whole head c.args.start c.args.events _ _ c.loop-earlier.ran _ _ _ (c.loop-earlier.invariant.many ∙ omega (arith, c.loop-earlier.auto.earlier-end, c.loop-earlier-test.false)) (c.loop-earlier.invariant.storm head plays);
+  asks = rw c.loop-earlier.invariant.many c.loop-earlier.invariant.asks;
+  early = λ ended. absurd (ended refl);
+  whole = λ done. c.loop-earlier.invariant.many ∙ omega (arith, c.loop-earlier.auto.earlier-end, c.loop-earlier-test.false);
   stormy = c.loop-earlier.invariant.stormy;
   faults = c.loop-earlier.invariant.faults;
   follows = c.loop-earlier.invariant.follows;
