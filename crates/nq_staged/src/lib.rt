@@ -9,7 +9,6 @@ mod lines;
 mod printing;
 mod running;
 mod schedules;
-mod telling;
 mod texts;
 
 pub use running::run_staged;
