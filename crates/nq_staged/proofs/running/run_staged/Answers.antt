@@ -3,8 +3,7 @@ use Rattle.nq_replay.specs.Ending.{TellsOver}
 use Rattle.nq_model.specs.Stepped.{out_of_skew}
 use Rattle.nq_staged.specs.Running.{FaultyStaged, PassesStaged, RunsStaged, StopsStaged}
 use Rattle.nq_io.specs.Whole.{IsAll}
-use Rattle.nq_replay.proofs.Endings.{over_unless, told_text}
-use Rattle.nq_staged.proofs.Endings.{ends_over, ends_text, still_unless}
+use Rattle.nq_staged.proofs.Endings.{ends_over, ends_text, over_unless, still_unless, told_text}
 use Rattle.nq_staged.proofs.running.run_staged.Goals as goal
 
 pub returns-in-All-clause-ends : goal.returns-in-All-clause-ends
