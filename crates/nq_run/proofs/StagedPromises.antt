@@ -1,10 +1,13 @@
 -- What a staged run prints is lawful and sound.
-use Rattle.std.proofs.Common.{ℕ, List, Option}
+use Rattle.std.proofs.Common.{◌≡◌, ◌∙◌, ℕ, List, Option, subst, sym}
+use Rattle.nq_ending.proofs.Ends.{one_end}
+use Rattle.nq_ending.specs.Status.{status_of}
+use Rattle.nq_ending.specs.declared.Ending.{Ending}
 use Rattle.nq_play.specs.Playing.{beginning}
 use Rattle.nq_replay.specs.Replay.{OfInput}
 use Rattle.nq_run.proofs.Promises.{faultless, holds_throughout}
-use Rattle.nq_run.specs.Staging.{StagesLawfully}
-use Rattle.nq_staged.specs.Running.{PrintsStaged, end_of}
+use Rattle.nq_run.specs.Staging.{EndsByInput, StagesFor, StagesLawfully}
+use Rattle.nq_staged.specs.Running.{EndsStaged, PrintsStaged, end_of}
 use Rattle.nq_staged_run.proofs.Inner.{runs-inside}
 
 stages_lawfully : (text : List ℕ) (held now : Option (List ℕ)) → PrintsStaged text held now → StagesLawfully text held now
@@ -24,5 +27,20 @@ stages_lawfully text held now p =
     }
 
 -- of an input whose staged run was printed
-pub input_staged : (limit : ℕ) (left rest held now : Option (List ℕ)) → OfInput limit left rest (λ text. PrintsStaged text held now) → OfInput limit left rest (λ text. StagesLawfully text held now)
+input_staged : (limit : ℕ) (left rest held now : Option (List ℕ)) → OfInput limit left rest (λ text. PrintsStaged text held now) → OfInput limit left rest (λ text. StagesLawfully text held now)
 input_staged limit left rest held now p = record { text = p.text; read = p.read; so = stages_lawfully p.text held now p.so }
+
+-- a staged run by its end
+pub stages_for : (end : Ending) (limit code : ℕ) (left rest held now : Option (List ℕ)) (r r' w w' : ℕ) → code ≡ status_of end → EndsStaged end limit left rest held now r r' w w' → EndsByInput end limit left r r' w w' → StagesFor limit code left rest held now r r' w w'
+stages_for end limit code left rest held now r r' w w' status ends by_input = record {
+  end = end;
+  status = status;
+  ends = ends;
+  by_input = by_input;
+  lawful = λ done. input_staged limit left rest held now (subst (λ e. EndsStaged e limit left rest held now r r' w w') done ends);
+}
+
+-- words of a staged run say a command
+pub stages_usage : (limit code : ℕ) (left rest held now : Option (List ℕ)) (r r' w w' : ℕ) → StagesFor limit code left rest held now r r' w w' → code ≡ status_of Ending.Usage → ⊥
+stages_usage limit code left rest held now r r' w w' s none =
+    subst (λ e. EndsStaged e limit left rest held now r r' w w') (one_end s.end Ending.Usage code s.status none) s.ends

@@ -45,12 +45,12 @@ use std::alloc::Global;
 const MOST_BYTES: usize = 16_777_216;
 
 /// Runs what the words say, with input of at most 16,777,216 bytes: `replay` and `check`, as [`replay`] and [`judge`] tell, `staged`, as
-/// `run_staged` of `nq_staged` tells, `serve` over the keeper, the link and the clock, as [`serve`] tells, `client` over the link and the clock, as [`client`] tells, `storm` by the
-/// first fate of the kind, as [`run_storm`] tells, and `loop` over the clock and the links, of which the server's is the first, as
-/// [`run_loop`] tells. The headline of `nq_laws` holds at each moment of the run whose journal `replay`, `storm` or `loop` printed, and that
-/// journal is sound for `check`: leases, ticks, restarts and crashes included. That the schedule is within skew and keeps to the bounds
-/// is no premise, since the run itself tests it. What the words have no use for stays as it was: the input, the link, the links of a loop, the
-/// clock.
+/// `run_staged` of `nq_staged` tells, `serve` over the keeper, the link and the clock, as [`serve`] tells, `client` over the link and the
+/// clock, as [`client`] tells, `storm` by the first fate of the kind, as [`run_storm`] tells, and `loop` over the clock and the links, of
+/// which the server's is the first, as [`run_loop`] tells. The headline of `nq_laws` holds at each moment of the run whose journal
+/// `replay`, `storm`, `loop` or `staged` printed, and that journal is sound for `check`: leases, ticks, restarts and crashes included. That
+/// the schedule is within skew and keeps to the bounds is no premise, since the run itself tests it. What the words have no use for stays
+/// as it was: the input, the link, the links of a loop, the clock.
 ///
 /// The answer is the exit status. `docs/commands.md` says when each comes, and what is printed then.
 #[tactic(auto, using(crate::proofs::Commands::says_replay, crate::proofs::Commands::says_check, crate::proofs::Commands::says_staged), unfolding(crate::specs::Promised::most_bytes))]

@@ -6,6 +6,10 @@ use Rattle.nq_io.specs.Whole.{IsAll, IsOver}
 use Rattle.nq_replay.specs.Ending.{IsFault, IsUnlessFault, TellsOver}
 use Rattle.nq_staged.specs.Running.{EndsStaged, EndsStagedText}
 
+-- what was read is what was told
+pub told_text : (bytes : List ℕ) (limit : ℕ) (left rest : Option (List ℕ)) (text : List ℕ) → IsAll bytes limit left rest → left ≡ Some text → bytes ≡ text
+told_text bytes limit left rest text read told = subst (λ l. IfSome l (λ input. bytes ≡ input)) told read.all
+
 -- running a text that was read meets no fault of the source
 still_fault : (end : Ending) (text : List ℕ) (held now : Option (List ℕ)) (r r' w w' : ℕ) → EndsStagedText end text held now w w' → IsFault end 0 0 w w' → IsFault end r r' w w'
 still_fault Ending.ReadFault text held now r r' w w' ends fault = absurd ends
@@ -35,3 +39,8 @@ pub ends_over : (end : Ending) (front : List ℕ) (limit : ℕ) (left rest held 
 ends_over Ending.Memory front limit left rest held now r r' w w' over tells = inl (tells, inr (inr (front, over)))
 ends_over Ending.Limit front limit left rest held now r r' w w' over tells = inl (record { front = front; passes = over; printed = tells })
 ends_over other front limit left rest held now r r' w w' over tells = absurd tells
+
+pub over_unless : (end : Ending) (front : List ℕ) (held now : Option (List ℕ)) (r r' w w' : ℕ) → TellsOver end front held now w w' → IsUnlessFault end Ending.Limit r r' w w'
+over_unless Ending.Memory front held now r r' w w' tells = inr tt
+over_unless Ending.Limit front held now r r' w w' tells = inl refl
+over_unless other front held now r r' w w' tells = absurd tells

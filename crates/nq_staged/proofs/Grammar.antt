@@ -1,6 +1,7 @@
 -- A text is one staged schedule, or has one first line that is wrong.
-use Rattle.std.proofs.Common.{◌≡◌, ◌<◌, ◌≤◌, ◌^◌, ◌⊎◌, inl, inr, ℕ, ◌+◌, Bool, true, false, List, [], ◌∷◌, ◌++◌, drop, take, length, map, Option, Some, None, is_some, Result, Ok, Err, refl, sym, ap, subst, ◌∙◌, arith, length-append}
+use Rattle.std.proofs.Common.{◌≡◌, ◌<◌, ◌≤◌, ◌^◌, ◌⊎◌, inl, inr, ℕ, zero, suc, ◌+◌, Bool, true, false, List, [], ◌∷◌, ◌++◌, drop, take, length, map, Option, Some, None, is_some, Result, Ok, Err, refl, sym, ap, subst, ◌∙◌, arith, length-append}
 use Rattle.std.proofs.lemmas.List.{append_cancel_left, take_at}
+use Rattle.std.proofs.lemmas.Bool.Decides.{nat_tests}
 use Rattle.std.proofs.lemmas.Bool.{eqb-true, false≢true}
 use Rattle.std.specs.List.{AllByRecursion}
 use Rattle.std.specs.Prelude.{◌==◌, ◌-◌, codes, nat_lt, if◌then◌else◌}
@@ -139,13 +140,17 @@ staged-found head count size text plain stages (Err Memory) front second is are 
 
 -- ---- hosts
 
+number-low : (hosts : ℕ) (word : List ℕ) (o : Option ℕ) → number_of (hosts - 1) word ≡ o → 0 < hosts → hosts ≤ 64 → IsForHosts hosts o
+number-low hosts word None is some few = tt
+number-low hosts word (Some host) is some few = let low = (number-found (hosts - 1) word host (omega arith) is).1 in omega arith
+
+host-low : (hosts : ℕ) (word : List ℕ) (test : Bool) → nat_lt 0 hosts ≡ test → hosts ≤ 64 → IsForHosts hosts (if test then number_of (hosts - 1) word else None)
+host-low hosts word false is few = tt
+host-low hosts word true is few = let some : 0 < hosts = grind (arith, nat_tests) in number-low hosts word (number_of (hosts - 1) word) refl some few
+
 stage-host : (hosts : ℕ) (word : Option (List ℕ)) → hosts ≤ 64 → IsForHosts hosts (host_of hosts word)
 stage-host hosts None few = tt
-stage-host zero (Some word) few = tt
-stage-host (suc hosts) (Some word) few = by_number (number_of hosts word) refl where
-  by_number : (o : Option ℕ) → number_of hosts word ≡ o → IsForHosts (suc hosts) o
-  by_number None is = tt
-  by_number (Some host) is = let low = (number-found hosts word host (omega arith) is).1 in omega arith
+stage-host hosts (Some word) few = host-low hosts word (nat_lt 0 hosts) refl few
 
 stages-for : (hosts : ℕ) (lines : List (List ℕ)) → hosts ≤ 64 → AreForHosts hosts (map (stage_line hosts) lines)
 unfolding stage_line
@@ -154,16 +159,18 @@ stages-for hosts (line ∷ lines) few = (stage-host hosts (after (codes "stage "
 
 -- ---- lengths
 
+in-first : (b : ℕ) (p : List (List ℕ) × List ℕ) → text_of (in_front b p).0 ++ (in_front b p).1 ≡ b ∷ (text_of p.0 ++ p.1)
+in-first b ([], rest) = refl
+in-first b (line ∷ lines, rest) = refl
+
+whole-step : (b : ℕ) (bytes : List ℕ) (p : List (List ℕ) × List ℕ) (test : Bool) → (b == 10) ≡ test → text_of p.0 ++ p.1 ≡ bytes
+    → text_of (if test then new_line p else in_front b p).0 ++ (if test then new_line p else in_front b p).1 ≡ b ∷ bytes
+whole-step b bytes p true is whole = let e : b ≡ 10 = eqb-true b 10 is in rw e (ap (λ t. 10 ∷ t) whole)
+whole-step b bytes p false is whole = in-first b p ∙ ap (λ t. b ∷ t) whole
+
 whole-lines : (bytes : List ℕ) → text_of (lines_in bytes).0 ++ (lines_in bytes).1 ≡ bytes
 whole-lines [] = refl
-whole-lines (b ∷ bytes) = by_byte (b == 10) refl where
-  in-first : (p : List (List ℕ) × List ℕ) → text_of (in_front b p).0 ++ (in_front b p).1 ≡ b ∷ (text_of p.0 ++ p.1)
-  in-first ([], rest) = refl
-  in-first (line ∷ lines, rest) = refl
-
-  by_byte : (test : Bool) → (b == 10) ≡ test → text_of (if test then new_line (lines_in bytes) else in_front b (lines_in bytes)).0 ++ (if test then new_line (lines_in bytes) else in_front b (lines_in bytes)).1 ≡ b ∷ bytes
-  by_byte true is = let e : b ≡ 10 = eqb-true b 10 is in rw e (ap (λ t. 10 ∷ t) (whole-lines bytes))
-  by_byte false is = in-first (lines_in bytes) ∙ ap (λ t. b ∷ t) (whole-lines bytes)
+whole-lines (b ∷ bytes) = whole-step b bytes (lines_in bytes) (b == 10) refl (whole-lines bytes)
 
 offer-longer : (hosts : ℕ) (line : List ℕ) (o : Option (List ℕ)) → after (codes "stage ") line ≡ o → (test : Bool) → is_some (host_of hosts o) ≡ test → length (if test then codes "flow" else line) ≤ length line
 offer-longer hosts line o is false tells = omega arith

@@ -3,7 +3,6 @@ use Rattle.std.proofs.Common.{◌≡◌, ◌<◌, ◌≤◌, ℕ, ◌+◌, List,
 use Rattle.std.proofs.lemmas.List.{reverse-append, reverse-reverse}
 use Rattle.std.specs.List.{AllByRecursion}
 use Rattle.nq_commit.specs.Playing.{PlaysOutside, StagedOver, stepped_outside}
-use Rattle.nq_commit.proofs.Reaching.{reached-ran}
 use Rattle.nq_model.specs.Kept.{Kept}
 use Rattle.nq_play.specs.Playing.{beginning}
 use Rattle.nq_play.specs.declared.Played.{Played as Went}
@@ -14,6 +13,7 @@ use Rattle.nq_script.specs.declared.heads.Head.{Head}
 use Rattle.nq_script.specs.declared.lines.Line.{Line}
 use Rattle.nq_staged.proofs.Tellable.{IsPlainly, run-all}
 use Rattle.nq_staged.specs.Going.{Comes, RanTo}
+use Rattle.nq_staged.specs.Running.{IsTold}
 use Rattle.nq_staged.specs.Text.{IsTellable, StagedLine, mixed, plain, stage}
 use Rattle.nq_staged_run.specs.Outside.{outside_run}
 use Rattle.nq_base.specs.declared.Event.{Event}
@@ -68,7 +68,7 @@ keeps-flow P head (suc most) keeps events here =
 
 -- ---- all events can be told
 
-deliver-told : (head : Head) (k : ℕ) → IsTellable head (Event.Deliver k)
+pub deliver-told : (head : Head) (k : ℕ) → IsTellable head (Event.Deliver k)
 deliver-told head k = (tt, tt)
 
 abbrev pub AreTold : Head → List StagedEvent → Type 0
@@ -126,18 +126,18 @@ all-reversed : {X : Type 0} (P : X → Type 0) (xs : List X) → AllByRecursion 
 all-reversed P [] all = tt
 all-reversed P (x ∷ xs) all = subst (AllByRecursion P) (sym (reverse-append (x ∷ []) xs)) (all-append P (reverse xs) (x ∷ []) (all-reversed P xs all.1) (all.0, tt))
 
-all-reverse : {X : Type 0} (P : X → Type 0) (xs : List X) → AllByRecursion P (reverse xs) → AllByRecursion P xs
+pub all-reverse : {X : Type 0} (P : X → Type 0) (xs : List X) → AllByRecursion P (reverse xs) → AllByRecursion P xs
 all-reverse P xs all = subst (AllByRecursion P) (reverse-reverse xs) (all-reversed P (reverse xs) all)
 
-pub inner_told : {K : Type 0} (head : Head) (events : List StagedEvent) (w : StagedOver K) (told : Option Kept) → AreTold head events → PlaysOutside (beginning head) events w told → AllByRecursion (IsTellable head) w.ran
-inner_told head events w told are plays =
-    all-reverse (IsTellable head) w.ran (subst (AllByRecursion (IsTellable head)) (reached-ran (beginning head) events w told plays.reaches) (run-all (IsTellable head) (deliver-told head) (beginning head) events are))
-
-came_told : {K : Type 0} (head : Head) (stages : List (Option ℕ)) (lines : List Line) (text : List ℕ) (w : StagedOver K) (told : Option Kept) (due : Ended) → head.version ≡ 2 → SpellsSchedule head lines text → play head (mixed stages lines) ≡ due → RanTo due (λ events. PlaysOutside (beginning head) events w told) → AllByRecursion (IsTellable head) w.ran
-came_told head stages lines text w told (ran events) second spelled is plays = inner_told head events w told (events_told head second stages lines text events spelled is) plays
+came_told : {K : Type 0} (head : Head) (stages : List (Option ℕ)) (lines : List Line) (text : List ℕ) (w : StagedOver K) (told : Option Kept) (due : Ended) → head.version ≡ 2 → SpellsSchedule head lines text → play head (mixed stages lines) ≡ due → RanTo due (λ events. PlaysOutside (beginning head) events w told) → IsTold head w told
+came_told head stages lines text w told (ran events) second spelled is plays = record {
+  events = events;
+  plays = plays;
+  tellable = run-all (IsTellable head) (deliver-told head) (beginning head) events (events_told head second stages lines text events spelled is);
+}
 came_told head stages lines text w told (stopped line answer) second spelled is plays = absurd plays
 
 -- a staged schedule that was played to its end
-pub played_told : {K : Type 0} (head : Head) (stages : List (Option ℕ)) (lines : List Line) (text : List ℕ) (played : Went) (w : StagedOver K) (told : Option Kept) → head.version ≡ 2 → SpellsSchedule head lines text → Comes played (play head (mixed stages lines)) (λ events. PlaysOutside (beginning head) events w told) → played ≡ Went.All → AllByRecursion (IsTellable head) w.ran
+pub played_told : {K : Type 0} (head : Head) (stages : List (Option ℕ)) (lines : List Line) (text : List ℕ) (played : Went) (w : StagedOver K) (told : Option Kept) → head.version ≡ 2 → SpellsSchedule head lines text → Comes played (play head (mixed stages lines)) (λ events. PlaysOutside (beginning head) events w told) → played ≡ Went.All → IsTold head w told
 played_told head stages lines text Went.All w told second spelled comes is = came_told head stages lines text w told (play head (mixed stages lines)) second spelled refl comes
 played_told head stages lines text (Went.Stopped line answer) w told second spelled comes is = absurd (cc)

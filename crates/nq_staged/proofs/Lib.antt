@@ -5,7 +5,8 @@ pub mod Lining
 pub mod Tellable
 pub mod Keeping
 pub mod Outcomes
-pub mod Endings
+mod Endings
+mod Putting
 pub mod Grammar
 pub mod Printed
 pub mod Readied

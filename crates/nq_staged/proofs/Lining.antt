@@ -1,6 +1,6 @@
 -- The lines of a text, and the text in which lines `flow` stand for offers.
 use Rattle.std.proofs.Common.{◌≡◌, ◌≢◌, ◌<◌, ◌≤◌, ◌⊎◌, inl, inr, ℕ, zero, suc, ◌+◌, Bool, true, false, List, [], ◌∷◌, ◌++◌, length, map, Option, Some, None, is_some, refl, sym, ap, subst, ◌∙◌, arith, append_assoc}
-use Rattle.std.proofs.lemmas.Bool.Decides.{nat_tests}
+use Rattle.std.proofs.lemmas.Bool.{ne_eqb}
 use Rattle.std.specs.List.{AllByRecursion}
 use Rattle.std.specs.Prelude.{◌==◌, ◌-◌, codes, nat_lt, if◌then◌else◌}
 use Rattle.nq_commit.specs.Line.{host_of, stage_line}
@@ -17,7 +17,7 @@ use Rattle.nq_script.specs.declared.lines.Line.{Line}
 use Rattle.nq_staged.specs.Text.{AreForHosts, IsForHosts, in_front, lines_in, new_line, plain_bytes, plain_line, plain_text, stages_in}
 
 other-byte : (b : ℕ) → b ≢ 10 → (b == 10) ≡ false
-other-byte b no = grind (nat_tests)
+other-byte b other = ne_eqb b 10 other
 
 -- a line, and those behind its line feed
 pub lines-step : (line after : List ℕ) → Lacks 10 line → lines_in (line ++ 10 ∷ after) ≡ (line ∷ (lines_in after).0, (lines_in after).1)

@@ -1,5 +1,5 @@
 -- One thing after another.
-use Rattle.std.proofs.Common.{◌≡◌, ℕ, ◌+◌, ◌-◌, ◌<◌, List, [], ◌∷◌, drop, length, slice_get, Option, Some, None, zero, suc, refl, sym, ap, subst, ◌∙◌, arith}
+use Rattle.std.proofs.Common.{◌≡◌, ℕ, ◌+◌, ◌-◌, ◌<◌, ◌≤◌, List, [], ◌∷◌, drop, length, slice_get, Option, Some, None, zero, suc, refl, sym, ap, subst, ◌∙◌, arith}
 use Rattle.nq_base.specs.declared.Event.{Event}
 use Rattle.nq_staged_run.specs.declared.StagedEvent.{StagedEvent}
 use Rattle.nq_model.specs.World.{Head}
@@ -136,3 +136,14 @@ lines-step head most first place lines line events due split same =
 
 pub comes-here : (played stop : Played) (due first : Ended) (P : List StagedEvent → Type 0) → played ≡ stop → first ≡ due → Comes stop first P → Comes played due P
 comes-here played stop due first P is same comes = subst (λ d. Comes played d P) same (subst (λ p. Comes p first P) (sym is) comes)
+
+-- ---- no line is left
+
+drop-past : (lines : List StagedLine) (place : ℕ) → length lines ≤ place → drop place lines ≡ []
+drop-past [] zero less = refl
+drop-past [] (suc place) less = refl
+drop-past (line ∷ lines) zero less = absurd (omega arith)
+drop-past (line ∷ lines) (suc place) less = drop-past lines place (omega arith)
+
+pub lines-end : (head : Head) (most number place : ℕ) (lines : List StagedLine) (events : List StagedEvent) (due : Ended) → length lines ≤ place → play_lines head most number (drop place lines) events ≡ due → ran events ≡ due
+lines-end head most number place lines events due past same = subst (λ ls. play_lines head most number ls events ≡ due) (drop-past lines place past) same

@@ -2,14 +2,17 @@
 -- source tells them; `held` is what the sink held before it and `now` is what it holds after it, where the sink tells them; `r` and `r'`
 -- are the source's counts of faults before and after, and `w` and `w'` the sink's.
 use Rattle.std.specs.Fmt.{decimal}
+use Rattle.std.specs.List.{AllByRecursion}
 use Rattle.std.specs.Prelude.{◌≡◌, ◌⊎◌, ℕ, List, ◌++◌, Option, codes, map, reverse}
 use Rattle.nq_base.specs.declared.SkewBroken.{SkewBroken}
+use Rattle.nq_commit.specs.Playing.{PlaysOutside, StagedOver}
 use Rattle.nq_ending.specs.declared.Ending.{Ending}
 use Rattle.nq_io.specs.Faults.{Rose}
 use Rattle.nq_io.specs.Sink.{AppendsFront}
 use Rattle.nq_io.specs.Told.{with_end}
 use Rattle.nq_io.specs.Whole.{TakesSome}
 use Rattle.nq_journal.specs.Text.{journal_text}
+use Rattle.nq_model.specs.Kept.{Kept}
 use Rattle.nq_model.specs.Stepped.{Stepped, no_packet, out_of_skew, too_many_events, too_many_packets}
 use Rattle.nq_play.specs.Lawful.{IsLawful}
 use Rattle.nq_play.specs.Playing.{beginning}
@@ -21,7 +24,7 @@ use Rattle.nq_script.specs.Lines.{once}
 use Rattle.nq_script.specs.Schedule.{SpellsSchedule}
 use Rattle.nq_script.specs.declared.heads.Head.{Head}
 use Rattle.nq_staged.specs.Playing.{Ended, play, ran, stopped}
-use Rattle.nq_staged.specs.Text.{FirstBadStaged, SpellsStaged, StagedLine}
+use Rattle.nq_staged.specs.Text.{FirstBadStaged, IsTellable, SpellsStaged, StagedLine}
 use Rattle.nq_staged_run.specs.declared.StagedEvent.{StagedEvent}
 use Rattle.nq_staged_run.specs.Outer.{Counts, Outside}
 use Rattle.nq_staged_run.specs.Outside.{outside_run}
@@ -140,6 +143,12 @@ EndsStaged Ending.Limit limit left rest held now r r' w w' =
 EndsStaged other limit left rest held now r r' w w' = ⊥
 
 -- ---- the parts of a run
+
+-- a world plays the staged run of events whose inner events a schedule can tell
+pub record IsTold {K : Type 0} (head : Head) (w : StagedOver K) (told : Option Kept) : Type 0 where
+  pub events : List StagedEvent
+  pub plays : PlaysOutside (beginning head) events w told
+  pub tellable : AllByRecursion (IsTellable head) (end_of head events).ran
 
 -- all that a staged run prints was printed, or a front of it, or nothing, by the end
 pub record PrintsRun (end : Ending) (head : Head) (events : List StagedEvent) (held now : Option (List ℕ)) (w w' : ℕ) : Type 0 where

@@ -152,7 +152,11 @@ pub(crate) fn rounds<K: Keeper>(
 }
 
 /// Gives the delivery of a packet that travels.
-pub(crate) fn deliver<K: Keeper>(world: &mut StagedWorld<K>, delivered: &mut Delivered, packet: u64) -> Stepped
+pub(crate) fn deliver<K: Keeper>(
+    world: &mut StagedWorld<K>,
+    delivered: &mut Delivered,
+    packet: u64,
+) -> Stepped
     ensures goes { (head : Head) (events : List StagedEvent) → IsAt head events world.old (K.content world.old.inner.server.keeper) delivered.old
         → Goes result (play_event head (StagedEvent.Plain (Event.Deliver packet)) events) (λ es. IsAt head es world.new (K.content world.new.inner.server.keeper) delivered.new) }
     ensures faults { CountsFaults result (K.faults world.old.inner.server.keeper) (K.faults world.new.inner.server.keeper) }

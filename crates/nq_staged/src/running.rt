@@ -1,6 +1,5 @@
 //! Running a staged schedule.
 
-ghost use Rattle.std.specs.List.{AllByRecursion};
 ghost use Rattle.std.specs.Prelude.{◌≡◌, ◌⊎◌, ◌<◌, ◌≤◌, ◌^◌, ℕ, List, [], Some, length, IfOk};
 ghost use Rattle.nq_base.specs.declared.SkewBroken.{SkewBroken};
 ghost use Rattle.nq_commit.specs.Playing.{PlaysOutside};
@@ -16,8 +15,8 @@ ghost use Rattle.nq_script.specs.Heads.{FitsHead};
 ghost use Rattle.nq_script.specs.declared.heads.Head.{Head};
 ghost use Rattle.nq_staged.specs.Going.{Comes};
 ghost use Rattle.nq_staged.specs.Playing.{Ended, play};
-ghost use Rattle.nq_staged.specs.Running.{EndsStaged, EndsStagedPlayed, EndsStagedText, FaultyStaged, PassesStaged, PrintsRun, RunsStaged, StopsStaged};
-ghost use Rattle.nq_staged.specs.Text.{IsReadyStaged, IsTellable, mixed};
+ghost use Rattle.nq_staged.specs.Running.{EndsStaged, EndsStagedPlayed, EndsStagedText, FaultyStaged, IsTold, PassesStaged, PrintsRun, RunsStaged, StopsStaged};
+ghost use Rattle.nq_staged.specs.Text.{IsReadyStaged, mixed};
 ghost use Rattle.nq_staged_run.specs.declared.StagedEvent.{StagedEvent};
 ghost use Rattle.nq_world.specs.Playing.{HasSettings};
 
@@ -199,7 +198,7 @@ fn tell<L: Keeper, K: Sink>(
     requires fits { FitsHead head.now }
     requires version { head.now.version ≡ 2 }
     requires reason { HasReason played }
-    requires told { played ≡ Played.All → AllByRecursion (IsTellable head.now) world.now.ran }
+    requires told { played ≡ Played.All → IsTold head.now world.now (L.content world.now.inner.server.keeper) }
     ensures { (due : Ended) → Comes played due (λ events. PlaysOutside (beginning head.now) events world.now (L.content world.now.inner.server.keeper))
         → EndsStagedPlayed result head.now due (K.held out.old) (K.held out.new) (K.faults out.old) (K.faults out.new) }
 {
@@ -218,7 +217,7 @@ fn print_run<L: Keeper, K: Sink>(
 ) -> Ending
     requires fits { FitsHead head.now }
     requires version { head.now.version ≡ 2 }
-    requires told { AllByRecursion (IsTellable head.now) world.now.ran }
+    requires told { IsTold head.now world.now (L.content world.now.inner.server.keeper) }
     ensures { (events : List StagedEvent) → PlaysOutside (beginning head.now) events world.now (L.content world.now.inner.server.keeper)
         → PrintsRun result head.now events (K.held out.old) (K.held out.new) (K.faults out.old) (K.faults out.new)
         ⊎ ((result ≡ Ending.Memory) × (K.held out.new ≡ K.held out.old)) }

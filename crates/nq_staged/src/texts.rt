@@ -11,7 +11,7 @@ ghost use Rattle.nq_staged.specs.Text.{FirstBadStaged, IsReadyStaged, SpellsStag
 use crate::schedules::VERSION;
 use nq_base::{Host, NoMemory};
 use nq_commit::parse_stage;
-use nq_script::{HeadOut, Script, ScriptFault, parse, parse_head};
+use nq_script::{Script, ScriptFault, parse, parse_head};
 use nq_words::cut;
 use std::alloc::Global;
 
@@ -55,16 +55,12 @@ fn read_whole(alloc: Global, text: &[u8]) -> Result<StagedScript, ScriptFault>
     ensures found { Answers result (λ s. SpellsStaged s.script.head (mixed s.stages.items s.script.lines) text.now) (λ number. FirstBadStaged text.now number) }
     ensures ready { Answers result (λ s. IsReadyStaged s.script s.stages.items) (λ number. Unit {0}) }
 {
-    let HeadOut {
-        head,
-        lines: _,
-        bytes,
-    } = parse_head(alloc, text)?;
-    if head.version != VERSION {
+    let out = parse_head(alloc, text)?;
+    if out.head.version != VERSION {
         return Err(ScriptFault::Bad(1));
     }
-    let (front, body) = text.split_at(bytes);
-    let plain = plain_text(alloc, head.hosts, front, body)?;
+    let (front, body) = text.split_at(out.bytes);
+    let plain = plain_text(alloc, out.head.hosts, front, body)?;
     read_plain(alloc, plain)
 }
 

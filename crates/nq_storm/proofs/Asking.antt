@@ -48,5 +48,5 @@ asks_few Ending.Limit limit wanted before now held held' w w' tells asks = asks
 asks_few other limit wanted before now held held' w w' tells asks = absurd tells
 
 -- where it did not begin
-pub asks_none : (wanted before now : ℕ) → now ≡ before → AsksFor Ending.Memory wanted before now
+pub asks_none : (wanted before now : ℕ) → now ≡ before → AsksFew wanted before now
 asks_none wanted before now same = record { events = 0; few = omega arith; asked = same }

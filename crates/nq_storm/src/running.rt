@@ -34,6 +34,7 @@ use std::alloc::Global;
 /// - `WriteFault`: the sink failed, which it has counted; a front of that is printed.
 /// - `Memory`: memory was wanting; a front of that may be printed.
 /// - `Limit`: more than 999,936 packets came before an event, or 100,000 events; prints `limit line 0 packets` or `events`.
+#[tactic(auto, using(crate::proofs::Asking::asks_none))]
 pub fn run_storm<K: Sink>(
     alloc: Global,
     fate: &mut dyn Fate,

@@ -5,6 +5,7 @@ use Rattle.nq_ending.specs.declared.Ending.{Ending}
 use Rattle.nq_run.proofs.HostPromises.{serve_does, serve_usage}
 use Rattle.nq_run.proofs.LoopPromises.{loop_does, loop_lawful, loop_unless, loop_usage}
 use Rattle.nq_run.proofs.Promises.{input_lawful, input_sound}
+use Rattle.nq_run.proofs.StagedPromises.{stages_usage}
 use Rattle.nq_run.proofs.StormPromises.{storm_does, storm_lawful, storm_never, storm_prints, storm_unless, storm_usage}
 use Rattle.nq_run.specs.Promised.{most_bytes}
 use Rattle.nq_run.proofs.top.run.Goals as goal
@@ -40,6 +41,16 @@ returns-in-Some-Check-clause-judged_script g c = λ is text told within number f
 pub returns-in-Some-Check-clause-judged_said : goal.returns-in-Some-Check-clause-judged_said
 unfolding most_bytes
 returns-in-Some-Check-clause-judged_said g c = λ is text told within journal. (c.judge.result, c.status-in-Some-Check.ensures, c.judge.ensures.said text told within journal)
+
+pub returns-in-Some-Staged-clause-usage : goal.returns-in-Some-Staged-clause-usage
+returns-in-Some-Staged-clause-usage g c = λ none. absurd (stages_usage _ _ _ _ _ _ _ _ _ _ c.staged.ensures none)
+
+pub returns-in-Some-Staged-clause-nothing : goal.returns-in-Some-Staged-clause-nothing
+returns-in-Some-Staged-clause-nothing g c = λ none. absurd (stages_usage _ _ _ _ _ _ _ _ _ _ c.staged.ensures none)
+
+pub returns-in-Some-Staged-clause-stages : goal.returns-in-Some-Staged-clause-stages
+unfolding most_bytes
+returns-in-Some-Staged-clause-stages g c = λ is. c.staged.ensures
 
 pub returns-in-Some-Serve-clause-usage : goal.returns-in-Some-Serve-clause-usage
 returns-in-Some-Serve-clause-usage g c = λ none. absurd (serve_usage _ _ _ _ _ _ _ _ _ _ _ _ _ _ _ c.served.ensures none)

@@ -1,9 +1,9 @@
-use Rattle.std.proofs.Common.{◌+◌, ◌<◌, ◌∙◌, length, refl, sym, ap, arith}
+use Rattle.std.proofs.Common.{◌+◌, ◌<◌, ◌≤◌, ◌∙◌, length, refl, sym, ap, arith}
 use Rattle.nq_staged.proofs.Mixing.{mixed-length}
 use Rattle.nq_staged.specs.Text.{mixed}
-use Rattle.nq_staged.proofs.Onward.{comes-here, is-there, line-on, lines-step, stops-line}
+use Rattle.nq_staged.proofs.Onward.{comes-here, is-there, line-on, lines-end, lines-step, ran-here, stops-line}
 use Rattle.nq_staged.proofs.Steps.{faults-on, settings-on}
-use Rattle.nq_staged.specs.Going.{said}
+use Rattle.nq_play.specs.Going.{said}
 use Rattle.nq_staged.specs.Playing.{play_line}
 use Rattle.nq_staged.proofs.lines.play.Goals as goal
 
@@ -40,3 +40,12 @@ loop-place-preserved g c = record {
   follows = g.met.K.Keeper.follows_on _ _ _ c.loop-place.invariant.follows c.play_at.ensures.follows;
   settings = settings-on _ _ _ _ _ c.loop-place.invariant.settings c.play_at.ensures.settings;
 }
+
+pub returns-clause-comes : goal.returns-clause-comes
+returns-clause-comes g c = λ head hosts plays.
+    let on = c.loop-place.invariant.on head hosts plays in
+    let all = mixed c.args.stages.now c.args.lines.now in
+    let same = mixed-length c.args.stages.now c.args.lines.now in
+    let many = c.len-place-end.ensures in
+    let past : length all ≤ c.loop-place.place = omega arith in
+    ran-here _ on.events _ on.here.plays (lines-end head c.args.most (c.args.first + c.loop-place.place) c.loop-place.place all on.events _ past on.same)

@@ -1,6 +1,6 @@
 use Rattle.std.proofs.Common.{◌∙◌, inr, refl}
 use Rattle.nq_journal.specs.Text.{journal_text}
-use Rattle.nq_replay.proofs.Joining.{all_put, last_cut, rose_at_last, second_cut}
+use Rattle.nq_staged.proofs.Putting.{all_put, last_cut, rose_at_last, second_cut}
 use Rattle.nq_staged.proofs.Printed.{all_second}
 use Rattle.nq_staged.proofs.printing.print_parts.Goals as goal
 

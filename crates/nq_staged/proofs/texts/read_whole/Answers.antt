@@ -1,5 +1,37 @@
-use Rattle.std.proofs.Common.{inl}
-use Rattle.std.proofs.lemmas.Result.{err_from_is_err_and}
-use Rattle.nq_script.proofs.Passing.{passed}
-use Rattle.nq_staged.proofs.Grammar.{front-within, plain-short, staged-found, staged-ready, version-one}
+use Rattle.std.proofs.Common.{◌≡◌, ◌^◌, ◌++◌, ◌∙◌, ap, drop, take}
+use Rattle.nq_staged.proofs.Grammar.{plain-short, staged-found, staged-ready, version-one}
+use Rattle.nq_staged.specs.Text.{plain_bytes, stages_in}
 use Rattle.nq_staged.proofs.texts.read_whole.Goals as goal
+
+pub returns-then-out-ne-VERSION-clause-found : goal.returns-then-out-ne-VERSION-clause-found
+returns-then-out-ne-VERSION-clause-found c =
+    let out = c.in_ok-out.out in version-one out.head out.lines out.bytes c.args.text.now c.in_ok-out.ensures.found c.if-out-ne-VERSION.true
+
+pub read_plain-requires : goal.read_plain-requires
+read_plain-requires c =
+    let out = c.in_ok-out.out in
+    let text = c.args.text.now in
+    let plain : c.in_ok-plain.plain.bytes.items ≡ take out.bytes text ++ plain_bytes out.head.hosts (drop out.bytes text) =
+    c.in_ok-plain.ensures.plain ∙ ap (λ f. f ++ plain_bytes out.head.hosts c.split_at.result.1.now) c.split_at.ensures.front
+    ∙ ap (λ b. take out.bytes text ++ plain_bytes out.head.hosts b) c.split_at.ensures.back in
+    plain-short out.head out.lines out.bytes (2 ^ 31) text c.in_ok-plain.plain.bytes.items c.in_ok-out.ensures.found plain c.requires
+
+pub returns-clause-found : goal.returns-clause-found
+returns-clause-found c =
+    let out = c.in_ok-out.out in
+    let text = c.args.text.now in
+    let plain : c.in_ok-plain.plain.bytes.items ≡ take out.bytes text ++ plain_bytes out.head.hosts (drop out.bytes text) =
+    c.in_ok-plain.ensures.plain ∙ ap (λ f. f ++ plain_bytes out.head.hosts c.split_at.result.1.now) c.split_at.ensures.front
+    ∙ ap (λ b. take out.bytes text ++ plain_bytes out.head.hosts b) c.split_at.ensures.back in
+    staged-found out.head out.lines out.bytes text c.in_ok-plain.plain.bytes.items c.in_ok-plain.plain.stages.items c.read_plain.result c.in_ok-out.ensures.found
+    c.if-out-ne-VERSION.false plain (c.in_ok-plain.ensures.stages ∙ ap (stages_in out.head.hosts) c.split_at.ensures.back) c.read_plain.ensures.found
+
+pub returns-clause-ready : goal.returns-clause-ready
+returns-clause-ready c =
+    let out = c.in_ok-out.out in
+    let text = c.args.text.now in
+    let plain : c.in_ok-plain.plain.bytes.items ≡ take out.bytes text ++ plain_bytes out.head.hosts (drop out.bytes text) =
+    c.in_ok-plain.ensures.plain ∙ ap (λ f. f ++ plain_bytes out.head.hosts c.split_at.result.1.now) c.split_at.ensures.front
+    ∙ ap (λ b. take out.bytes text ++ plain_bytes out.head.hosts b) c.split_at.ensures.back in
+    staged-ready out.head out.lines out.bytes text c.in_ok-plain.plain.bytes.items c.in_ok-plain.plain.stages.items c.read_plain.result c.in_ok-out.ensures.found
+    c.if-out-ne-VERSION.false plain (c.in_ok-plain.ensures.stages ∙ ap (stages_in out.head.hosts) c.split_at.ensures.back) c.requires c.read_plain.ensures.found c.read_plain.ensures.first

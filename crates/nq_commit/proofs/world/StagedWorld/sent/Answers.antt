@@ -16,4 +16,4 @@ pub returns-in_err-settle-clause-same : goal.returns-in_err-settle-clause-same
 returns-in_err-settle-clause-same g c = λ head events told plays. (c.settle.ensures.same head events told plays).0
 
 pub returns-clause-ready : goal.returns-clause-ready
-returns-clause-ready g c = λ head events told plays. (c.settle.ensures.same head events told plays).1
+returns-clause-ready g c = λ head events told plays. (c.in_ok-settle.ensures.same head events told plays).1
