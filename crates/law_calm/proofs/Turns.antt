@@ -315,7 +315,7 @@ module _ (head : Head) (events : List Event) (host : ℕ) (c : Client) (k : ℕ)
       pushes p idle some (call_sent u has unpaused more same) = none-some p (sym (same ∙ kept.push ∙ n.push ∙ idle) ∙ some)
 
       by : SendsAgain c ticket file tag t → TakesTurn c m t
-      by (the_same sends asked) = again xid file tag ticket is asks sends asked
+      by (the_same sends asked) = again xid file tag ticket is asks cut_it sends asked
           (let all = left c file tag 2 (cancel-costs 2 2 c file) in
           let w = light in
           let x = two in
@@ -347,7 +347,7 @@ module _ (head : Head) (events : List Event) (host : ℕ) (c : Client) (k : ℕ)
       free-turn free = which (quiet-sends s t (idle free) (next-sent s (s-ticket ∙ ap (cancelled file) free)))
         where
           which : (t ≡ s) ⊎ (sent_weight 2 2 s + 3 ≤ sent_weight 2 2 t) → TakesTurn c m t
-          which (inl e) = silent xid file tag is (ap (λ (x : ClientStep). x.client.ticket) e ∙ s-ticket ∙ ap (cancelled file) free ∙ sym free) (shape e)
+          which (inl e) = silent xid file tag is (ap (λ (x : ClientStep). x.client.ticket) e ∙ s-ticket ∙ ap (cancelled file) free ∙ sym free) off (shape e)
               (let all = left c file tag 0 costs in
               let w = same-weight in
               let same : sent_weight 2 2 t ≡ sent_weight 2 2 s = ap (sent_weight 2 2) e in
@@ -367,7 +367,7 @@ module _ (head : Head) (events : List Event) (host : ℕ) (c : Client) (k : ℕ)
           let one : cancelled file (Some ticket) ≡ Some ticket = rw wants refl in
           let there : s.client.ticket ≡ Some ticket = s-ticket ∙ ap (cancelled file) asks ∙ one in
           let e : t ≡ s = asking-stays s (ap is_some there) in
-          silent xid file tag is (ap (λ (x : ClientStep). x.client.ticket) e ∙ there ∙ sym asks) (shape e)
+          silent xid file tag is (ap (λ (x : ClientStep). x.client.ticket) e ∙ there ∙ sym asks) off (shape e)
           (let all = left c file tag 0 costs in
           let w = same-weight in
           let same : sent_weight 2 2 t ≡ sent_weight 2 2 s = ap (sent_weight 2 2) e in
