@@ -26,6 +26,10 @@ turns_left c = effort 2 c + asking_turns c.ticket
 abbrev pub IsOfUse : Message → Type 0
 IsOfUse m = (xid inc : ℕ) (grant : Option Grant) → m ≡ reply xid (Reply.GetLease inc grant) → is_idle grant ≡ false
 
+-- and so it is wherever a client's request under way is its call's
+abbrev pub IsOfUseTo : Client → Message → Type 0
+IsOfUseTo c m = (ticket : Ticket) → c.ticket ≡ Some ticket → ticket.job ≡ for_call → IsOfUse m
+
 -- what comes of what a client hears: it has fewer turns left; or it heard a notice that cancels its request, and gave the lease up and sent
 -- the request again; or a notice that does not, and gave a lease up, or did nothing. Then it has no more turns left than before
 pub data TakesTurn (c : Client) (m : Message) (t : ClientStep) : Type 0 where
@@ -54,5 +58,5 @@ TurnsFall =
     (head : Head) (events : List Event) (host : ℕ) (c : Client) (k : ℕ) (m : Message) (t : ClientStep)
     → slice_get (run head events).clients host ≡ Some c
     → hear c k m ≡ Some t
-    → IsOfUse m
+    → IsOfUseTo c m
     → TakesTurn c m t

@@ -5,3 +5,7 @@ pub mod Energy
 pub mod GoodRows
 pub mod RowCount
 pub mod RowSteps
+pub mod Idle
+pub mod UsefulReplies
+pub mod UsefulWorlds
+pub mod AskSteps

@@ -40,7 +40,7 @@ sharing-is : (row : Row) → caches row.mode ≡ false → is_sharing (Some row)
 sharing-is row e = ap not e
 
 -- whether a place is this file and host
-at-key : (file host f h : ℕ) → ((f ≡ file) × (h ≡ host)) ⊎ (f ≡ file → h ≢ host)
+pub at-key : (file host f h : ℕ) → ((f ≡ file) × (h ≡ host)) ⊎ (f ≡ file → h ≢ host)
 at-key file host f h = by (f == file) (h == host) refl refl
   where
     by : (a b : Bool) → (f == file) ≡ a → (h == host) ≡ b → ((f ≡ file) × (h ≡ host)) ⊎ (f ≡ file → h ≢ host)
