@@ -9,3 +9,6 @@ pub mod Idle
 pub mod UsefulReplies
 pub mod UsefulWorlds
 pub mod AskSteps
+pub mod Facts
+pub mod Forms
+pub mod ClientSteps
