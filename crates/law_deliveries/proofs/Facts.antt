@@ -1,5 +1,6 @@
 -- What is used of each run: of its rows, its packets and its clients.
 use Rattle.std.proofs.Common.{◌≡◌, ◌≤◌, ◌<◌, ◌⊎◌, ℕ, ◌+◌, ◌++◌, Bool, true, false, List, [], ◌∷◌, Option, Some, None, length}
+use Rattle.std.specs.List.{find}
 use Rattle.std.specs.Prelude.{slice_get}
 use Rattle.nq_base.specs.declared.Event.{Event}
 use Rattle.nq_base.specs.declared.Party.{Party}
@@ -76,6 +77,7 @@ pub record Facts (hosts few : ℕ) (turns : Client → ℕ) (w : World) : Type 0
   pub going : (file host : ℕ) (row : Row) → find_row file host w.server.table.rows ≡ Some row → row.evicting ≡ true → caches row.mode ≡ true
   pub current : AreOfKeptIncarnations w.server.kept w.server.table.rows
   pub alone : WritesAlone w.server.table.rows
+  pub members : (test : Row → Bool) (row : Row) → find test w.server.table.rows ≡ Some row → find_row row.file row.who.host w.server.table.rows ≡ Some row
   pub few_rows : length w.server.table.rows ≤ most_rows
   pub few_sent : (k : ℕ) → length (step w (Event.Deliver k)).packets ≤ length w.packets + few
   pub takes : (host k : ℕ) (c : Client) (m : Message) (t : ClientStep) → slice_get w.clients host ≡ Some c → slice_get w.packets k ≡ Some (to_host host m) → hear c k m ≡ Some t → Takes turns c m t

@@ -49,10 +49,10 @@ module _ (hosts : ℕ) (asks : ℕ → Option Request) where
 
 -- a request that may be put off weighs so much, where a step sends so many packets
 abbrev pub heavy : (few : ℕ) → ℕ
-heavy few = 5 * few + 2
+heavy few = 5 * few + 3
 
 abbrev pub notice_weight : (few : ℕ) (wanted taken : Bool) → ℕ
-notice_weight few true true = 5
+notice_weight few true true = 4
 notice_weight few true false = heavy few + 1
 notice_weight few false taken = 2
 

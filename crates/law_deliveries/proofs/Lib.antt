@@ -12,3 +12,5 @@ pub mod AskSteps
 pub mod Facts
 pub mod Forms
 pub mod ClientSteps
+pub mod ServerSends
+pub mod ServerSteps

@@ -29,7 +29,7 @@ power base (suc count) = base * power base count
 
 -- by how much what is under way may grow, while nothing else happens than that rows are given up, where an event sends so many packets
 abbrev pub growth : (few : ℕ) → ℕ
-growth few = (few + 2) * (5 * few + 5) + 2
+growth few = (few + 2) * (5 * few + 8) + 3
 
 -- how often a client may send another request than before in a delivery: three times for each delayed write, and nine times more
 abbrev pub most_turns : (hosts delayed : ℕ) → ℕ
