@@ -14,3 +14,4 @@ pub mod Forms
 pub mod ClientSteps
 pub mod ServerSends
 pub mod ServerSteps
+pub mod Levels
