@@ -17,6 +17,10 @@ use Rattle.law_deliveries.proofs.Facts.{asked_for, wants_in}
 use Rattle.law_deliveries.proofs.GoodRows.{IsGood}
 use Rattle.law_deliveries.proofs.Items.{Item, one, pair}
 
+-- an item of one packet
+pub data IsSingle (i : Item) : Type 0 where
+  single : (k : ℕ) (p : Packet) → i ≡ one k p → IsSingle i
+
 module _ (hosts : ℕ) (asks : ℕ → Option Request) where
   -- the clients ask so for their calls
   abbrev pub Agree : World → Type 0
@@ -43,7 +47,7 @@ module _ (hosts : ℕ) (asks : ℕ → Option Request) where
   Fits zero s i = IsFormed i × NoticeIsGood s i × PairIsGood s i
   Fits (suc zero) s i = IsFormed i × NoticeIsGood s i
   Fits (suc (suc zero)) s i = IsFormed i
-  Fits (suc (suc (suc level))) s i = Unit {0}
+  Fits (suc (suc (suc level))) s i = IsSingle i
 
 -- ---- weights
 

@@ -59,7 +59,7 @@ module _ (hosts : ℕ) (asks : ℕ → Option Request) where
   fits-keep zero s v keeps i f = (f.0, notice-keeps s v keeps i f.1, pair-keeps-good s v keeps i f.0 f.2)
   fits-keep (suc zero) s v keeps i f = (f.0, notice-keeps s v keeps i f.1)
   fits-keep (suc (suc zero)) s v keeps i f = f
-  fits-keep (suc (suc (suc level))) s v keeps i f = tt
+  fits-keep (suc (suc (suc level))) s v keeps i f = f
 
   pub keep-self : (s : Server) → KeepsGood s s
   keep-self s file host who tag r asked wants good = good
@@ -67,11 +67,7 @@ module _ (hosts : ℕ) (asks : ℕ → Option Request) where
   -- where nothing is known but the form
   pub fits-loose : (level : ℕ) (s v : Server) (i : Item) → Fits hosts asks (suc (suc level)) s i → Fits hosts asks (suc (suc level)) v i
   fits-loose zero s v i f = f
-  fits-loose (suc level) s v i f = tt
-
-  pub formed-fits : (level : ℕ) (s : Server) (i : Item) → IsFormed hosts asks i → Fits hosts asks (suc (suc level)) s i
-  formed-fits zero s i f = f
-  formed-fits (suc level) s i f = tt
+  fits-loose (suc level) s v i f = f
 
   pub form-of : (level : ℕ) (s : Server) (i : Item) → level ≤ 2 → Fits hosts asks level s i → IsFormed hosts asks i
   form-of zero s i few f = f.0
@@ -80,11 +76,11 @@ module _ (hosts : ℕ) (asks : ℕ → Option Request) where
   form-of (suc (suc (suc level))) s i few f = absurd (omega arith)
 
   -- what the server sends fits the next generation
-  pub sends-fit : (level : ℕ) (s : Server) (i : Item) → IsFormed hosts asks i → NoticeIsGood hosts asks s i → PairIsGood hosts asks s i → Fits hosts asks level s i
-  sends-fit zero s i a b c = (a, b, c)
-  sends-fit (suc zero) s i a b c = (a, b)
-  sends-fit (suc (suc zero)) s i a b c = a
-  sends-fit (suc (suc (suc level))) s i a b c = tt
+  pub sends-fit : (level : ℕ) (s : Server) (i : Item) → level ≤ 2 → IsFormed hosts asks i → NoticeIsGood hosts asks s i → PairIsGood hosts asks s i → Fits hosts asks level s i
+  sends-fit zero s i few a b c = (a, b, c)
+  sends-fit (suc zero) s i few a b c = (a, b)
+  sends-fit (suc (suc zero)) s i few a b c = a
+  sends-fit (suc (suc (suc level))) s i few a b c = absurd (omega arith)
 
   no-notice : (s : Server) (k host x file : ℕ) (who : Who) (tag : Tag) → NoticeIsGood hosts asks s (one k (from_host host (call x (Request.Vacated who file tag))))
   no-notice s k host x file who tag n h z f w g r is asked wants = absurd (cc)
@@ -95,14 +91,18 @@ module _ (hosts : ℕ) (asks : ℕ → Option Request) where
   pair-no-notice : (s : Server) (k host x y file : ℕ) (who : Who) (tag : Tag) (q : Request) → NoticeIsGood hosts asks s (pair k host x y file who tag q)
   pair-no-notice s k host x y file who tag q n h z f w g r is asked wants = absurd (cc)
 
+  pub pred-small : (level : ℕ) → level ≤ 3 → pred level ≤ 2
+  pred-small zero small = omega arith
+  pred-small (suc level) small = omega arith
+
   -- what a client sends does too
-  pub came-fits : (level few : ℕ) (turns : Client → ℕ) (w : World) (facts : Facts hosts few turns w) (agree : Agree hosts asks w) (k host : ℕ) (m : Message) (new : List Item) → CameOf hosts few turns asks w facts agree host m new → Fits hosts asks level w.server (one k (to_host host m)) → Each (Fits hosts asks (pred level) w.server) new
-  came-fits level few turns w facts agree k host m new (nothing is) f = subst (Each (Fits hosts asks (pred level) w.server)) (sym is) tt
-  came-fits level few turns w facts agree k host m new (gives_up n x z file who tag heard is from below off) f =
+  pub came-fits : (level few : ℕ) → level ≤ 3 → (turns : Client → ℕ) (w : World) (facts : Facts hosts few turns w) (agree : Agree hosts asks w) (k host : ℕ) (m : Message) (new : List Item) → CameOf hosts few turns asks w facts agree host m new → Fits hosts asks level w.server (one k (to_host host m)) → Each (Fits hosts asks (pred level) w.server) new
+  came-fits level few small turns w facts agree k host m new (nothing is) f = subst (Each (Fits hosts asks (pred level) w.server)) (sym is) tt
+  came-fits level few small turns w facts agree k host m new (gives_up n x z file who tag heard is from below off) f =
       subst (Each (Fits hosts asks (pred level) w.server)) (sym is)
-      (sends-fit (pred level) w.server _ (alone n host x file who tag refl from below off) (no-notice w.server n host x file who tag) (no-pair w.server n _), tt)
-  came-fits level few turns w facts agree k host m new (asks_again n x y z file who tag r heard is from below asked wants) f =
-      subst (Each (Fits hosts asks (pred level) w.server)) (sym is) (by level f, tt)
+      (sends-fit (pred level) w.server _ (pred-small level small) (alone n host x file who tag refl from below off) (no-notice w.server n host x file who tag) (no-pair w.server n _), tt)
+  came-fits level few small turns w facts agree k host m new (asks_again n x y z file who tag r heard is from below asked wants) f =
+      subst (Each (Fits hosts asks (pred level) w.server)) (sym is) (by level small f, tt)
     where
       formed : IsFormed hosts asks (pair n host x y file who tag r)
       formed = paired n host x y file who tag r refl from below asked wants
@@ -117,11 +117,12 @@ module _ (hosts : ℕ) (asks : ℕ → Option Request) where
           let there = notice k host z file who tag r (ap (λ mm. one k (to_host host mm)) heard) asked wants in
           subst (λ v. HasGoodRow hosts asks w.server f2 h w2 g2 v) one_request (subst (λ v. HasGoodRow hosts asks w.server f2 h w2 v r) one_tag (subst (λ v. HasGoodRow hosts asks w.server f2 h v tag r) one_who (subst (λ v. HasGoodRow hosts asks w.server f2 v who tag r) one_host (subst (λ v. HasGoodRow hosts asks w.server v host who tag r) one_file there))))
 
-      by : (l : ℕ) → Fits hosts asks l w.server (one k (to_host host m)) → Fits hosts asks (pred l) w.server (pair n host x y file who tag r)
-      by zero g = (formed, pair-no-notice w.server n host x y file who tag r, good g.1)
-      by (suc zero) g = (formed, pair-no-notice w.server n host x y file who tag r, good g.1)
-      by (suc (suc zero)) g = (formed, pair-no-notice w.server n host x y file who tag r)
-      by (suc (suc (suc l))) g = formed-fits l w.server _ formed
+      by : (l : ℕ) → l ≤ 3 → Fits hosts asks l w.server (one k (to_host host m)) → Fits hosts asks (pred l) w.server (pair n host x y file who tag r)
+      by zero few_left g = (formed, pair-no-notice w.server n host x y file who tag r, good g.1)
+      by (suc zero) few_left g = (formed, pair-no-notice w.server n host x y file who tag r, good g.1)
+      by (suc (suc zero)) few_left g = (formed, pair-no-notice w.server n host x y file who tag r)
+      by (suc (suc (suc zero))) few_left g = formed
+      by (suc (suc (suc (suc l)))) few_left g = absurd (omega arith)
 
 -- ---- a VACATED alone
 

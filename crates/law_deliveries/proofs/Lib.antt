@@ -15,3 +15,7 @@ pub mod ClientSteps
 pub mod ServerSends
 pub mod ServerSteps
 pub mod Levels
+pub mod Plays
+pub mod Deliver
+pub mod ServerDeliver
+pub mod PairDeliver

@@ -227,18 +227,24 @@ module _ (hosts : ℕ) (wants : ℕ → Option Request) (has_rows : AskersHaveRo
     outcome-no-more a b (falls less) = omega arith
     outcome-no-more a b (goes_on no_more still) = no_more
 
+    pub pair-falls : is_gone ≡ true → energy hosts wants after < energy hosts wants before
+    pair-falls e = by hears
+      where
+        by : Hears u.server (question_of u.server host r) t → energy hosts wants after < energy hosts wants before
+        by (mute o s none same table) =
+            let less = gone-falls e in
+            let is : after ≡ between = ap (λ (x : Table). x.rows) table in
+            subst (λ rows. energy hosts wants rows < energy hosts wants before) (sym is) less
+        by (asked o s q some same table) =
+            let less = gone-falls e in
+            let no_more = outcome-no-more between after (gone-out q (question-is u.server host file r q wants_it some) table e) in
+            omega arith
+
     pub pair-out : HasGoodRow hosts wants w.server file host who tag r → Outcome hosts wants before after
     pair-out good = by is_gone refl hears
       where
         by : (b : Bool) → is_gone ≡ b → Hears u.server (question_of u.server host r) t → Outcome hosts wants before after
-        by true e (mute o s none same table) =
-            let less = gone-falls e in
-            let is : after ≡ between = ap (λ (x : Table). x.rows) table in
-            falls (subst (λ rows. energy hosts wants rows < energy hosts wants before) (sym is) less)
-        by true e (asked o s q some same table) =
-            let less = gone-falls e in
-            let no_more = outcome-no-more between after (gone-out q (question-is u.server host file r q wants_it some) table e) in
-            falls (omega arith)
+        by true e h = falls (pair-falls e)
         by false e (mute o s none same table) =
             let is : after ≡ before = ap (λ (x : Table). x.rows) table ∙ stays e in
             subst (λ rows. Outcome hosts wants before rows) (sym is) (outcome-self hosts wants before)
