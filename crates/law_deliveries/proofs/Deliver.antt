@@ -25,8 +25,8 @@ use Rattle.law_deliveries.proofs.AskSteps.{Outcome, falls, goes_on}
 use Rattle.law_deliveries.proofs.ClientSteps.{sum_of, CameOf, nothing, gives_up, asks_again, ClientOut, turned, went_on, client-delivered}
 use Rattle.law_deliveries.proofs.Energy.{energy, wish}
 use Rattle.law_deliveries.proofs.Facts.{wants_in, Facts, AskersHaveRows}
-use Rattle.law_deliveries.proofs.Forms.{Agree, IsFormed, to_client, alone, paired, IsSingle, single, NoticeIsGood, PairIsGood, HasGoodRow, Fits, heavy, notice_weight, pair_weight, item_weight, weight_of, weight-append, item-some}
-use Rattle.law_deliveries.proofs.Items.{Item, one, pair, all_numbers, numbers_of, Each, each-map, each-both, IsSentAs, Queued, Adds, adds-none, pair-apart}
+use Rattle.law_deliveries.proofs.Forms.{Agree, IsFormed, to_client, alone, paired, NoticeIsGood, PairIsGood, HasGoodRow, Fits, heavy, notice_weight, pair_weight, item_weight, weight_of, weight-append, item-some}
+use Rattle.law_deliveries.proofs.Items.{Item, one, pair, IsSingle, all_numbers, numbers_of, Each, each-map, each-both, IsSentAs, Queued, Adds, adds-none, pair-apart}
 use Rattle.law_deliveries.proofs.Levels.{wish-of, KeepsGood, keep-self, form-of, sends-fit, pred-small, came-fits, alone-look, alone-keeps, alone-energy, StillWaiting, items-less}
 use Rattle.law_deliveries.proofs.Plays.{grows, first-play, first-sent, next-queue, any-queue, numbers-most, adds-most}
 use Rattle.law_deliveries.proofs.ServerSends.{t, came, adds, new-formed, new-good, new-pairs, few-sent, new-light}
@@ -51,6 +51,7 @@ module _ (hosts few : ℕ) (turns : Client → ℕ) (asks : ℕ → Option Reque
   pub record Turns (rest : List Item) (w v : World) (fresh : List ℕ) : Type 0 where
     pub all : List Item
     pub queue : Queued v.packets fresh all
+    pub singles : Each IsSingle all
     pub fewer : sum_of turns v.clients < sum_of turns w.clients
     pub few_all : length all ≤ 2 * length rest + few
 
@@ -102,7 +103,7 @@ module _ (hosts few : ℕ) (turns : Client → ℕ) (asks : ℕ → Option Reque
         let all = any-queue p k (to_host host m) rest queue more grown_here in
         let a = few-packets more grown_here in
         let b = numbers-most rest in
-        inr (record { all = all.0; queue = all.1.0; fewer = subst (λ (u : World). sum_of turns u.clients < sum_of turns p.world.clients) (sym at) less; few_all = let c = all.1.1 in omega arith })
+        inr (record { all = all.0; queue = all.1.0; singles = all.1.1.0; fewer = subst (λ (u : World). sum_of turns u.clients < sum_of turns p.world.clients) (sym at) less; few_all = let c = all.1.1.1 in omega arith })
     heard v at (went_on more new grown adds server agrees no_more came) =
         let grown_here : q.world.packets ≡ p.world.packets ++ more = ap (λ (u : World). u.packets) at ∙ grown in
         let server_here : q.world.server ≡ p.world.server = ap (λ (u : World). u.server) at ∙ server in

@@ -15,11 +15,7 @@ use Rattle.nq_model.specs.World.{World, from_host}
 use Rattle.law_deliveries.proofs.Asked.{is_taken, question_of, writes_for}
 use Rattle.law_deliveries.proofs.Facts.{asked_for, wants_in}
 use Rattle.law_deliveries.proofs.GoodRows.{IsGood}
-use Rattle.law_deliveries.proofs.Items.{Item, one, pair}
-
--- an item of one packet
-pub data IsSingle (i : Item) : Type 0 where
-  single : (k : ℕ) (p : Packet) → i ≡ one k p → IsSingle i
+use Rattle.law_deliveries.proofs.Items.{Item, one, pair, IsSingle}
 
 module _ (hosts : ℕ) (asks : ℕ → Option Request) where
   -- the clients ask so for their calls

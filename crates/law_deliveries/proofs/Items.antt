@@ -26,6 +26,10 @@ abbrev pub all_numbers : List Item → List ℕ
 all_numbers [] = []
 all_numbers (i ∷ items) = numbers_of i ++ all_numbers items
 
+-- an item of one packet
+pub data IsSingle (i : Item) : Type 0 where
+  single : (k : ℕ) (p : Packet) → i ≡ one k p → IsSingle i
+
 -- something holds of each item
 abbrev pub Each : (Item → Type 0) → List Item → Type 0
 Each P [] = Unit {0}
@@ -187,18 +191,18 @@ pub pair-apart : (ps : List Packet) (fresh : List ℕ) (items : List Item) (k ho
 pair-apart ps fresh items k host x y file who tag r q = record { is = q.is; sent = (q.sent.0.0, (q.sent.0.1, q.sent.1)); rises = q.rises }
 
 -- all that is under way, each packet for itself
-pub queue-of : (ps : List Packet) (fresh : List ℕ) → Rise 0 (length ps) fresh → (items : List Item) × Queued ps fresh items
-queue-of ps fresh rises = let found = packets-of 0 fresh rises in (found.0, record { is = found.1.0; sent = found.1.1; rises = rises })
+pub queue-of : (ps : List Packet) (fresh : List ℕ) → Rise 0 (length ps) fresh → (items : List Item) × (Queued ps fresh items × Each IsSingle items)
+queue-of ps fresh rises = let found = packets-of 0 fresh rises in (found.0, (record { is = found.1.0; sent = found.1.1.0; rises = rises }, found.1.1.1))
   where
     there : (xs : List Packet) (k : ℕ) → k < length xs → (p : Packet) × (slice_get xs k ≡ Some p)
     there [] k below = absurd (omega arith)
     there (x ∷ xs) zero below = (x, refl)
     there (x ∷ xs) (suc k) below = there xs k (omega arith)
 
-    packets-of : (low : ℕ) (numbers : List ℕ) → Rise low (length ps) numbers → (items : List Item) × ((numbers ≡ all_numbers items) × Each (IsSentAs ps) items)
-    packets-of low [] r = ([], (refl, tt))
+    packets-of : (low : ℕ) (numbers : List ℕ) → Rise low (length ps) numbers → (items : List Item) × ((numbers ≡ all_numbers items) × (Each (IsSentAs ps) items × Each IsSingle items))
+    packets-of low [] r = ([], (refl, (tt, tt)))
     packets-of low (k ∷ numbers) r =
         let within = rise-within (k + 1) (length ps) numbers r.1 in
         let p = there ps k (omega arith) in
         let rest = packets-of (k + 1) numbers r.1 in
-        (one k p.0 ∷ rest.0, (ap (λ ns. k ∷ ns) rest.1.0, (p.1, rest.1.1)))
+        (one k p.0 ∷ rest.0, (ap (λ ns. k ∷ ns) rest.1.0, ((p.1, rest.1.1.0), (single k p.0 refl, rest.1.1.1))))

@@ -1,6 +1,6 @@
 -- A measure of what is left of a delivery: a power, times a weight.
 use Rattle.std.proofs.Common.{◌≡◌, ◌≤◌, ◌<◌, ℕ, ◌+◌, ◌*◌, ◌-◌, zero, suc, sym, subst, arith}
-use Rattle.law_deliveries.specs.DeliveryEnds.{power}
+use Rattle.law_deliveries.specs.DeliveryEnds.{power, growth}
 
 pub times-more : (a b c : ℕ) → b ≤ c → a * b ≤ a * c
 times-more zero b c few = omega arith
@@ -73,4 +73,34 @@ no-more b d e v w least less few =
     let one = power-above b d e least less in
     let two = times-less (power b d) (power b e) (v + 1) one in
     let three = times-more (power b e) (v + 1) (w + 1) (omega arith) in
+    omega arith
+
+-- a weight of so many items is small beside the growth that is stated
+pub jump : (few a v w n : ℕ) → v ≤ (5 * few + 8) * a → a ≤ (few + 2) * (w + 1) → n ≤ 2 → (v + 1) + n ≤ growth few * (w + 1)
+jump few a v w n one two small =
+    let three = times-more (5 * few + 8) a ((few + 2) * (w + 1)) two in
+    let four : (5 * few + 8) * ((few + 2) * (w + 1)) ≡ ((few + 2) * (5 * few + 8)) * (w + 1) = turn (5 * few + 8) (few + 2) (w + 1) in
+    let five : growth few * (w + 1) ≡ ((few + 2) * (5 * few + 8)) * (w + 1) + 3 * (w + 1) = apart ((few + 2) * (5 * few + 8)) (w + 1) in
+    omega arith
+  where
+    turn : (a b x : ℕ) → a * (b * x) ≡ (b * a) * x
+    turn a b x = grind arith
+
+    apart : (a x : ℕ) → (a + 3) * x ≡ a * x + 3 * x
+    apart a x = grind arith
+
+pub growth-some : (few : ℕ) → 1 ≤ growth few
+growth-some few = omega arith
+
+-- twice as many and some more are few beside that
+pub twice-few : (few w a : ℕ) → a ≤ 2 * w + few → a ≤ (few + 2) * (w + 1)
+twice-few few w a less =
+    let one = times-less 2 (few + 2) w (omega arith) in
+    let two : (few + 2) * (w + 1) ≡ (few + 2) * w + (few + 2) = grind arith in
+    omega arith
+
+pub left-some : (b e w : ℕ) → 1 ≤ b → 1 ≤ left b e w
+left-some b e w some =
+    let one = power-some b e some in
+    let two = times-more (power b e) 1 (w + 1) (omega arith) in
     omega arith

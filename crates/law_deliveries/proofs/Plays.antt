@@ -17,7 +17,7 @@ use Rattle.walk_run.proofs.Packets.{in-get}
 use Rattle.walk_run.proofs.Steps.{Changes, nothing, by_client, by_server, step-changes}
 use Rattle.law_deliveries.proofs.Facts.{Facts}
 use Rattle.law_deliveries.proofs.Forms.{Agree}
-use Rattle.law_deliveries.proofs.Items.{Item, one, pair, all_numbers, numbers_of, Each, IsSentAs, Rise, Queued, Adds, adds-ones, all-append, ones, delivered-queue, queue-of}
+use Rattle.law_deliveries.proofs.Items.{Item, one, pair, all_numbers, numbers_of, Each, IsSingle, IsSentAs, Rise, Queued, Adds, adds-ones, all-append, ones, delivered-queue, queue-of}
 
 -- ---- packets that one delivery adds
 
@@ -78,14 +78,14 @@ module _ (p : Play) (k : ℕ) (q : Packet) (items : List Item) (queue : Queued p
       subst (λ ns. Queued v.packets (without k ns ++ added p.world v) (items ++ new)) (sym queue.is) (delivered-queue p.world v more k q (all_numbers items) items new here grown adds)
 
   -- all of it, each packet for itself
-  pub any-queue : (more : List Packet) → (play p (Event.Deliver k)).world.packets ≡ p.world.packets ++ more → (all : List Item) × (Queued (play p (Event.Deliver k)).world.packets (play p (Event.Deliver k)).fresh all × (length all ≤ length (all_numbers items) + length more))
+  pub any-queue : (more : List Packet) → (play p (Event.Deliver k)).world.packets ≡ p.world.packets ++ more → (all : List Item) × (Queued (play p (Event.Deliver k)).world.packets (play p (Event.Deliver k)).fresh all × (Each IsSingle all × (length all ≤ length (all_numbers items) + length more)))
   any-queue more grown =
       let v = step p.world (Event.Deliver k) in
       let r = next-queue more (ones (length p.world.packets) more) grown (adds-ones p.world.packets more) in
       let split = queue-of (play p (Event.Deliver k)).world.packets (play p (Event.Deliver k)).fresh r.rises in
       let a = items-most split.0 in
-      let b : length (play p (Event.Deliver k)).fresh ≡ length (all_numbers split.0) = ap (λ (ns : List ℕ). length ns) split.1.is in
+      let b : length (play p (Event.Deliver k)).fresh ≡ length (all_numbers split.0) = ap (λ (ns : List ℕ). length ns) split.1.0.is in
       let c : length (play p (Event.Deliver k)).fresh ≡ length (all_numbers (items ++ ones (length p.world.packets) more)) = ap (λ (ns : List ℕ). length ns) r.is in
       let d : length (all_numbers (items ++ ones (length p.world.packets) more)) ≡ length (all_numbers items) + length more =
           ap (λ (ns : List ℕ). length ns) (all-append items (ones (length p.world.packets) more)) ∙ length-append (all_numbers items) (all_numbers (ones (length p.world.packets) more)) ∙ ap (λ n. length (all_numbers items) + n) (ap (λ (ns : List ℕ). length ns) (adds-ones p.world.packets more).are ∙ numbers-many (length p.world.packets) (length more)) in
-      (split.0, (split.1, omega arith))
+      (split.0, (split.1.0, (split.1.1, omega arith)))
