@@ -108,7 +108,7 @@ module _ (few : ℕ) (asks : ℕ → Option Request) (rows : List Row) where
   party-some Party.Server m = (omega arith, omega arith)
   party-some (Party.Client host) m = message-some host m
 
-  item-some : (i : Item) → (1 ≤ item_weight i) × (item_weight i ≤ heavy few + 5)
+  pub item-some : (i : Item) → (1 ≤ item_weight i) × (item_weight i ≤ heavy few + 5)
   item-some (one k p) = party-some p.to p.message
   item-some (pair k host x y file who tag r) = let some = pair-some (is_taken who tag (find_row file host rows)) in (let a = some.0 in omega arith, some.1)
 

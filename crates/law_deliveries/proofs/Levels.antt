@@ -14,6 +14,7 @@ use Rattle.nq_model.specs.Server.{Server, ServerStep, to_host}
 use Rattle.nq_model.specs.Table.{find_row, drop_row}
 use Rattle.nq_model.specs.World.{World, from_host}
 use Rattle.walk_client.proofs.ClientMoves.{none-some}
+use Rattle.walk_run.proofs.Packets.{not-both}
 use Rattle.walk_server.proofs.Rows.{same-number, number-same}
 use Rattle.law_deliveries.proofs.Asked.{is_taken, rows_without, question_of, writes_for, IsSame, same-question, Vacates}
 use Rattle.law_deliveries.proofs.AskSteps.{StillTaken, Outcome, falls, goes_on}
@@ -83,7 +84,7 @@ module _ (hosts : ℕ) (asks : ℕ → Option Request) where
   sends-fit (suc (suc (suc level))) s i few a b c = absurd (omega arith)
 
   no-notice : (s : Server) (k host x file : ℕ) (who : Who) (tag : Tag) → NoticeIsGood hosts asks s (one k (from_host host (call x (Request.Vacated who file tag))))
-  no-notice s k host x file who tag n h z f w g r is asked wants = absurd (cc)
+  no-notice s k host x file who tag n h z f w g r is asked wants = let same : from_host host (call x (Request.Vacated who file tag)) ≡ to_host h (call z (Request.Evicted w f g)) = cc in absurd (not-both host h (call x (Request.Vacated who file tag)) (call z (Request.Evicted w f g)) same)
 
   no-pair : (s : Server) (k : ℕ) (p : Packet) → PairIsGood hosts asks s (one k p)
   no-pair s k p n h x y file who tag r is = absurd (cc)

@@ -19,3 +19,4 @@ pub mod Plays
 pub mod Deliver
 pub mod ServerDeliver
 pub mod PairDeliver
+pub mod Flow

@@ -45,7 +45,7 @@ module _ (hosts few : ℕ) (turns : Client → ℕ) (asks : ℕ → Option Reque
   none-came : came_then hosts few turns asks p facts agree k host (call x (Request.Vacated who file tag)) (one (k + 1) (from_host host (call y r)) ∷ rest) apart ≡ []
   none-came = ap (ones (length p.world.packets)) first-gone.none
 
-  queue-one : Queued p1.world.packets p1.fresh (one (k + 1) (from_host host (call y r)) ∷ rest)
+  pub queue-one : Queued p1.world.packets p1.fresh (one (k + 1) (from_host host (call y r)) ∷ rest)
   queue-one =
       let all = queue-then hosts few turns asks p facts agree k host (call x (Request.Vacated who file tag)) (one (k + 1) (from_host host (call y r)) ∷ rest) apart in
       subst (λ items. Queued p1.world.packets p1.fresh items) (ap (λ items. (one (k + 1) (from_host host (call y r)) ∷ rest) ++ items) none-came ∙ append-nil (one (k + 1) (from_host host (call y r)) ∷ rest)) all

@@ -19,6 +19,7 @@ use Rattle.nq_model.specs.Server.{Server, ServerStep, to_host}
 use Rattle.nq_model.specs.ServerStep.{receive}
 use Rattle.nq_model.specs.Table.{find_row}
 use Rattle.nq_model.specs.World.{World, from_host, after_server, deliver, step}
+use Rattle.walk_run.proofs.Packets.{not-both}
 use Rattle.walk_server.proofs.Rows.{same-number}
 use Rattle.law_deliveries.proofs.Asked.{is_taken, Vacates, vacated-request, request-hears}
 use Rattle.law_deliveries.proofs.AskSteps.{Outcome, falls, goes_on}
@@ -45,7 +46,7 @@ module _ (hosts few : ℕ) (turns : Client → ℕ) (asks : ℕ → Option Reque
     abbrev q : Play
     q = play p (Event.Deliver k)
 
-    sent : slice_get p.world.packets k ≡ Some (from_host host m)
+    pub sent : slice_get p.world.packets k ≡ Some (from_host host m)
     sent = first-sent p k (from_host host m) rest queue
 
     abbrev pub step_then : ServerStep
@@ -108,7 +109,7 @@ module _ (hosts few : ℕ) (turns : Client → ℕ) (asks : ℕ → Option Reque
     keeps-one level small f = subst (λ s. KeepsGood hosts asks p.world.server s) (sym server-is) (by (form-of hosts asks level p.world.server (one k (from_host host m)) small f))
       where
         by : IsFormed hosts asks (one k (from_host host m)) → KeepsGood hosts asks p.world.server step_then.server
-        by (to_client n h mm e) = absurd (cc)
+        by (to_client n h mm e) = let same : from_host host m ≡ to_host h mm = cc in absurd (not-both host h m mm same)
         by (paired n h x y file who tag r e from below asked wants) = absurd (cc)
         by (alone n h x file who tag e from below off) =
             let one_host : host ≡ h = cc in
@@ -119,7 +120,7 @@ module _ (hosts few : ℕ) (turns : Client → ℕ) (asks : ℕ → Option Reque
     spends-one f formed sent_as = subst (λ (s : Server). Spends hosts few turns asks (one k (from_host host m)) rest came_then p.world.server.table.rows s.table.rows 1) (sym server-is) (by f.0)
       where
         by : IsFormed hosts asks (one k (from_host host m)) → Spends hosts few turns asks (one k (from_host host m)) rest came_then p.world.server.table.rows step_then.server.table.rows 1
-        by (to_client n h mm e) = absurd (cc)
+        by (to_client n h mm e) = let same : from_host host m ≡ to_host h mm = cc in absurd (not-both host h m mm same)
         by (paired n h x y file who tag r e from below asked wants) = absurd (cc)
         by (alone n h x file who tag e from below off) =
             let one_host : host ≡ h = cc in

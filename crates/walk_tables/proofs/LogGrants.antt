@@ -7,12 +7,10 @@ use Rattle.nq_base.specs.declared.Want.{Want}
 use Rattle.nq_model.specs.Ask.{sharing_row, caching_row, shared_again, renewed_row}
 use Rattle.nq_model.specs.Journal.{Each}
 use Rattle.nq_model.specs.Kept.{File, Kept, with_files}
-use Rattle.nq_model.specs.Message.{Datagram}
 use Rattle.nq_model.specs.Server.{Phase, Server, standing_in}
-use Rattle.nq_model.specs.ServerStep.{fence, booted, boot}
+use Rattle.nq_model.specs.ServerStep.{fence, boot}
 use Rattle.nq_model.specs.Table.{Table, next_tag}
 use Rattle.walk_server.proofs.AskCases.{IsGranted, shares_again, begins_sharing, begins_caching, renews_row}
-use Rattle.walk_tables.proofs.ServerFits.{ServerFits}
 
 -- a grant was of a boot that served; one of the boot that served last is for its longest term at most, and its tag is one
 -- that the standing table drew
@@ -33,8 +31,6 @@ granted-tag table q want row term (shares_again own found stays shares is lasts)
 granted-tag table q want row term (begins_sharing none room shared is lasts) = ap (λ r. r.tag) is
 granted-tag table q want row term (begins_caching none room shared is lasts) = ap (λ r. r.tag) is
 granted-tag table q want row term (renews_row own found stays caching is lasts) = ap (λ r. r.tag) is
-
-module _ (most booted : ℕ) (s : Server) (d : Datagram) (log : List Entry) (f : ServerFits most booted s) (g : GrantsFitOf s log) where
 
 pub fence-opened : (kept : Kept) (o : Option File) → (fence kept o).opened ≡ kept.opened
 unfolding with_files

@@ -1,7 +1,6 @@
 -- The times of the rows that stand: no row was heard later than now, and while the server serves none runs that is over.
-use Rattle.std.proofs.Common.{◌≡◌, ◌<◌, ◌≤◌, ◌⊎◌, ℕ, ◌+◌, ◌==◌, Bool, true, false, List, Some, if◌then◌else◌, sym, subst, arith, inl, inr}
+use Rattle.std.proofs.Common.{◌≡◌, ◌<◌, ◌≤◌, ◌⊎◌, ℕ, ◌+◌, ◌==◌, Bool, true, false, List, Some, sym, subst, arith, inl, inr, if◌then◌else◌}
 use Rattle.std.specs.Prelude.{Option}
-use Rattle.nq_base.specs.declared.Question.{Question}
 use Rattle.nq_base.specs.declared.Request.{Request}
 use Rattle.nq_base.specs.declared.Row.{Row}
 use Rattle.nq_base.specs.declared.Want.{Want}
@@ -13,7 +12,6 @@ use Rattle.nq_model.specs.ServerStep.{boot}
 use Rattle.nq_model.specs.Table.{Table, caches, is_writing, is_row_of, find_row, put_row, empty_table}
 use Rattle.walk_server.proofs.RowChanges.{found-put}
 use Rattle.walk_server.proofs.ServerOutcomes.{wanted_by}
-use Rattle.walk_tables.proofs.ServerTables.{StandingFitsOf}
 
 -- a datagram wants leases that let their holder cache alone
 abbrev pub WantsCaching : Datagram → Type 0
@@ -52,11 +50,6 @@ TimesFitOf s = TimesFit s.longest s.now s.phase s.table
 
 pub term-bounds : (longest wish : ℕ) → shortest_term ≤ longest → (0 < granted_term longest wish) × (granted_term longest wish ≤ longest)
 term-bounds longest wish long = (omega arith, omega arith)
-
-module _ (table : Table) (q : Question) (want : Want) (long : shortest_term ≤ q.longest) (wants : caches want.mode ≡ true)
-    (each : EachRow (RowRuns q.longest q.time) table.rows) where
-
-module _ (s : Server) (d : Datagram) (wants : WantsCaching d) (long : shortest_term ≤ s.longest) (t : StandingFitsOf s) (f : TimesFitOf s) where
 
 -- and after a boot with a table in mind whose rows were heard by now
 pub times-boot : (kept : Kept) (longest now : ℕ) (last : Option Table) → EachRow (λ row. row.heard ≤ now) (last_table last).rows
