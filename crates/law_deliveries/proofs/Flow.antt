@@ -28,7 +28,7 @@ use Rattle.law_deliveries.proofs.PairDeliver.{queue-one, two-delivered}
 use Rattle.law_deliveries.proofs.Plays.{first-play}
 use Rattle.law_deliveries.proofs.ServerDeliver.{to-server}
 
-append-more : (xs ys zs : List Item) → (xs ++ ys) ++ zs ≡ xs ++ (ys ++ zs)
+pub append-more : (xs ys zs : List Item) → (xs ++ ys) ++ zs ≡ xs ++ (ys ++ zs)
 append-more [] ys zs = refl
 append-more (x ∷ xs) ys zs = ap (λ rest. x ∷ rest) (append-more xs ys zs)
 
@@ -41,7 +41,7 @@ asked_at (Some c) = asked_for c.ticket
 one-more : (fuel : ℕ) (p : Play) → play_flow (suc fuel) p ≡ play_flow fuel (flow_first p.fresh p)
 one-more fuel p = refl
 
-stays-empty : (fuel : ℕ) (p : Play) → p.fresh ≡ [] → (play_flow fuel p).fresh ≡ []
+pub stays-empty : (fuel : ℕ) (p : Play) → p.fresh ≡ [] → (play_flow fuel p).fresh ≡ []
 stays-empty zero p none = none
 stays-empty (suc fuel) p none = stays-empty fuel (flow_first p.fresh p) (ap (λ ns. (flow_first ns p).fresh) none ∙ none)
 
@@ -55,15 +55,15 @@ module _ (hosts few : ℕ) (turns : Client → ℕ) (has_rows : AskersHaveRows) 
     pub old_fits : Each (Fits hosts asks level p.world.server) old
     pub new_fits : Each (Fits hosts asks (pred level) p.world.server) new
 
-  abbrev exponent : (turns_then level : ℕ) → (ℕ → Option Request) → Play → ℕ
+  abbrev pub exponent : (turns_then level : ℕ) → (ℕ → Option Request) → Play → ℕ
   exponent turns_then zero asks p = turns_then * most_growths hosts + energy hosts asks p.world.server.table.rows
   exponent turns_then (suc level) asks p = turns_then * most_growths hosts + (hosts * (hosts + 2) + suc level)
 
-  abbrev weight_at : (level : ℕ) → (ℕ → Option Request) → (old new : List Item) → Play → ℕ
+  abbrev pub weight_at : (level : ℕ) → (ℕ → Option Request) → (old new : List Item) → Play → ℕ
   weight_at zero asks old new p = weight_of few asks p.world.server.table.rows old
   weight_at (suc level) asks old new p = (few + 2) * length old + length new
 
-  abbrev remains : (turns_then level : ℕ) → (ℕ → Option Request) → (old new : List Item) → Play → ℕ
+  abbrev pub remains : (turns_then level : ℕ) → (ℕ → Option Request) → (old new : List Item) → Play → ℕ
   remains turns_then level asks old new p = left (growth few) (exponent turns_then level asks p) (weight_at level asks old new p)
 
   -- a play with no more left than this
@@ -100,7 +100,7 @@ module _ (hosts few : ℕ) (turns : Client → ℕ) (has_rows : AskersHaveRows) 
       let d = lower (growth few) (turns_then * most_growths hosts + (hosts * (hosts + 2) + suc level)) (turns_then * most_growths hosts + (hosts * (hosts + 2) + suc (suc level))) ((few + 2) * 0 + length (i ∷ new)) ((few + 2) * length (i ∷ new) + 0) 0 (growth-some few) (omega arith) (jump few (length (i ∷ new)) ((few + 2) * length (i ∷ new) + 0) ((few + 2) * 0 + length (i ∷ new)) 0 (omega arith) (few-items (length (i ∷ new)) ((few + 2) * 0 + length (i ∷ new)) (omega arith)) (omega arith)) in
       omega arith)
 
-  ready-of : (turns_then level : ℕ) (asks : ℕ → Option Request) (old new : List Item) (p : Play) (most : ℕ) → level ≤ 2 → Stands turns_then (suc level) asks old new p → remains turns_then (suc level) asks old new p ≤ most → Ready most p
+  pub ready-of : (turns_then level : ℕ) (asks : ℕ → Option Request) (old new : List Item) (p : Play) (most : ℕ) → level ≤ 2 → Stands turns_then (suc level) asks old new p → remains turns_then (suc level) asks old new p ≤ most → Ready most p
   ready-of turns_then level asks [] new p most small s less = older level turns_then asks new p most small s less
   ready-of turns_then level asks (i ∷ old) new p most small s less = before turns_then level asks i old new small s less
 
@@ -170,7 +170,7 @@ module _ (hosts few : ℕ) (turns : Client → ℕ) (has_rows : AskersHaveRows) 
       second-of : who.host ≡ host → host < hosts → asks host ≡ Some r → wants_of file r ≡ true → flow_first (play p (Event.Deliver k)).fresh (play p (Event.Deliver k)) ≡ play (play p (Event.Deliver k)) (Event.Deliver (k + 1))
       second-of a b c d = ap (λ ns. flow_first ns (play p (Event.Deliver k))) (queue-one hosts few turns asks has_rows p k host x y file who tag r rest (facts p good) (facts (play p (Event.Deliver k)) (goes p k good)) agree queue a b c d).is
 
-  deliver-item : (turns_then level : ℕ) (asks : ℕ → Option Request) (i : Item) (rest : List Item) (p : Play) → Good p → Agree hosts asks p.world → Queued p.world.packets p.fresh (i ∷ rest) → Fits hosts asks level p.world.server i → Delivered turns_then asks i rest p
+  pub deliver-item : (turns_then level : ℕ) (asks : ℕ → Option Request) (i : Item) (rest : List Item) (p : Play) → Good p → Agree hosts asks p.world → Queued p.world.packets p.fresh (i ∷ rest) → Fits hosts asks level p.world.server i → Delivered turns_then asks i rest p
   deliver-item turns_then level asks (one k q) rest p good agree queue f = deliver-one turns_then asks k q rest p good agree queue
   deliver-item turns_then zero asks (pair k host x y file who tag r) rest p good agree queue f = deliver-pair turns_then 0 asks k host x y file who tag r rest p (omega arith) good agree queue f.0
   deliver-item turns_then (suc zero) asks (pair k host x y file who tag r) rest p good agree queue f = deliver-pair turns_then 1 asks k host x y file who tag r rest p (omega arith) good agree queue f.0

@@ -20,3 +20,4 @@ pub mod Deliver
 pub mod ServerDeliver
 pub mod PairDeliver
 pub mod Flow
+pub mod Ends
