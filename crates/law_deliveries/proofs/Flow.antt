@@ -33,7 +33,7 @@ append-more [] ys zs = refl
 append-more (x ∷ xs) ys zs = ap (λ rest. x ∷ rest) (append-more xs ys zs)
 
 -- what the clients of a world ask for their calls
-asked_at : Option Client → Option Request
+abbrev asked_at : Option Client → Option Request
 asked_at None = None
 asked_at (Some c) = asked_for c.ticket
 
@@ -112,7 +112,6 @@ module _ (hosts few : ℕ) (turns : Client → ℕ) (has_rows : AskersHaveRows) 
       less
     where
       agrees : Agree hosts (λ h. asked_at (slice_get p.world.clients h)) p.world
-      unfolding asked_at
       agrees h c is = ap asked_at (sym is)
 
   -- ---- one step

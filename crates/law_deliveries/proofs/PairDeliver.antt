@@ -100,6 +100,7 @@ module _ (hosts few : ℕ) (turns : Client → ℕ) (asks : ℕ → Option Reque
               let a = items-less hosts few turns asks p.world facts t2.server.table.rows (λ f2 h2 wh tg row on there gone taken. still f2 h2 wh tg row there gone taken) rest formed sent_as in
               let b = weight-append few asks t2.server.table.rows rest came2 in
               let c : item_weight few asks p.world.server.table.rows (pair k host x y file who tag r) ≡ heavy few = ap (pair_weight few) e in
+              let d = light in
               less_weight no_more (omega arith)
 
   pub two-delivered : GoesOn hosts few turns asks (pair k host x y file who tag r) rest p.world p2.world p2.fresh 2

@@ -40,7 +40,7 @@ numbers-many : (first count : ℕ) → length (numbers_from first count) ≡ cou
 numbers-many first zero = refl
 numbers-many first (suc count) = ap suc (numbers-many (first + 1) count)
 
-items-most : (items : List Item) → length items ≤ length (all_numbers items)
+pub items-most : (items : List Item) → length items ≤ length (all_numbers items)
 items-most [] = omega arith
 items-most (i ∷ items) = let rest = items-most items in by i rest
   where

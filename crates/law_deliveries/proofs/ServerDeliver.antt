@@ -19,7 +19,7 @@ use Rattle.nq_model.specs.Server.{Server, ServerStep, to_host}
 use Rattle.nq_model.specs.ServerStep.{receive}
 use Rattle.nq_model.specs.Table.{find_row}
 use Rattle.nq_model.specs.World.{World, from_host, after_server, deliver, step}
-use Rattle.walk_run.proofs.Packets.{not-both}
+use Rattle.walk_run.proofs.Packets.{not-both, message-same}
 use Rattle.walk_server.proofs.Rows.{same-number}
 use Rattle.law_deliveries.proofs.Asked.{is_taken, Vacates, vacated-request, request-hears}
 use Rattle.law_deliveries.proofs.AskSteps.{Outcome, falls, goes_on}
@@ -112,8 +112,10 @@ module _ (hosts few : ℕ) (turns : Client → ℕ) (asks : ℕ → Option Reque
         by (to_client n h mm e) = let same : from_host host m ≡ to_host h mm = cc in absurd (not-both host h m mm same)
         by (paired n h x y file who tag r e from below asked wants) = absurd (cc)
         by (alone n h x file who tag e from below off) =
-            let one_host : host ≡ h = cc in
-            let is : m ≡ call x (Request.Vacated who file tag) = cc in
+            let same : from_host host m ≡ from_host h (call x (Request.Vacated who file tag)) = cc in
+            let parts = message-same host h m (call x (Request.Vacated who file tag)) same in
+            let one_host = parts.0 in
+            let is = parts.1 in
             alone-keeps hosts few turns asks p.world facts file host who tag (from ∙ sym one_host) (ap (λ g. wants_in file (asks g)) one_host ∙ off) step_then (vacates x file who tag is (from ∙ sym one_host) (subst (λ g. g < hosts) (sym one_host) below))
 
     spends-one : Fits hosts asks 0 p.world.server (one k (from_host host m)) → Each (IsFormed hosts asks) rest → Each (IsSentAs p.world.packets) rest → Spends hosts few turns asks (one k (from_host host m)) rest came_then p.world.server.table.rows q.world.server.table.rows 1
@@ -123,8 +125,10 @@ module _ (hosts few : ℕ) (turns : Client → ℕ) (asks : ℕ → Option Reque
         by (to_client n h mm e) = let same : from_host host m ≡ to_host h mm = cc in absurd (not-both host h m mm same)
         by (paired n h x y file who tag r e from below asked wants) = absurd (cc)
         by (alone n h x file who tag e from below off) =
-            let one_host : host ≡ h = cc in
-            let is : m ≡ call x (Request.Vacated who file tag) = cc in
+            let same : from_host host m ≡ from_host h (call x (Request.Vacated who file tag)) = cc in
+            let parts = message-same host h m (call x (Request.Vacated who file tag)) same in
+            let one_host = parts.0 in
+            let is = parts.1 in
             let at = from ∙ sym one_host in
             let small = subst (λ g. g < hosts) (sym one_host) below in
             let free = ap (λ g. wants_in file (asks g)) one_host ∙ off in
