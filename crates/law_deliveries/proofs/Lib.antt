@@ -5,10 +5,9 @@ pub mod Energy
 pub mod GoodRows
 pub mod RowCount
 pub mod RowSteps
-pub mod Idle
+pub mod AskSteps
 pub mod UsefulReplies
 pub mod UsefulWorlds
-pub mod AskSteps
 pub mod Facts
 pub mod Forms
 pub mod ClientSteps
@@ -21,3 +20,5 @@ pub mod ServerDeliver
 pub mod PairDeliver
 pub mod Flow
 pub mod Ends
+pub mod RunFacts
+pub mod Final

@@ -25,7 +25,7 @@ use Rattle.walk_run.proofs.Packets.{In, in-append, told-same, reply-same}
 use Rattle.walk_run.proofs.ServerSays.{notices-no-reply, verdict-inc, plain-inc}
 use Rattle.walk_server.proofs.AskCases.{IsGranted, shares_again, begins_sharing, begins_caching, renews_row}
 use Rattle.walk_server.proofs.ServerCases.{server-hears}
-use Rattle.law_deliveries.proofs.Idle.{is_idle}
+use Rattle.law_calm.specs.Efforts.{is_idle}
 use Rattle.walk_server.proofs.ServerOutcomes.{error-no-reply, IsPlain, unattached, attached_again, not_yet, no_entry, entry, no_attributes, attributes, no_file, no_block, decided_again, is_old}
 
 -- no request for a lease to write
