@@ -125,10 +125,10 @@ quiet-parts hosts longest e events quiet within [] (x ∷ part) after split host
 quiet-parts hosts longest e events quiet within (x ∷ before) part after split host there few =
     within before part after (rest-same e x events (before ++ part ++ after) split) host there few
 
-record IsLawful (most : ℕ) (head : Head) (p : Play) : Type 0 where
-  is_run : p.world ≡ run head p.events
-  bounds : KeepsBounds most head p.events
-  within : IsWithinSkew head.hosts most p.events
+pub record IsLawful (most : ℕ) (head : Head) (p : Play) : Type 0 where
+  pub is_run : p.world ≡ run head p.events
+  pub bounds : KeepsBounds most head p.events
+  pub within : IsWithinSkew head.hosts most p.events
 
 goes-on : (most : ℕ) (head : Head) (p : Play) (k : ℕ) → IsLawful most head p → IsLawful most head (play p (Event.Deliver k))
 goes-on most head p k l = record {

@@ -85,10 +85,6 @@ module _ (table : Table) (q : Question) (want : Want) (wants : q.want ≡ Some w
   })
 
   -- who has no row gets one, where there is room
-  record HasSome (t : Table) : Type 0 where
-    row : Row
-    there : find_row q.file q.who.host t.rows ≡ Some row
-
   pub asker-gets : own_in table q ≡ None → has_room table ≡ true → (row : Row) → find_row q.file q.who.host (ask table q).table.rows ≡ Some row → Good (ask table q).table
   unfolding granted put_off_by_own no_lease free with_rows after_draw sharing_row
   asker-gets none room row there = asks table q (λ a. find_row q.file q.who.host a.table.rows ≡ Some row → Good a.table) (record {

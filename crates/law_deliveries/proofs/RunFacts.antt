@@ -33,9 +33,8 @@ use Rattle.walk_run.proofs.Worlds.{IsAt, run-holds, received-said}
 use Rattle.walk_server.proofs.RowChanges.{own-key}
 use Rattle.walk_server.proofs.Tests.{there-is}
 use Rattle.law_calm.specs.Efforts.{is_idle}
-use Rattle.law_calm.specs.NamedRows.{IsNamed, by_notice, by_vacated}
+use Rattle.law_calm.specs.NamedRows.{by_notice, by_vacated}
 use Rattle.law_calm.specs.SendsAgain.{is_cancelled}
-use Rattle.law_calm.specs.Turns as calm
 use Rattle.law_calm.specs.Turns.{turns_left, IsOfUse, IsOfUseTo, TakesTurn}
 use Rattle.law_calm.proofs.ClientCount.{client-count}
 use Rattle.law_calm.proofs.HostsBelow.{stands-apart}
@@ -45,8 +44,7 @@ use Rattle.law_calm.proofs.NoticeRows.{member-found, notices-mark}
 use Rattle.law_calm.proofs.SharedRows.{asks-has-row}
 use Rattle.law_calm.proofs.SharingRows.{rows-to-go}
 use Rattle.law_calm.proofs.Turns.{turns-fall}
-use Rattle.law_deliveries.proofs.Facts as here
-use Rattle.law_deliveries.proofs.Facts.{asked_by, asked_for, wants_in, Takes, Facts, AskersHaveRows}
+use Rattle.law_deliveries.proofs.Facts.{asked_by, asked_for, wants_in, Takes, IsNamed, Facts, AskersHaveRows}
 use Rattle.law_deliveries.proofs.RowCount.{few-rows}
 use Rattle.law_deliveries.proofs.UsefulReplies.{NoWriter}
 use Rattle.law_deliveries.proofs.UsefulWorlds.{each-answers}
@@ -88,11 +86,11 @@ asked-is t e = by t.job e
     by pushing f = absurd (cc)
 
 takes-of : (c : Client) (m : Message) (t : ClientStep) → TakesTurn c m t → Takes turns_left c m t
-takes-of c m t (calm.fewer less) = here.fewer less
-takes-of c m t (calm.again x file tag ticket is asks cut sends then no_more) =
+takes-of c m t (TakesTurn.fewer less) = Takes.fewer less
+takes-of c m t (TakesTurn.again x file tag ticket is asks cut sends then no_more) =
     let k = and_parts (is_for_call ticket.job) (wants_of file ticket.request) cut in
-    here.again x file tag ticket.request is (ap asked_for asks ∙ asked-is ticket k.0) k.1 sends (ap asked_for then) no_more
-takes-of c m t (calm.silent x file tag is same off shape no_more) = here.silent x file tag is (sym (cancelled-is file c.ticket) ∙ off) (ap asked_for same) shape no_more
+    Takes.again x file tag ticket.request is (ap asked_for asks ∙ asked-is ticket k.0) k.1 sends (ap asked_for then) no_more
+takes-of c m t (TakesTurn.silent x file tag is same off shape no_more) = Takes.silent x file tag is (sym (cancelled-is file c.ticket) ∙ off) (ap asked_for same) shape no_more
 
 -- ---- leases that a client hears of for its call are of use
 
@@ -144,7 +142,7 @@ module _ (head : Head) (events : List Event) where
 
   -- ---- notices
 
-  marked-rows : (k : ℕ) (p q : Packet) → slice_get (run head events).packets k ≡ Some p → p.to ≡ Party.Server → In (receive (run head events).server (sending_host p.sender) (length (run head events).packets) (datagram_of p.message)).sends q → (host x file : ℕ) (who : Who) (tag : Tag) → q ≡ to_host host (call x (Request.Evicted who file tag)) → here.IsNamed (receive (run head events).server (sending_host p.sender) (length (run head events).packets) (datagram_of p.message)).server.table.rows host file who tag
+  marked-rows : (k : ℕ) (p q : Packet) → slice_get (run head events).packets k ≡ Some p → p.to ≡ Party.Server → In (receive (run head events).server (sending_host p.sender) (length (run head events).packets) (datagram_of p.message)).sends q → (host x file : ℕ) (who : Who) (tag : Tag) → q ≡ to_host host (call x (Request.Evicted who file tag)) → IsNamed (receive (run head events).server (sending_host p.sender) (length (run head events).packets) (datagram_of p.message)).server.table.rows host file who tag
   marked-rows k p q sent to i host x file who tag e = by (received-said (run head events) p (in-get (run head events).packets k p sent) to (run-holds head events) q i)
     where
       rows : List Row
@@ -153,14 +151,14 @@ module _ (head : Head) (events : List Event) where
       place : (n : ℕ) × (slice_get (receive (run head events).server (sending_host p.sender) (length (run head events).packets) (datagram_of p.message)).sends n ≡ Some q)
       place = at-place _ q i
 
-      go : host ≡ who.host → here.IsNamed (receive (run head events).server (sending_host p.sender) (length (run head events).packets) (datagram_of p.message)).server.table.rows host file who tag
+      go : host ≡ who.host → IsNamed (receive (run head events).server (sending_host p.sender) (length (run head events).packets) (datagram_of p.message)).server.table.rows host file who tag
       go at =
           let g = notices-mark (run head events).server (sending_host p.sender) (length (run head events).packets) (datagram_of p.message) (stands-apart head events).one_each place.0 host x file who tag (place.1 ∙ ap Some e) in
           record { row = g.row; there = ap (λ h. find_row file h (receive (run head events).server (sending_host p.sender) (length (run head events).packets) (datagram_of p.message)).server.table.rows) at ∙ g.there; holder = g.holder; latest = g.latest }
 
-      by : IsSaid (run head events).packets q → here.IsNamed (receive (run head events).server (sending_host p.sender) (length (run head events).packets) (datagram_of p.message)).server.table.rows host file who tag
-      by (said_reply h n a is k2) = let parts = told-same h host (reply n a) (call x (Request.Evicted who file tag)) (sym is ∙ e) in absurd (let bad = parts.1 in cc)
-      by (said_error h n er is) = let parts = told-same h host (error n er) (call x (Request.Evicted who file tag)) (sym is ∙ e) in absurd (let bad = parts.1 in cc)
+      by : IsSaid (run head events).packets q → IsNamed (receive (run head events).server (sending_host p.sender) (length (run head events).packets) (datagram_of p.message)).server.table.rows host file who tag
+      by (said_reply h n a is k2) = let parts = told-same h host (reply n a) (call x (Request.Evicted who file tag)) (sym is ∙ e) in absurd (let bad : reply n a ≡ call x (Request.Evicted who file tag) = parts.1 in cc)
+      by (said_error h n er is) = let parts = told-same h host (error n er) (call x (Request.Evicted who file tag)) (sym is ∙ e) in absurd (let bad : error n er ≡ call x (Request.Evicted who file tag) = parts.1 in cc)
       by (said_notice n row is) =
           let parts = told-same row.who.host host (call n (Request.Evicted row.who row.file row.tag)) (call x (Request.Evicted who file tag)) (sym is ∙ e) in
           let one_who : row.who ≡ who = who-same n x row.who who row.file file row.tag tag parts.1 in
