@@ -142,15 +142,20 @@ facts-of most head p l = subst (λ w. Facts head.hosts most_sends turns_left w) 
 
 -- ---- the bound
 
-within-bound : (few hosts delayed turns items fresh : ℕ) → turns ≤ most_turns hosts delayed → items ≤ fresh → left (growth few) (turns * most_growths hosts + (hosts * (hosts + 2) + 3)) ((few + 2) * items + 0) ≤ enough_for few hosts fresh delayed
-within-bound few hosts delayed turns items fresh less fewer =
-    let a = times-less turns (most_turns hosts delayed) (most_growths hosts) less in
-    let b : (most_turns hosts delayed + 1) * most_growths hosts ≡ most_turns hosts delayed * most_growths hosts + most_growths hosts = apart (most_turns hosts delayed) (most_growths hosts) in
-    let c = times-more (few + 2) items fresh fewer in
-    no-more (growth few) (turns * most_growths hosts + (hosts * (hosts + 2) + 3)) ((most_turns hosts delayed + 1) * most_growths hosts) ((few + 2) * items + 0) ((few + 2) * fresh) (growth-some few) (omega arith) (omega arith)
+exponent-within : (turns most growths rest : ℕ) → turns ≤ most → rest ≤ growths → turns * growths + rest ≤ (most + 1) * growths
+exponent-within turns most growths rest less fewer =
+    let a = times-less turns most growths less in
+    let b = apart most growths in
+    omega arith
   where
     apart : (a b : ℕ) → (a + 1) * b ≡ a * b + b
     apart a b = grind arith
+
+within-bound : (few hosts delayed turns items fresh : ℕ) → turns ≤ most_turns hosts delayed → items ≤ fresh → left (growth few) (turns * most_growths hosts + (hosts * (hosts + 2) + 3)) ((few + 2) * items + 0) ≤ enough_for few hosts fresh delayed
+within-bound few hosts delayed turns items fresh less fewer =
+    let c = times-more (few + 2) items fresh fewer in
+    no-more (growth few) (turns * most_growths hosts + (hosts * (hosts + 2) + 3)) ((most_turns hosts delayed + 1) * most_growths hosts) ((few + 2) * items + 0) ((few + 2) * fresh) (growth-some few)
+    (exponent-within turns (most_turns hosts delayed) (most_growths hosts) (hosts * (hosts + 2) + 3) less (omega arith)) (omega arith)
 
 module _ (most : ℕ) (head : Head) (p : Play) (l : IsLawful most head p) (rises : Rise 0 (length p.world.packets) p.fresh) where
   pub delivered : IsDelivered p

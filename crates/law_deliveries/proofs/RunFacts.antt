@@ -87,9 +87,9 @@ asked-is t e = by t.job e
 
 takes-of : (c : Client) (m : Message) (t : ClientStep) → TakesTurn c m t → Takes turns_left c m t
 takes-of c m t (TakesTurn.fewer less) = Takes.fewer less
-takes-of c m t (TakesTurn.again x file tag ticket is asks cut sends then no_more) =
+takes-of c m t (TakesTurn.again x file tag ticket is asks cut sends kept no_more) =
     let k = and_parts (is_for_call ticket.job) (wants_of file ticket.request) cut in
-    Takes.again x file tag ticket.request is (ap asked_for asks ∙ asked-is ticket k.0) k.1 sends (ap asked_for then) no_more
+    Takes.again x file tag ticket.request is (ap asked_for asks ∙ asked-is ticket k.0) k.1 sends (ap asked_for kept) no_more
 takes-of c m t (TakesTurn.silent x file tag is same off shape no_more) = Takes.silent x file tag is (sym (cancelled-is file c.ticket) ∙ off) (ap asked_for same) shape no_more
 
 -- ---- leases that a client hears of for its call are of use
