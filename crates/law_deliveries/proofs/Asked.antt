@@ -256,7 +256,6 @@ module _ (s : Server) (who : Who) (xid next file : ℕ) (tag : Tag) where
   taken = is_taken who tag (find_row file who.host s.table.rows)
 
   not-taken : (t : ServerStep) → t.server ≡ s → t.sends ≡ [] → taken ≡ false → Vacates s who file tag t
-
   not-taken t is none e = record {
     same = record { is = subst (λ (x : Server). x ≡ record s { table = x.table; notice = x.notice }) (sym is) refl };
     rows = ap (λ (x : Server). x.table.rows) is ∙ ap (rows_without who file s.table.rows) (sym e);

@@ -74,15 +74,20 @@ module _ (hosts few : ℕ) (turns : Client → ℕ) (has_rows : AskersHaveRows) 
         let items = (rest ++ []) ++ on.came_then in
         let b = growth few in
         let e2 = turns_then * most_growths hosts + energy hosts asks q.world.server.table.rows in
-        let w2 = weight_of few asks q.world.server.table.rows ((rest ++ []) ++ on.came_then) in
-        (left b e2 w2, (enough (on.spends s.old_fits.0 formed-rest s.queue.sent.1), last turns_then asks items (record {
-          good = good;
-          queue = subst (λ js. Queued q.world.packets q.fresh js) (sym (append-nil items)) on.queue;
-          agree = on.agree;
-          few_turns = let a = on.no_more in let c = s.few_turns in omega arith;
-          old_fits = each-append (Fits hosts asks 0 q.world.server) (rest ++ []) on.came_then (each-map (Fits hosts asks 0 p.world.server) (Fits hosts asks 0 q.world.server) (fits-keep hosts asks 0 p.world.server q.world.server (on.keeps 0 (omega arith) s.old_fits.0)) (rest ++ []) fit-rest) (on.fits 0 (omega arith) s.old_fits.0);
-          new_fits = tt;
-        }) (omega arith)))
+        let w2 = weight_of few asks q.world.server.table.rows ((rest ++ []) ++ on.came_then) in (
+          left b e2 w2,
+          (
+            enough (on.spends s.old_fits.0 formed-rest s.queue.sent.1),
+            last turns_then asks items (record {
+              good = good;
+              queue = subst (λ js. Queued q.world.packets q.fresh js) (sym (append-nil items)) on.queue;
+              agree = on.agree;
+              few_turns = let a = on.no_more in let c = s.few_turns in omega arith;
+              old_fits = each-append (Fits hosts asks 0 q.world.server) (rest ++ []) on.came_then (each-map (Fits hosts asks 0 p.world.server) (Fits hosts asks 0 q.world.server) (fits-keep hosts asks 0 p.world.server q.world.server (on.keeps 0 (omega arith) s.old_fits.0)) (rest ++ []) fit-rest) (on.fits 0 (omega arith) s.old_fits.0);
+              new_fits = tt;
+            }) (omega arith),
+          ),
+        )
       where
         before_rows : List Row
         before_rows = p.world.server.table.rows
@@ -138,15 +143,20 @@ module _ (hosts few : ℕ) (turns : Client → ℕ) (has_rows : AskersHaveRows) 
         let e = length-append new on.came_then in
         let g = on.few_came in
         let keeps : suc level ≤ 2 → KeepsGood hosts asks p.world.server q.world.server = λ fine. on.keeps (suc level) fine s.old_fits.0 in
-        let light = lighter (growth few) (turns_then * most_growths hosts + (hosts * (hosts + 2) + suc level)) ((few + 2) * suc (length old) + length new) ((few + 2) * length old + length (new ++ on.came_then)) n (growth-some few) (omega arith) in
-        (left (growth few) (turns_then * most_growths hosts + (hosts * (hosts + 2) + suc level)) ((few + 2) * length old + length (new ++ on.came_then)), (omega arith, ready-of hosts few turns has_rows Good facts goes turns_then level asks old (new ++ on.came_then) q (left (growth few) (turns_then * most_growths hosts + (hosts * (hosts + 2) + suc level)) ((few + 2) * length old + length (new ++ on.came_then))) small (record {
-          good = good;
-          queue = subst (λ js. Queued q.world.packets q.fresh js) (append-more old new on.came_then) on.queue;
-          agree = on.agree;
-          few_turns = let a = on.no_more in let c = s.few_turns in omega arith;
-          old_fits = keep-old hosts few asks level p.world.server q.world.server small keeps old s.old_fits.1;
-          new_fits = each-append (Fits hosts asks level q.world.server) new on.came_then (keep-new hosts few asks level p.world.server q.world.server small keeps new s.new_fits) (on.fits (suc level) (omega arith) s.old_fits.0);
-        }) (omega arith)))
+        let light = lighter (growth few) (turns_then * most_growths hosts + (hosts * (hosts + 2) + suc level)) ((few + 2) * suc (length old) + length new) ((few + 2) * length old + length (new ++ on.came_then)) n (growth-some few) (omega arith) in (
+          left (growth few) (turns_then * most_growths hosts + (hosts * (hosts + 2) + suc level)) ((few + 2) * length old + length (new ++ on.came_then)),
+          (
+            omega arith,
+            ready-of hosts few turns has_rows Good facts goes turns_then level asks old (new ++ on.came_then) q (left (growth few) (turns_then * most_growths hosts + (hosts * (hosts + 2) + suc level)) ((few + 2) * length old + length (new ++ on.came_then))) small (record {
+              good = good;
+              queue = subst (λ js. Queued q.world.packets q.fresh js) (append-more old new on.came_then) on.queue;
+              agree = on.agree;
+              few_turns = let a = on.no_more in let c = s.few_turns in omega arith;
+              old_fits = keep-old hosts few asks level p.world.server q.world.server small keeps old s.old_fits.1;
+              new_fits = each-append (Fits hosts asks level q.world.server) new on.came_then (keep-new hosts few asks level p.world.server q.world.server small keeps new s.new_fits) (on.fits (suc level) (omega arith) s.old_fits.0);
+            }) (omega arith),
+          ),
+        )
 
     early-step : Delivered hosts few turns has_rows Good facts goes turns_then asks i (old ++ new) p → Step most p
     early-step (by_one k first on) =

@@ -148,9 +148,10 @@ get-behind (x ∷ xs) y ys = get-behind xs y ys
 
 ones-sent : (ps more : List Packet) (n : ℕ) → length ps ≡ n → Each (IsSentAs (ps ++ more)) (ones n more)
 ones-sent ps [] n len = tt
-ones-sent ps (p ∷ more) n len =
-    (subst (λ k. slice_get (ps ++ p ∷ more) k ≡ Some p) len (get-behind ps p more),
-    subst (λ qs. Each (IsSentAs qs) (ones (n + 1) more)) (append-one ps p more) (ones-sent (ps ++ p ∷ []) more (n + 1) (let both = length-append ps (p ∷ []) in omega arith)))
+ones-sent ps (p ∷ more) n len = (
+  subst (λ k. slice_get (ps ++ p ∷ more) k ≡ Some p) len (get-behind ps p more),
+  subst (λ qs. Each (IsSentAs qs) (ones (n + 1) more)) (append-one ps p more) (ones-sent (ps ++ p ∷ []) more (n + 1) (let both = length-append ps (p ∷ []) in omega arith)),
+)
   where
     append-one : (xs : List Packet) (y : Packet) (ys : List Packet) → (xs ++ y ∷ []) ++ ys ≡ xs ++ y ∷ ys
     append-one [] y ys = refl

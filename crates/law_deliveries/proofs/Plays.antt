@@ -87,5 +87,5 @@ module _ (p : Play) (k : ℕ) (q : Packet) (items : List Item) (queue : Queued p
       let b : length (play p (Event.Deliver k)).fresh ≡ length (all_numbers split.0) = ap (λ (ns : List ℕ). length ns) split.1.0.is in
       let c : length (play p (Event.Deliver k)).fresh ≡ length (all_numbers (items ++ ones (length p.world.packets) more)) = ap (λ (ns : List ℕ). length ns) r.is in
       let d : length (all_numbers (items ++ ones (length p.world.packets) more)) ≡ length (all_numbers items) + length more =
-          ap (λ (ns : List ℕ). length ns) (all-append items (ones (length p.world.packets) more)) ∙ length-append (all_numbers items) (all_numbers (ones (length p.world.packets) more)) ∙ ap (λ n. length (all_numbers items) + n) (ap (λ (ns : List ℕ). length ns) (adds-ones p.world.packets more).are ∙ numbers-many (length p.world.packets) (length more)) in
+      ap (λ (ns : List ℕ). length ns) (all-append items (ones (length p.world.packets) more)) ∙ length-append (all_numbers items) (all_numbers (ones (length p.world.packets) more)) ∙ ap (λ n. length (all_numbers items) + n) (ap (λ (ns : List ℕ). length ns) (adds-ones p.world.packets more).are ∙ numbers-many (length p.world.packets) (length more)) in
       (split.0, (split.1.0, (split.1.1, omega arith)))
