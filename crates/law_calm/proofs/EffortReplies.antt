@@ -544,6 +544,33 @@ module _ (price note : ℕ) where
       lease-some true = omega arith
       lease-some false = omega arith
 
+  -- no idle lease for a call is heard: then a reply costs no more than any other
+  abbrev pub Lean : Client → Ticket → Reply → ClientStep → Type 0
+  Lean c ticket r v = (ticket.job ≡ for_call → reply_weight price r ≡ 2) → cost price note (settle v) + 1 ≤ effort price c + 2
+
+  lean-by : (c : Client) (ticket : Ticket) (r : Reply) (v : ClientStep) → Pays c r v → reply_weight price r ≡ 2 → Lean c ticket r v
+  lean-by c ticket r v pays two = λ mine. omega arith
+
+  pub replied-lean : (c : Client) (number : ℕ) (ticket : Ticket) (r : Reply) → c.ticket ≡ Some ticket → reply_counts r ticket ≡ true → Alone c → Lean c ticket r (replied (begun c) number ticket r)
+  replied-lean c number ticket r asks counts alone = replied-cases c number ticket r (Lean c ticket r) (alone.asking.ticketed ticket asks).fits counts (record {
+    attaching = λ who inc job request is. lean-by c ticket r (attached (start c)) (by-cost c r (attached (start c)) (kept-cost c ticket (attached (start c)) asks (λ e. let two = sym job ∙ e in cc) (attached-goes c)) (ap (reply_weight price) is)) (ap (reply_weight price) is);
+    named = λ answer job is. lean-by c ticket r (answers_call (start c) answer None) (by-answer c r (start c) answer None (wider 0 1 (start c) (start c) (omega arith) (same-goes (start c))) (named-weight ticket.request r answer is)) (named-weight ticket.request r answer is);
+    reading = λ who q file block want inc rev body grant of is. lean-by c ticket r (answers_call (then_caches (takes_optional (start c) file grant ticket.first) file block body grant) (Answer.Ok (Value.Body body)) (Some number)) (by-answer c r (then_caches (takes_optional (start c) file grant ticket.first) file block body grant) (Answer.Ok (Value.Body body)) (Some number) (read-goes (start c) file block body grant ticket.first) (ap (reply_weight price) is)) (ap (reply_weight price) is);
+    leasing = λ who file want inc grant of is. λ mine. lean-by c ticket r (lease_done (start c) file grant ticket.first) (lease-pays c ticket who file want inc grant r asks of alone is) (mine of.job) mine;
+    writing = λ who seq file block first last body inc rev of is. lean-by c ticket r (answers_call (knows_revision (caches_write (start c) file block body rev) file rev) (Answer.Ok Value.Nothing) None) (by-answer c r (knows_revision (caches_write (start c) file block body rev) file rev) (Answer.Ok Value.Nothing) None (write-goes (start c) file block body rev) (ap (reply_weight price) is)) (ap (reply_weight price) is);
+    resizing = λ who seq q file blocks inc rev of is. lean-by c ticket r (answers_call (knows_revision (start c) file rev) (Answer.Ok Value.Nothing) None) (by-answer c r (knows_revision (start c) file rev) (Answer.Ok Value.Nothing) None (wider 0 1 (start c) (knows_revision (start c) file rev) (omega arith) (known-goes (start c) file rev)) (ap (reply_weight price) is)) (ap (reply_weight price) is);
+    removing = λ who seq q file inc of is. lean-by c ticket r (answers_call (start c) (Answer.Ok Value.Nothing) None) (by-answer c r (start c) (Answer.Ok Value.Nothing) None (wider 0 1 (start c) (start c) (omega arith) (same-goes (start c))) (ap (reply_weight price) is)) (ap (reply_weight price) is);
+    renewing = λ who file want inc grant job request is. λ mine.
+        let few = kept-cost c ticket (takes_optional (start c) file grant ticket.first) asks (λ e. let two = sym job ∙ e in cc) (optional-goes (start c) file grant ticket.first) in
+        let cheap = settle-cheap price note (takes_optional (start c) file grant ticket.first) in
+        omega arith;
+    pushed = λ who seq file block first last base body inc rev job request is. lean-by c ticket r (push_done (start c) file block body rev) (by-cost c r (push_done (start c) file block body rev) (kept-cost c ticket (push_done (start c) file block body rev) asks (λ e. let two = sym job ∙ e in cc) (pushed-goes (start c) file block body rev)) (ap (reply_weight price) is)) (ap (reply_weight price) is);
+    putting_off = λ inc status of is off. lean-by c ticket r (pauses (start c)) (by-cost c r (pauses (start c)) (let few = paused-cost c in omega arith) (ap (reply_weight price) is)) (ap (reply_weight price) is);
+    refusing = λ inc status job is counted final. lean-by c ticket r (answers_call (start c) (answer_of status) None) (by-answer c r (start c) (answer_of status) None (wider 0 1 (start c) (start c) (omega arith) (same-goes (start c))) (ap (reply_weight price) is)) (ap (reply_weight price) is);
+    renewal_refused = λ inc status job is final. lean-by c ticket r (start c) (by-cost c r (start c) (kept-cost c ticket (start c) asks (λ e. let two = sym job ∙ e in cc) (wider 0 1 (start c) (start c) (omega arith) (same-goes (start c)))) (ap (reply_weight price) is)) (ap (reply_weight price) is);
+    push_refused = λ who seq file block first last base body inc status job request is final. lean-by c ticket r (push_refused (start c) file) (by-cost c r (push_refused (start c) file) (kept-cost c ticket (push_refused (start c) file) asks (λ e. let two = sym job ∙ e in cc) (refused-goes (start c) file)) (ap (reply_weight price) is)) (ap (reply_weight price) is);
+  })
+
   -- ---- a notice
 
   -- what a cancelled request may cost once more

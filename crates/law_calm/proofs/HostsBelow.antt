@@ -20,7 +20,7 @@ use Rattle.nq_model.specs.Server.{Server, ServerStep, after_notices, keeping, ke
 use Rattle.nq_model.specs.ServerStep.{access_of, to_read, end_reading, attaches, vacates, vacated_rows, tells_later, serves, leases, receive, tick, boot, crash}
 use Rattle.nq_model.specs.Table.{Table, empty_table, after_draw, find_row, is_row_of, put_row, drop_row, same_tag, with_rows}
 use Rattle.nq_model.specs.World.{Head, World, from_host, after_server, after_client, sending_host, first_kept, start, run}
-use Rattle.nq_promises.specs.RowsStandApart.{HasOneRowEach}
+use Rattle.nq_promises.specs.RowsStandApart.{HasOneRowEach, StandApart}
 use Rattle.nq_promises.specs.ServerAlone.{Coming, datagram, step_for, server_after, first_boot}
 use Rattle.law_packets.proofs.NoticeCounts.{HostedBelow}
 use Rattle.law_servers.proofs.ServerAlone.{rows-stand-apart}
@@ -222,6 +222,12 @@ run-alone : (head : Head) (events : List Event) → IsAlone head (run head event
 unfolding start
 run-alone head [] = record { came = []; is = refl }
 run-alone head (e ∷ events) = alone-changed head (run head events) (run head (e ∷ events)) (step-changes (run head events) e) (run-alone head events)
+
+-- the rows of each run stand apart
+pub stands-apart : (head : Head) (events : List Event) → StandApart (run head events).server
+stands-apart head events =
+    let a = run-alone head events in
+    subst StandApart (sym a.is) (rows-stand-apart (first_kept head) head.longest 0 a.came)
 
 pub one-row-each : (head : Head) (events : List Event) → HasOneRowEach (run head events).server.table.rows
 one-row-each head events =

@@ -8,7 +8,7 @@ use Rattle.nq_base.specs.declared.Push.{Push}
 use Rattle.nq_base.specs.declared.Reply.{Reply}
 use Rattle.nq_base.specs.declared.Request.{Request}
 use Rattle.nq_base.specs.declared.Tag.{Tag}
-use Rattle.nq_model.specs.Client.{Client, ClientStep, begun, Ticket, UnderWay}
+use Rattle.nq_model.specs.Client.{Client, ClientStep, begun, Ticket, UnderWay, for_call}
 use Rattle.nq_model.specs.Hear.{hear, replied, cancels, cancelled, wants_of, vacates_lease, notes_notice, evicted, goes_on, reply_counts}
 use Rattle.nq_model.specs.Message.{Message, call, reply}
 use Rattle.nq_model.specs.Send.{sends_request, after_seq, after_number, takes_push, gives_up, base_of, want_of, read_want, noticed_file, ending_file, is_asking, then_pushes, then_ending, then_calls, send_next}
@@ -25,9 +25,9 @@ use Rattle.walk_server.proofs.Tests.{is-not-below, there-is}
 use Rattle.law_calm.specs.SendsAgain.{is_cancelled}
 use Rattle.law_calm.specs.Efforts.{effort, requests_left}
 use Rattle.law_calm.specs.SendsAgain.{SendsAgain, the_same, delayed_writes, nothing_now}
-use Rattle.law_calm.specs.Turns.{asking_turns, IsOfUse, TakesTurn, fewer, again, silent, TurnsFall}
+use Rattle.law_calm.specs.Turns.{asking_turns, IsOfUse, IsOfUseTo, TakesTurn, fewer, again, silent, TurnsFall}
 use Rattle.law_calm.proofs.EffortParts.{settle-cheap, send-cheap}
-use Rattle.law_calm.proofs.EffortReplies.{CancelCosts, cancels-cost, hear-costs, cancel-costs, uncancelled-costs}
+use Rattle.law_calm.proofs.EffortReplies.{CancelCosts, cancels-cost, replied-lean, cancel-costs, uncancelled-costs}
 use Rattle.law_calm.proofs.Efforts.{total, total-more, lease_weight, reply_weight, want_weight, weight, sent_weight, cost}
 use Rattle.law_calm.proofs.GoingOn.{calls-go-on}
 use Rattle.law_calm.proofs.Meant.{replied-free}
@@ -112,7 +112,7 @@ of-use m xid r is useful = ap (weight 2 2) is ∙ by r is
     by (Reply.Remove inc) e = refl
     by (Reply.Refused inc status) e = refl
 
-reply-turn : (c : Client) (k : ℕ) (m : Message) (xid : ℕ) (r : Reply) (ticket : Ticket) → Alone c → m ≡ reply xid r → c.ticket ≡ Some ticket → reply_counts r ticket ≡ true → hear c k m ≡ Some (goes_on (replied (begun c) k ticket r)) → IsOfUse m → TakesTurn c m (goes_on (replied (begun c) k ticket r))
+reply-turn : (c : Client) (k : ℕ) (m : Message) (xid : ℕ) (r : Reply) (ticket : Ticket) → Alone c → m ≡ reply xid r → c.ticket ≡ Some ticket → reply_counts r ticket ≡ true → hear c k m ≡ Some (goes_on (replied (begun c) k ticket r)) → IsOfUseTo c m → TakesTurn c m (goes_on (replied (begun c) k ticket r))
 reply-turn c k m xid r ticket alone is asks counts hears useful = by (next-sent (settle s) (kept.ticket ∙ free))
   where
     s : ClientStep
@@ -130,10 +130,13 @@ reply-turn c k m xid r ticket alone is asks counts hears useful = by (next-sent 
     two : asking_turns c.ticket ≡ 2
     two = ap asking_turns asks
 
+    two_at_most : (ticket.job ≡ for_call) → reply_weight 2 r ≡ 2
+    two_at_most mine = let whole = of-use m xid r is (useful ticket asks mine) in sym (ap (weight 2 2) is) ∙ whole
+
     less : cost 2 2 t + 1 ≤ effort 2 c + 2
     less =
-        let costs = hear-costs 2 2 c k m t 0 (omega arith) (λ x f g e. absurd (let bad : reply xid r ≡ call x (Request.Evicted c.who f g) = sym is ∙ e in cc)) alone hears in
-        let two_more = of-use m xid r is useful in
+        let lean = replied-lean 2 2 c k ticket r asks counts alone two_at_most in
+        let next = send-cheap 2 2 (settle s) in
         omega arith
 
     by : Sends (settle s) t → TakesTurn c m t
@@ -315,7 +318,7 @@ module _ (head : Head) (events : List Event) (host : ℕ) (c : Client) (k : ℕ)
       pushes p idle some (call_sent u has unpaused more same) = none-some p (sym (same ∙ kept.push ∙ n.push ∙ idle) ∙ some)
 
       by : SendsAgain c ticket file tag t → TakesTurn c m t
-      by (the_same sends asked) = again xid file tag ticket is asks sends asked
+      by (the_same sends asked) = again xid file tag ticket is asks cut_it sends asked
           (let all = left c file tag 2 (cancel-costs 2 2 c file) in
           let w = light in
           let x = two in
@@ -347,7 +350,7 @@ module _ (head : Head) (events : List Event) (host : ℕ) (c : Client) (k : ℕ)
       free-turn free = which (quiet-sends s t (idle free) (next-sent s (s-ticket ∙ ap (cancelled file) free)))
         where
           which : (t ≡ s) ⊎ (sent_weight 2 2 s + 3 ≤ sent_weight 2 2 t) → TakesTurn c m t
-          which (inl e) = silent xid file tag is (ap (λ (x : ClientStep). x.client.ticket) e ∙ s-ticket ∙ ap (cancelled file) free ∙ sym free) (shape e)
+          which (inl e) = silent xid file tag is (ap (λ (x : ClientStep). x.client.ticket) e ∙ s-ticket ∙ ap (cancelled file) free ∙ sym free) off (shape e)
               (let all = left c file tag 0 costs in
               let w = same-weight in
               let same : sent_weight 2 2 t ≡ sent_weight 2 2 s = ap (sent_weight 2 2) e in
@@ -367,7 +370,7 @@ module _ (head : Head) (events : List Event) (host : ℕ) (c : Client) (k : ℕ)
           let one : cancelled file (Some ticket) ≡ Some ticket = rw wants refl in
           let there : s.client.ticket ≡ Some ticket = s-ticket ∙ ap (cancelled file) asks ∙ one in
           let e : t ≡ s = asking-stays s (ap is_some there) in
-          silent xid file tag is (ap (λ (x : ClientStep). x.client.ticket) e ∙ there ∙ sym asks) (shape e)
+          silent xid file tag is (ap (λ (x : ClientStep). x.client.ticket) e ∙ there ∙ sym asks) off (shape e)
           (let all = left c file tag 0 costs in
           let w = same-weight in
           let same : sent_weight 2 2 t ≡ sent_weight 2 2 s = ap (sent_weight 2 2) e in
