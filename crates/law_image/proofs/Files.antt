@@ -81,8 +81,11 @@ each-file P s all = of-rows P s.rows [] (All-nil P) all
 
 -- ---- ids
 
-numbered-at : (rows : List (Option PlacedFile)) (first slot : ℕ) (f : PlacedFile) → AreNumbered first rows → get_or rows slot None ≡ Some f → f.slot ≡ first + slot
-numbered-at [] first slot f n is = let e = get_or_past [] slot (None {A = PlacedFile}) (omega arith) in absurd (cc)
+none-past : (rows : List (Option PlacedFile)) (slot : ℕ) → length rows ≤ slot → get_or rows slot None ≡ None
+none-past rows slot le = get_or_past rows slot None le
+
+pub numbered-at : (rows : List (Option PlacedFile)) (first slot : ℕ) (f : PlacedFile) → AreNumbered first rows → get_or rows slot None ≡ Some f → f.slot ≡ first + slot
+numbered-at [] first slot f n is = let e = none-past [] slot (omega arith) in absurd (cc)
 numbered-at (None ∷ rows) first zero f n is = absurd (cc)
 numbered-at (None ∷ rows) first (suc slot) f n is = let more = numbered-at rows (first + 1) slot f n is in omega (arith, more)
 numbered-at (Some g ∷ rows) first zero f n is = let e : g.slot ≡ f.slot = cc in let own = n.0 in omega (arith, e, own)
@@ -113,9 +116,13 @@ found-at bytes s f stands lt is =
 pub none-at : (bytes : List ℕ) (s : Standing) (id : ℕ) → All (λ f. f.id ≢ id) (files_in s) → find_file id (kept_at bytes s).files ≡ None
 none-at bytes s id all = ap (λ (l : List File). find_file id l) (kept-files bytes s) ∙ find-none bytes id (files_in s) all
 
+-- no row has an id that is not found
+pub row-has-not : (id : ℕ) (rows : List (Option PlacedFile)) → slot_of id rows ≡ None → All (OfRow (λ f. f.id ≢ id)) rows
+row-has-not id rows is = All-weaker (λ row. has_id id row ≡ false) (OfRow (λ f. f.id ≢ id)) (λ row h. has-not id row h) rows (position-none (has_id id) rows is)
+
 pub unknown-files : (s : Standing) (id : ℕ) → slot_of id s.rows ≡ None → All (λ f. f.id ≢ id) (files_in s)
 unknown-files s id is =
-    each-file (λ f. f.id ≢ id) s (All-weaker (λ row. has_id id row ≡ false) (OfRow (λ f. f.id ≢ id)) (λ row h. has-not id row h) s.rows (position-none (has_id id) s.rows is))
+    each-file (λ f. f.id ≢ id) s (row-has-not id s.rows is)
 
 -- a row that has an id
 pub record HasId (s : Standing) (id slot : ℕ) (was : PlacedFile) : Type 0 where
@@ -153,7 +160,7 @@ same-itself (x ∷ xs) = both (x == x) (same_bytes xs xs) (same-number x) (same-
 other-name : (one two : List ℕ) → same_bytes one two ≡ false → one ≢ two
 other-name one two h e = let same = ap (λ (n : List ℕ). same_bytes n two) e ∙ same-itself two in absurd (cc)
 
-name-of : (bytes : List ℕ) (f : PlacedFile) → (file_at bytes f).name ≡ f.name
+pub name-of : (bytes : List ℕ) (f : PlacedFile) → (file_at bytes f).name ≡ f.name
 unfolding file_at
 name-of bytes f = refl
 
