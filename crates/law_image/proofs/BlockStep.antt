@@ -88,20 +88,17 @@ unused-none (Some f) h = absurd (cc)
 
 -- in the row that a file gets no other file stands
 seat-free : (bytes : List ℕ) (held : HeldTables) (row : FileRow) (placed : Placed) (f : PlacedFile) → Stands bytes held.standing → IsPlaced held row placed → row_at held.standing placed.file.slot ≡ Some f → f.id ≡ row.id
-seat-free bytes held row placed f stands is at = by (slot_of row.id s.rows) refl
+seat-free bytes held row placed f stands is at = by (slot_of row.id held.standing.rows) refl
   where
-    s : Standing
-    s = held.standing
-
-    by : (o : Option ℕ) → slot_of row.id s.rows ≡ o → f.id ≡ row.id
+    by : (o : Option ℕ) → slot_of row.id held.standing.rows ≡ o → f.id ≡ row.id
     by None none =
-        let p = position-some is_unused s.rows placed.file.slot None (ap (placed_slot s.rows) (sym none) ∙ is.slot) in
-        let empty = unused-none (row_at s placed.file.slot) p.passes in
+        let p = position-some is_unused held.standing.rows placed.file.slot None (ap (placed_slot held.standing.rows) (sym none) ∙ is.slot) in
+        let empty = unused-none (row_at held.standing placed.file.slot) p.passes in
         absurd (cc)
     by (Some n) some =
-        let e : n ≡ placed.file.slot = let q : placed_slot s.rows (Some n) ≡ Some placed.file.slot = ap (placed_slot s.rows) (sym some) ∙ is.slot in cc in
-        let known = known-file bytes s row.id n stands some in
-        let At : ℕ → Type 0 = λ i. row_at s i ≡ Some known.0 in
+        let e : n ≡ placed.file.slot = let q : placed_slot held.standing.rows (Some n) ≡ Some placed.file.slot = ap (placed_slot held.standing.rows) (sym some) ∙ is.slot in cc in
+        let known = known-file bytes held.standing row.id n stands some in
+        let At : ℕ → Type 0 = λ i. row_at held.standing i ≡ Some known.0 in
         let here = subst At (known.1.here ∙ e) known.1.at in
         let same_file : f ≡ known.0 = cc in
         ap (λ (g : PlacedFile). g.id) same_file ∙ known.1.own

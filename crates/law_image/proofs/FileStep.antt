@@ -216,7 +216,7 @@ module _ (before : List ℕ) (held : HeldTables) (is_held : IsHeldOf before held
     -- ---- a file that is kept
 
     module _ (slot : ℕ) (some : slot_of row.id s.rows ≡ Some slot) where
-      was : PlacedFile
+      abbrev was : PlacedFile
       was = (known-file bytes s row.id slot stands some).0
 
       has : HasId s row.id slot was

@@ -28,29 +28,35 @@ pub record PassesAt {X : Type 0} (p : X → Bool) (xs : List X) (n : ℕ) (d : X
   pub within : n < length xs
   pub passes : p (get_or xs n d) ≡ true
 
-pub position-some : {X : Type 0} (p : X → Bool) (xs : List X) (n : ℕ) (d : X) → position p xs ≡ Some n → PassesAt p xs n d
-position-some p xs n d is = by (nat_lt (position_or_len p xs) (length xs)) refl is
-  where
-    by : (b : Bool) → nat_lt (position_or_len p xs) (length xs) ≡ b → (if b then Some (position_or_len p xs) else None) ≡ Some n → PassesAt p xs n d
-    by true test is =
-        let m = position_or_len p xs in
-        let e : m ≡ n = cc in
-        let lt : m < length xs = grind (arith, nat_tests) in
-        let Passes : ℕ → Type 0 = λ i. p (get_or xs i d) ≡ true in
-        record {
-          within = omega (arith, e, lt);
-          passes = subst Passes e (not-false (p (get_or xs m d)) (prefix_len_stops (λ x. not (p x)) xs d lt));
-        }
-    by false test is = absurd (cc)
+is-below : (m n : ℕ) → nat_lt m n ≡ true → m < n
+is-below m n test = grind (arith, nat_tests)
 
-pub position-none : {X : Type 0} (p : X → Bool) (xs : List X) → position p xs ≡ None → All (λ x. p x ≡ false) xs
-position-none p xs is = λ k d lt. by (nat_lt (position_or_len p xs) (length xs)) refl is k d lt
-  where
-    by : (b : Bool) → nat_lt (position_or_len p xs) (length xs) ≡ b → (if b then Some (position_or_len p xs) else None) ≡ None → (k : ℕ) (d : _) → k < length xs → p (get_or xs k d) ≡ false
-    by true test is k d lt = absurd (cc)
-    by false test is k d lt =
-        let le : length xs ≤ position_or_len p xs = grind (arith, nat_tests) in
-        not-true (p (get_or xs k d)) (prefix_len_passes (λ x. not (p x)) xs k d (omega (arith, lt, le)))
+is-above : (m n : ℕ) → nat_lt m n ≡ false → n ≤ m
+is-above m n test = grind (arith, nat_tests)
+
+module _ {X : Type 0} (p : X → Bool) (xs : List X) where
+  some-at : (b : Bool) (n : ℕ) (d : X) → nat_lt (position_or_len p xs) (length xs) ≡ b → (if b then Some (position_or_len p xs) else None) ≡ Some n → PassesAt p xs n d
+  some-at true n d test is =
+      let e : position_or_len p xs ≡ n = cc in
+      let lt = is-below (position_or_len p xs) (length xs) test in
+      let Passes : ℕ → Type 0 = λ i. p (get_or xs i d) ≡ true in
+      record {
+        within = omega (arith, e, lt);
+        passes = subst Passes e (not-false (p (get_or xs (position_or_len p xs) d)) (prefix_len_stops (λ x. not (p x)) xs d lt));
+      }
+  some-at false n d test is = absurd (cc)
+
+  pub position-some : (n : ℕ) (d : X) → position p xs ≡ Some n → PassesAt p xs n d
+  position-some n d is = some-at (nat_lt (position_or_len p xs) (length xs)) n d refl is
+
+  none-at-all : (b : Bool) → nat_lt (position_or_len p xs) (length xs) ≡ b → (if b then Some (position_or_len p xs) else None) ≡ None → All (λ x. p x ≡ false) xs
+  none-at-all true test is = absurd (cc)
+  none-at-all false test is = λ k d lt.
+      let le = is-above (position_or_len p xs) (length xs) test in
+      not-true (p (get_or xs k d)) (prefix_len_passes (λ x. not (p x)) xs k d (omega (arith, lt, le)))
+
+  pub position-none : position p xs ≡ None → All (λ x. p x ≡ false) xs
+  position-none is = none-at-all (nat_lt (position_or_len p xs) (length xs)) refl is
 
 -- ---- what holds of each file holds of each row
 

@@ -24,7 +24,7 @@ use Rattle.nq_model.specs.Change.{with_file}
 use Rattle.nq_model.specs.Kept.{File, Kept, blocks_in_all, blocks_of, resized, with_files}
 use Rattle.law_image.specs.Changing.{HasZeros}
 use Rattle.law_image.proofs.Free.{zeros-held}
-use Rattle.law_image.proofs.Seats.{IsNew}
+use Rattle.law_image.proofs.Seats.{IsNew, distinct-take}
 
 -- ---- how many blocks there are
 
@@ -49,7 +49,7 @@ sum-rows bytes (Some x ∷ rows) files =
     omega (arith, sum-rows bytes rows (put_file x files), sum-put bytes x files, length-append x.blocks (blocks_in rows))
 
 pub blocks-together : (bytes : List ℕ) (s : Standing) → blocks_in_all (kept_at bytes s).files ≡ length (blocks_in s.rows)
-blocks-together bytes s = ap blocks_in_all (kept-files bytes s) ∙ sum-rows bytes s.rows []
+blocks-together bytes s = omega (arith, ap blocks_in_all (kept-files bytes s), sum-rows bytes s.rows [])
 
 -- ---- the blocks of one row among all
 
@@ -76,14 +76,17 @@ of-row P s slot lt all =
 
 -- ---- bodies that are cut, or get zeros behind them
 
-take-padded : {X : Type 0} (z : X) (m n : ℕ) (xs : List X) → n ≤ m + length xs → take n (xs ++ replicate m z) ≡ take n xs ++ replicate (n - length xs) z
-take-padded z m zero [] le = refl
-take-padded z m (suc n) [] le = take-replicate (suc n) m z (omega arith)
-take-padded z m zero (x ∷ xs) le = let e : zero - suc (length xs) ≡ zero = omega arith in sym (ap (λ (k : ℕ). replicate k z) e)
-take-padded z m (suc n) (x ∷ xs) le =
-    let e : n - length xs ≡ suc n - suc (length xs) = omega arith in
-    ap (λ (l : List _). x ∷ l) (take-padded z m n xs (omega arith))
-    ∙ ap (λ (k : ℕ). x ∷ (take n xs ++ replicate k z)) e
+module _ {X : Type 0} (z : X) (m : ℕ) where
+  take-padded : (n : ℕ) (xs : List X) → n ≤ m + length xs → take n (xs ++ replicate m z) ≡ take n xs ++ replicate (n - length xs) z
+  take-padded zero [] le = refl
+  take-padded (suc n) [] le =
+      let e : suc n ≡ suc n - 0 = omega arith in
+      take-replicate (suc n) m z (omega (arith, le)) ∙ ap (λ (k : ℕ). replicate k z) e
+  take-padded zero (x ∷ xs) le = let e : 0 ≡ 0 - suc (length xs) = omega arith in ap (λ (k : ℕ). replicate k z) e
+  take-padded (suc n) (x ∷ xs) le =
+      let e : n - length xs ≡ suc n - suc (length xs) = omega arith in
+      ap (λ (l : List X). x ∷ l) (take-padded n xs (omega (arith, le)))
+      ∙ ap (λ (k : ℕ). x ∷ (take n xs ++ replicate k z)) e
 
 zeros-map : (bytes blocks : List ℕ) → All (HasZeros bytes) blocks → map (body_in bytes) blocks ≡ replicate (length blocks) zeros
 zeros-map bytes [] all = refl
@@ -115,14 +118,15 @@ module _ (bytes : List ℕ) (s : Standing) (stands : Stands bytes s) (file : Pla
   has-bodies =
       let body = body_in bytes in
       let were = map body known in
-      let had : List (List ℕ) → List (List ℕ) = λ l. resized n l in
+      let cut : List (List ℕ) → List (List ℕ) = λ l. resized n l in
+      let more : length fresh ≡ n - length were = let c = seated.count in omega (arith, c, length-map known body) in
       ap (map body) seated.blocks
       ∙ map-append body kept_blocks fresh
       ∙ ap (λ (l : List (List ℕ)). l ++ map body fresh) (sym (take-map body n known))
       ∙ ap (λ (l : List (List ℕ)). take n were ++ l) (zeros-map bytes fresh seated.zeros)
-      ∙ ap (λ (k : ℕ). take n were ++ replicate k zeros) (let c = seated.count in omega (arith, c, length-map known body))
+      ∙ ap (λ (k : ℕ). take n were ++ replicate k zeros) more
       ∙ sym (take-padded zeros n n were (omega arith))
-      ∙ ap (λ (l : List ℕ). had (map body l)) (sym seated.had)
+      ∙ ap (λ (l : List ℕ). cut (map body l)) (sym seated.had)
 
   -- what is known of the blocks that the row had
   pub record AreOwn : Type 0 where
@@ -143,14 +147,8 @@ module _ (bytes : List ℕ) (s : Standing) (stands : Stands bytes s) (file : Pla
     new-free : All (IsNoneOf (blocks_in (others file.slot s.rows))) fresh
     new-free = All-weaker (IsNew s) (IsNoneOf (blocks_in (others file.slot s.rows))) (λ b new. (of-row (λ other. other ≢ b) s file.slot within new.none).1) fresh seated.new
 
-    take-distinct : (k : ℕ) (xs : List ℕ) → AreDistinct xs → AreDistinct (take k xs)
-    take-distinct zero [] d = tt
-    take-distinct zero (x ∷ xs) d = tt
-    take-distinct (suc k) [] d = tt
-    take-distinct (suc k) (x ∷ xs) d = (All-take (λ other. other ≢ x) k xs d.0, take-distinct k xs d.1)
-
     blocks-distinct : AreDistinct file.blocks
-    blocks-distinct = subst AreDistinct (sym seated.blocks) (distinct-append kept_blocks fresh (take-distinct n known own.once) seated.distinct kept-apart)
+    blocks-distinct = subst AreDistinct (sym seated.blocks) (distinct-append kept_blocks fresh (distinct-take n known own.once) seated.distinct kept-apart)
 
     -- what holds of the blocks that stay and of the new ones holds of all
     pub each-block : (P : ℕ → Type 0) → All P known → All P fresh → All P file.blocks

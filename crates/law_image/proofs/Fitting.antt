@@ -17,7 +17,7 @@ use Rattle.nq_format.specs.Standing.{image_area}
 use Rattle.nq_image.specs.Heads.{front_checks, front_of}
 use Rattle.nq_image.specs.Layout.{block_place, piece, word_in}
 use Rattle.nq_image.specs.Standing.{IsFileBlock, PlacedFile, Standing, Stands, blocks_in, found_of, front_for, row_at, row_blocks}
-use Rattle.nq_image.specs.Writing.{row_bytes, table_of_blocks, zeros_of}
+use Rattle.nq_image.specs.Writing.{heads_bytes, host_bytes, row_bytes, table_of_blocks, zeros_of}
 use Rattle.nq_image.specs.declared.Front.{Front}
 use Rattle.nq_image.proofs.Allotting.{both-of}
 use Rattle.nq_image.proofs.FileRows.{length-row}
@@ -33,7 +33,7 @@ use Rattle.nq_plan.proofs.Sizes.{length-heads, length-host}
 use Rattle.nq_plan.specs.Finding.{blocks_of, file_in, has_id, row_of, slot_of}
 use Rattle.nq_plan.specs.Held.{HeldTables, IsHeldOf}
 use Rattle.nq_plan.specs.Placing.{IsPlaced, IsPlacedFor, free_blocks}
-use Rattle.nq_plan.specs.Ranges.{blocks_then, body_range, body_ranges, file_ranges, heads_ranges, host_ranges, placed_ranges, ranges_of, removal_ranges, removed_ranges, row_range, whole_ranges}
+use Rattle.nq_plan.specs.Ranges.{blocks_then, body_range, body_ranges, file_ranges, heads_ranges, host_ranges, placed_ranges, range, ranges_of, removal_ranges, removed_ranges, row_range, whole_ranges}
 use Rattle.nq_plan.specs.declared.Placed.{Placed}
 use Rattle.nq_redo.specs.Batch.{AreAllowed, IsFit, body_of, spelled}
 use Rattle.nq_redo.specs.Ranges.{Range}
@@ -68,17 +68,15 @@ all-allowed (range ∷ ranges) len more le all =
 
 -- ---- how much room ranges take
 
-weight : List Range → ℕ
+abbrev weight : List Range → ℕ
 weight [] = 0
 weight (range ∷ ranges) = 12 + length range.bytes + weight ranges
 
 weight-both : (xs ys : List Range) → weight (xs ++ ys) ≡ weight xs + weight ys
-unfolding weight
 weight-both [] ys = omega arith
 weight-both (x ∷ xs) ys = omega (arith, weight-both xs ys)
 
 length-spelled : (ranges : List Range) → length (spelled ranges) ≡ weight ranges
-unfolding weight
 length-spelled [] = refl
 length-spelled (range ∷ ranges) = omega (arith, length-append range.bytes (spelled ranges), length-spelled ranges)
 
@@ -103,11 +101,9 @@ both-parts len a b x y xs ys one two =
     }
 
 no-part : (len few much : ℕ) → IsPart len few much []
-unfolding weight
 no-part len few much = record { count = omega arith; room = omega arith; laid = All-nil (IsLaid len) }
 
 one-part : (len much : ℕ) (range : Range) → 12 + length range.bytes ≤ much → IsLaid len range → IsPart len 1 much (range ∷ [])
-unfolding weight
 one-part len much range le laid = record { count = omega arith; room = omega (arith, le); laid = All-cons (IsLaid len) range [] laid (All-nil (IsLaid len)) }
 
 module _ (bytes : List ℕ) (held : HeldTables) (is_held : IsHeldOf bytes held) where
@@ -131,13 +127,13 @@ module _ (bytes : List ℕ) (held : HeldTables) (is_held : IsHeldOf bytes held) 
   heads-part None = no-part (length bytes) 1 28
   heads-part (Some heads) =
       let n = length-heads heads in
-      one-part (length bytes) 28 _ (omega (arith, n)) (record { begins = omega (arith, long); front = omega arith; beside = inl (omega (arith, n)); ends = omega (arith, n) })
+      one-part (length bytes) 28 (range 8 (heads_bytes heads)) (omega (arith, n)) (record { begins = omega (arith, long); front = omega arith; beside = inl (omega (arith, n)); ends = omega (arith, n) })
 
   host-part : (change : Option HostChange) → IfSome change (λ h. h.host < 64) → IsPart (length bytes) 1 44 (host_ranges change)
   host-part None lt = no-part (length bytes) 1 44
   host-part (Some change) lt =
       let n = length-host change.row in
-      one-part (length bytes) 44 _ (omega (arith, n)) (record { begins = omega (arith, long, lt); front = omega arith; beside = inl (omega (arith, n, lt)); ends = omega (arith, n, lt) })
+      one-part (length bytes) 44 (range (64 + 32 * change.host) (host_bytes change.row)) (omega (arith, n)) (record { begins = omega (arith, long, lt); front = omega arith; beside = inl (omega (arith, n, lt)); ends = omega (arith, n, lt) })
 
   -- a part of the rows, of the ids, or a table
   row-part : (slot : ℕ) (part : List ℕ) → slot < 256 → length part ≡ 96 → IsLaid (length bytes) (record { place = 2112 + 96 * slot; bytes = part })
@@ -160,13 +156,11 @@ module _ (bytes : List ℕ) (held : HeldTables) (is_held : IsHeldOf bytes held) 
   IsRowRight row = IsName row.name × (row.blocks ≤ 1024) × (row.rev < 2 ^ 61)
 
   row-alone : (row : FileRow) (placed : Placed) → IsPlaced held row placed → IsRowRight row → IsPart (length bytes) 3 4232 (row_range placed.file.slot row ∷ [])
-  unfolding weight
   row-alone row placed is right =
       let n = length-row row.name row.blocks row.rev right.0 right.1 right.2 in
       record { count = omega arith; room = omega (arith, n); laid = All-cons (IsLaid (length bytes)) _ [] (row-part placed.file.slot (row_bytes row.name row.blocks row.rev) is.within n) (All-nil (IsLaid (length bytes))) }
 
   file-whole : (row : FileRow) (placed : Placed) → IsPlaced held row placed → IsRowRight row → IsPart (length bytes) 3 4232 (whole_ranges s.tables row placed.file)
-  unfolding weight
   file-whole row placed is right =
       let n = length-row row.name row.blocks row.rev right.0 right.1 right.2 in
       let i : length (to_be_bytes w32 row.id) ≡ 4 = refl in
@@ -245,7 +239,7 @@ module _ (bytes : List ℕ) (held : HeldTables) (is_held : IsHeldOf bytes held) 
       let own = All-head IsThere block blocks all in
       let whole = own.0 in
       let below = own.1 in
-      one-part (length bytes) 4108 _ (omega (arith, n)) (record { begins = omega (arith, whole); front = omega arith; beside = inr (omega arith); ends = omega (arith, n, below) })
+      one-part (length bytes) 4108 (range (block_place block) body) (omega (arith, n)) (record { begins = omega (arith, whole); front = omega arith; beside = inr (omega arith); ends = omega (arith, n, below) })
   slice-there (block ∷ blocks) (suc k) body all n = slice-there blocks k body (All-tail IsThere block blocks all) n
 
   body-part : (row : Option FileRow) (placed : Option Placed) (change : Option BlockChange) → IsPlacedFor held row placed → All (HasZeros bytes) (new_blocks placed) → IfSome change (λ b. IsBody b.body) → IsPart (length bytes) 1 4108 (body_ranges s placed change)
@@ -255,7 +249,6 @@ module _ (bytes : List ℕ) (held : HeldTables) (is_held : IsHeldOf bytes held) 
   -- ---- a file that goes
 
   gone-part : (slot : ℕ) → slot < 256 → IsPart (length bytes) 2 124 (removal_ranges s.tables (Some slot))
-  unfolding weight
   gone-part slot lt =
       let n = length-zeros 96 in
       let i : length (to_be_bytes w32 0) ≡ 4 = refl in

@@ -138,7 +138,6 @@ module _ (front own rest then_own : List ℕ) (marks : List Bool) where
     back : (k : ℕ) → IsGiven (marks_with none all_then) k → IsGiven (marks_with free then_own) k
     back k given =
         let M : List Bool = marks_with free then_own in
-        let Stays : (b : ℕ) → IsGiven marks b → IsNoneOf own b → IsGiven M b = λ b g no. with-keeps then_own free b (unmark-keeps own marks b g no) in
         let Below : ℕ → Type 0 = λ n. All (λ b. b < n) then_own in
         let own_below = all-front (λ b. b < length none) then_own rest (all-rest (λ b. b < length none) front (then_own ++ rest) below_then) in
         let own_given = all-given free then_own (subst Below (sym long-free) own_below) in

@@ -26,33 +26,29 @@ record IsRun (p : ℕ → Bool) (first n : ℕ) (xs : List ℕ) : Type 0 where
   distinct : AreDistinct xs
   each : All (λ x. (first ≤ x) × (x < first + n) × (p x ≡ true)) xs
 
+run-more : (p : ℕ → Bool) (n first : ℕ) (rest : List ℕ) (b : Bool) → p first ≡ b → IsRun p (first + 1) n rest → IsRun p first (suc n) (if b then first ∷ rest else rest)
+run-more p n first rest true is more =
+    let Here : ℕ → Type 0 = λ x. (first ≤ x) × (x < first + suc n) × (p x ≡ true) in
+    let There : ℕ → Type 0 = λ x. (first + 1 ≤ x) × (x < first + 1 + n) × (p x ≡ true) in
+    record {
+      distinct = (All-weaker There (λ x. x ≢ first) (λ x r. let le = r.0 in omega (arith, le)) rest more.each, more.distinct);
+      each = All-cons Here first rest (omega arith, omega arith, is) (All-weaker There Here (λ x r. let a = r.0 in let b = r.1 in (omega (arith, a), omega (arith, b), r.2)) rest more.each);
+    }
+run-more p n first rest false is more =
+    let Here : ℕ → Type 0 = λ x. (first ≤ x) × (x < first + suc n) × (p x ≡ true) in
+    let There : ℕ → Type 0 = λ x. (first + 1 ≤ x) × (x < first + 1 + n) × (p x ≡ true) in
+    record {
+      distinct = more.distinct;
+      each = All-weaker There Here (λ x r. let a = r.0 in let b = r.1 in (omega (arith, a), omega (arith, b), r.2)) rest more.each;
+    }
+
 run : (p : ℕ → Bool) (n first : ℕ) → IsRun p first n (filter p (numbers_from first n))
 unfolding numbers_from
 run p zero first = record { distinct = tt; each = All-nil (λ x. (first ≤ x) × (x < first + 0) × (p x ≡ true)) }
-run p (suc n) first = by (p first) refl (run p n (first + 1))
-  where
-    rest : List ℕ
-    rest = filter p (numbers_from (first + 1) n)
+run p (suc n) first = run-more p n first (filter p (numbers_from (first + 1) n)) (p first) refl (run p n (first + 1))
 
-    by : (b : Bool) → p first ≡ b → IsRun p (first + 1) n rest → IsRun p first (suc n) (if b then first ∷ rest else rest)
-    by true is more =
-        let Here : ℕ → Type 0 = λ x. (first ≤ x) × (x < first + suc n) × (p x ≡ true) in
-        let There : ℕ → Type 0 = λ x. (first + 1 ≤ x) × (x < first + 1 + n) × (p x ≡ true) in
-        record {
-          distinct = (All-weaker There (λ x. x ≢ first) (λ x r. let le = r.0 in omega (arith, le)) rest more.each, more.distinct);
-          each = All-cons Here first rest (omega arith, omega arith, is) (All-weaker There Here (λ x r. let a = r.0 in let b = r.1 in (omega (arith, a), omega (arith, b), r.2)) rest more.each);
-        }
-    by false is more =
-        let Here : ℕ → Type 0 = λ x. (first ≤ x) × (x < first + suc n) × (p x ≡ true) in
-        let There : ℕ → Type 0 = λ x. (first + 1 ≤ x) × (x < first + 1 + n) × (p x ≡ true) in
-        record {
-          distinct = more.distinct;
-          each = All-weaker There Here (λ x r. let a = r.0 in let b = r.1 in (omega (arith, a), omega (arith, b), r.2)) rest more.each;
-        }
-
-distinct-take : (n : ℕ) (xs : List ℕ) → AreDistinct xs → AreDistinct (take n xs)
-distinct-take zero [] d = tt
-distinct-take zero (x ∷ xs) d = tt
+pub distinct-take : (n : ℕ) (xs : List ℕ) → AreDistinct xs → AreDistinct (take n xs)
+distinct-take zero xs d = tt
 distinct-take (suc n) [] d = tt
 distinct-take (suc n) (x ∷ xs) d = (All-take (λ other. other ≢ x) n xs d.0, distinct-take n xs d.1)
 

@@ -33,6 +33,10 @@ pub applied-both : (xs ys : List Range) (bytes : List ℕ) → applied (xs ++ ys
 applied-both [] ys bytes = refl
 applied-both (x ∷ xs) ys bytes = applied-both xs ys (written x.place x.bytes bytes)
 
+zero-id : to_be_bytes w32 0 ≡ zeros_of 4
+unfolding zeros_of
+zero-id = refl
+
 module _ (bytes : List ℕ) (s : Standing) (stands : Stands bytes s) where
   -- a row, an id and a table
   pub file-ranges : (file : PlacedFile) → CanStand s file → applied (whole_ranges s.tables (row_for file) file) bytes ≡ with_file_written s file bytes
@@ -67,10 +71,6 @@ module _ (bytes : List ℕ) (s : Standing) (stands : Stands bytes s) where
       ap (λ (b : List ℕ). written (id_place s.tables slot) (to_be_bytes w32 0) b) (written-over (row_place slot) row bytes (omega (arith, lt, long)))
       ∙ written-over (id_place s.tables slot) (to_be_bytes w32 0) one (omega (arith, lt, ids, length_one))
       ∙ ap (λ (z : List ℕ). overwritten (id_place s.tables slot) z one) zero-id
-    where
-      zero-id : to_be_bytes w32 0 ≡ zeros_of 4
-      unfolding zeros_of
-      zero-id = refl
 
   -- zeros stay where the numbers and rows are written
   pub zeros-behind : (place : ℕ) (part blocks : List ℕ) → place + length part ≤ 40960 → All (HasZeros bytes) blocks → All (HasZeros (overwritten place part bytes)) blocks

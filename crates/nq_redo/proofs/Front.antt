@@ -45,23 +45,25 @@ module _ (start size bound : ℕ) where
       let tests = three-tests start size bound (not (are_zeros (take 7 (drop 1 bytes)))) (nat_lt 8 (word (drop 8 bytes))) (not (are_zeros (take 4 (drop 12 bytes)))) (start + 1) (start + 8) (start + 12) wrong wrong right in
       all-clear k lt (word (drop 8 bytes)) len (start + 16) (drop 16 bytes) tests.0
 
+-- a record that is written leaves them
+replay-stays : (area : Area) (disk after content : List ℕ) (k : ℕ) → k < 7 → k < area.place → (o : Option ℕ) → wrong_field area.place area.size area.bound (length disk) content ≡ o → content ≡ record_at area.place area.size disk
+    → replayed area.place area.size disk o ≡ Ok after → get_or after k 0 ≡ get_or disk k 0
+replay-stays area disk after content k lt before (Some wrong) test read replay = absurd (cc)
+replay-stays area disk after content k lt before None test read replay =
+    let ranges = ranges_of (record_at area.place area.size disk) in
+    let same : applied ranges (blanked area.place area.size disk) ≡ after = cc in
+    let Right : List ℕ → Type 0 = λ bytes. wrong_field area.place area.size area.bound (length disk) bytes ≡ None in
+    ap (λ (d : List ℕ). get_or d k 0) (sym same)
+    ∙ applied-outside ranges (blanked area.place area.size disk) k (record-clear area.place area.size area.bound k lt (length disk) (record_at area.place area.size disk) (subst Right read test))
+    ∙ blanked-outside area.place area.size area.bound disk k (inl before)
+
 -- an open changes none of the first seven bytes
 pub front-stays : (area : Area) (disk after : List ℕ) (k : ℕ) → k < 7 → k < area.place → found area disk ≡ Ok after → get_or after k 0 ≡ get_or disk k 0
 front-stays area disk after k lt before is = elim (cases_eq (get_or disk area.place 0) 1) [
-  | inl gate ↦ by (wrong_field area.place area.size area.bound (length disk) content) refl (sym (opened-open area.place area.size area.bound disk gate) ∙ is)
+  | inl gate ↦
+      let content = record_at area.place area.size disk in
+      replay-stays area disk after content k lt before (wrong_field area.place area.size area.bound (length disk) content) refl refl (sym (opened-open area.place area.size area.bound disk gate) ∙ is)
   | inr shut ↦
       let same : blanked area.place area.size disk ≡ after = let e = sym (opened-closed area.place area.size area.bound disk shut) ∙ is in cc in
       ap (λ (d : List ℕ). get_or d k 0) (sym same) ∙ blanked-outside area.place area.size area.bound disk k (inl before)
 ]
-  where
-    content : List ℕ
-    content = record_at area.place area.size disk
-
-    by : (o : Option ℕ) → wrong_field area.place area.size area.bound (length disk) content ≡ o → replayed area.place area.size disk o ≡ Ok after → get_or after k 0 ≡ get_or disk k 0
-    by (Some wrong) test replay = absurd (cc)
-    by None test replay =
-        let ranges = ranges_of content in
-        let same : applied ranges (blanked area.place area.size disk) ≡ after = cc in
-        ap (λ (d : List ℕ). get_or d k 0) (sym same)
-        ∙ applied-outside ranges (blanked area.place area.size disk) k (record-clear area.place area.size area.bound k lt (length disk) content test)
-        ∙ blanked-outside area.place area.size area.bound disk k (inl before)
