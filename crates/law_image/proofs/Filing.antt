@@ -23,7 +23,7 @@ use Rattle.nq_image.proofs.Retaining.{kept-files, new-kept, same-kept}
 use Rattle.nq_model.specs.Change.{with_file}
 use Rattle.nq_model.specs.Kept.{File, Kept, blocks_in_all, blocks_of, resized, with_files}
 use Rattle.law_image.specs.Changing.{HasZeros}
-use Rattle.law_image.proofs.Free.{zeros-held}
+use Rattle.law_image.proofs.Zeroing.{zeros-held}
 use Rattle.law_image.proofs.Seats.{IsNew, distinct-take}
 
 -- ---- how many blocks there are

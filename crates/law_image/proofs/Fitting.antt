@@ -41,7 +41,7 @@ use Rattle.nq_redo.specs.Record.{is_misplaced}
 use Rattle.law_image.specs.Changing.{CanBeWritten, HasZeros, new_blocks}
 use Rattle.law_image.proofs.Files.{PassesAt, position-some}
 use Rattle.law_image.proofs.Filing.{of-row}
-use Rattle.law_image.proofs.Free.{zeros-held}
+use Rattle.law_image.proofs.Zeroing.{zeros-held}
 use Rattle.law_image.proofs.Seats.{IsNew, free-are-new, new-blocks-are, once-of}
 
 -- ---- a range that lies where the record's ranges may lie
