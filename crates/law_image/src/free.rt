@@ -21,7 +21,9 @@ pub fn new_blocks_are_free()
 pub fn free_blocks_may_be_any()
     ensures written { (bytes : List ℕ) (s : Standing) (block : ℕ) (part : List ℕ) → Stands bytes s → IsFree s block → length part ≡ 4096
         → Agree s bytes (written (block_place block) part bytes) }
-    ensures torn { (s : Standing) (block : ℕ) (old new : List ℕ) → Stands old s → IsFree s block → Torn (block_place block) 4096 old new → Agree s old new }
-    ensures zeroed { (bytes : List ℕ) (s : Standing) (blocks : List ℕ) → Stands bytes s → All (IsFree s) blocks → Agree s bytes (zeroed blocks bytes) }
+    ensures torn { (s : Standing) (block : ℕ) (old new : List ℕ) → Stands old s → IsFree s block
+        → Torn (block_place block) 4096 old new → Agree s old new }
+    ensures zeroed { (bytes : List ℕ) (s : Standing) (blocks : List ℕ) → Stands bytes s → All (IsFree s) blocks
+        → Agree s bytes (zeroed blocks bytes) }
     ensures zeros { (bytes blocks : List ℕ) → All (HasZeros (zeroed blocks bytes)) blocks }
 {}
