@@ -6,7 +6,7 @@ ghost use Rattle.nq_disk.specs.Calling.{Counts, IsAllThatIsLeft};
 ghost use Rattle.nq_redo.specs.Ranges.{applied, Settling};
 ghost use Rattle.nq_redo.specs.Record.{ranges_in, ranges_of};
 ghost use Rattle.nq_redo.specs.Saying.{Each, Only};
-ghost use Rattle.nq_redo.specs.Whole.{IsArea, IsClosed, IsOpen, OpensAsOne, Settled, found, record_of, staged};
+ghost use Rattle.nq_redo.specs.Whole.{IsArea, IsClosed, IsOpen, OpensAs, OpensAsOne, Settled, found, record_of, staged};
 
 use crate::area::Area;
 use crate::steps::{put_ranges, write_synced};
@@ -35,7 +35,7 @@ pub(crate) fn settle<D: Disk>(
     ensures settled { OnOk result (ForSome (D.told disk.old) (λ old. Only old (D.may_leave disk.old) → IsOpen area old → ranges_in count bytes.now ≡ ranges_of (record_of area old) → Settled area (found area old) (D.told disk.new) (D.may_leave disk.new))) }
     ensures cause { Counts result (D.faults disk.old) (D.faults disk.new) }
     ensures follows { D.follows disk.old disk.new }
-    ensures leaves { ForSome (D.told disk.old) (λ old. Only old (D.may_leave disk.old) → IsOpen area old → ranges_in count bytes.now ≡ ranges_of (record_of area old) → Each (D.leaves disk.old disk.new) (λ image. found area image ≡ found area old)) }
+    ensures leaves { ForSome (D.told disk.old) (λ old. Only old (D.may_leave disk.old) → IsOpen area old → ranges_in count bytes.now ≡ ranges_of (record_of area old) → Each (D.leaves disk.old disk.new) (OpensAs area old)) }
 {
     put_synced(disk, count, bytes)?;
     write_synced(disk, area.place, &[0])
@@ -48,7 +48,7 @@ pub(crate) fn stage<D: Disk>(disk: &mut D, area: Area, body: &[u8]) -> Result<()
     ensures settles { OnOk result (IsAllThatIsLeft (D.told disk.new) (D.may_leave disk.new)) }
     ensures cause { Counts result (D.faults disk.old) (D.faults disk.new) }
     ensures follows { D.follows disk.old disk.new }
-    ensures leaves { ForSome (D.told disk.old) (λ old. length body.now + 1 ≤ area.size → Each (D.may_leave disk.old) (IsClosed area) → Each (D.leaves disk.old disk.new) (λ image. OpensAsOne area (D.may_leave disk.old) image ⊎ (found area image ≡ found area (staged area body.now old)))) }
+    ensures leaves { ForSome (D.told disk.old) (λ old. length body.now + 1 ≤ area.size → Each (D.may_leave disk.old) (IsClosed area) → Each (D.leaves disk.old disk.new) (λ image. OpensAsOne area (D.may_leave disk.old) image ⊎ OpensAs area (staged area body.now old) image)) }
 {
     write_synced(disk, area.place + 1, body)?;
     write_synced(disk, area.place, &[1])
@@ -66,7 +66,7 @@ pub(crate) fn change<D: Disk>(
     ensures settled { OnOk result (ForSome (D.told disk.old) (λ old. IsOpen area (staged area body.now old) → ranges_in count bytes.now ≡ ranges_of (record_of area (staged area body.now old)) → Settled area (found area (staged area body.now old)) (D.told disk.new) (D.may_leave disk.new))) }
     ensures cause { Counts result (D.faults disk.old) (D.faults disk.new) }
     ensures follows { D.follows disk.old disk.new }
-    ensures leaves { ForSome (D.told disk.old) (λ old. length body.now + 1 ≤ area.size → Each (D.may_leave disk.old) (IsClosed area) → IsOpen area (staged area body.now old) → ranges_in count bytes.now ≡ ranges_of (record_of area (staged area body.now old)) → Each (D.leaves disk.old disk.new) (λ image. OpensAsOne area (D.may_leave disk.old) image ⊎ (found area image ≡ found area (staged area body.now old)))) }
+    ensures leaves { ForSome (D.told disk.old) (λ old. length body.now + 1 ≤ area.size → Each (D.may_leave disk.old) (IsClosed area) → IsOpen area (staged area body.now old) → ranges_in count bytes.now ≡ ranges_of (record_of area (staged area body.now old)) → Each (D.leaves disk.old disk.new) (λ image. OpensAsOne area (D.may_leave disk.old) image ⊎ OpensAs area (staged area body.now old) image)) }
 {
     stage(disk, area, body)?;
     settle(disk, area, count, bytes)

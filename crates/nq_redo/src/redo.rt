@@ -6,7 +6,7 @@ ghost use Rattle.nq_disk.specs.Calling.{Counts};
 ghost use Rattle.nq_redo.specs.Batch.{IsFit};
 ghost use Rattle.nq_redo.specs.Opens.{CountsOpen, Opens, disk_in};
 ghost use Rattle.nq_redo.specs.Saying.{Each};
-ghost use Rattle.nq_redo.specs.Whole.{IsArea, IsClosed, OpensAsOne, Settled, after, found};
+ghost use Rattle.nq_redo.specs.Whole.{IsArea, IsClosed, OpensAfter, OpensAsOne, Settled, after, found};
 
 use crate::area::Area;
 use crate::batch::Batch;
@@ -75,7 +75,7 @@ impl<D: Disk> Redo<D> {
         ensures same { self.new.area ≡ self.old.area }
         ensures cause { Counts result (D.faults self.old.disk) (D.faults self.new.disk) }
         ensures follows { D.follows self.old.disk self.new.disk }
-        ensures whole { ForSome (D.told self.old.disk) (λ old. Each (D.may_leave self.old.disk) (IsClosed self.old.area) → IsFit self.old.area (length old) batch.now → Each (D.leaves self.old.disk self.new.disk) (λ image. OpensAsOne self.old.area (D.may_leave self.old.disk) image ⊎ (found self.old.area image ≡ after self.old.area batch.now old))) }
+        ensures whole { ForSome (D.told self.old.disk) (λ old. Each (D.may_leave self.old.disk) (IsClosed self.old.area) → IsFit self.old.area (length old) batch.now → Each (D.leaves self.old.disk self.new.disk) (λ image. OpensAsOne self.old.area (D.may_leave self.old.disk) image ⊎ OpensAfter self.old.area batch.now old image)) }
     {
         change(
             &mut self.disk,

@@ -6,7 +6,7 @@ ghost use Rattle.nq_disk.specs.Calling.{Counts, IsAllThatIsLeft, LeavesNoMore};
 ghost use Rattle.nq_redo.specs.declared.replay.OpenFault.TheVariants.{Failed};
 ghost use Rattle.nq_redo.specs.Opens.{CountsFault, OpensOn};
 ghost use Rattle.nq_redo.specs.Saying.{Each, Only};
-ghost use Rattle.nq_redo.specs.Whole.{IsArea, IsClosed, OpensAsOne, found, record_of};
+ghost use Rattle.nq_redo.specs.Whole.{IsArea, IsClosed, OpensAs, OpensAsOne, record_of};
 
 use crate::area::Area;
 use crate::change::settle;
@@ -57,7 +57,7 @@ fn replay<D: Disk>(disk: &mut D, area: Area, len: u64, content: &[u8]) -> Result
     ensures quiet { slice_index content.now 0 ≢ 1 → D.told disk.new ≡ D.told disk.old }
     ensures cause { CountsFault result (D.faults disk.old) (D.faults disk.new) }
     ensures follows { D.follows disk.old disk.new }
-    ensures leaves { ForSome (D.told disk.old) (λ old. Only old (D.may_leave disk.old) → area.place + area.size ≤ length old → len ≡ length old → content.now ≡ record_of area old → Each (D.leaves disk.old disk.new) (λ image. found area image ≡ found area old)) }
+    ensures leaves { ForSome (D.told disk.old) (λ old. Only old (D.may_leave disk.old) → area.place + area.size ≤ length old → len ≡ length old → content.now ≡ record_of area old → Each (D.leaves disk.old disk.new) (OpensAs area old)) }
 {
     if content[0] != 1 {
         return Ok(());

@@ -2,7 +2,7 @@ use Rattle.std.proofs.Common.{◌≡◌, ℕ, List, [], ◌∷◌, inr, subst}
 use Rattle.nq_disk.specs.Bytes.{Torn}
 use Rattle.nq_redo.specs.Ranges.{applied}
 use Rattle.nq_redo.specs.Record.{ranges_in}
-use Rattle.nq_redo.specs.Whole.{found}
+use Rattle.nq_redo.specs.Whole.{OpensAs}
 use Rattle.nq_redo.proofs.Changing.{when-closed, while-closing, while-written}
 use Rattle.nq_redo.proofs.Going.{on-ok, then-ok, then-writes, through}
 use Rattle.nq_redo.proofs.change.settle.Goals as goal
@@ -26,7 +26,7 @@ returns-clause-leaves g c = λ old told only open_now same image left.
     let told_then = c.in_ok-put_synced.ensures.written old told in
     let so = c.put_synced.ensures.leaves old told only in
     let end = so (applied rs old) (g.met.D.Disk.leaves_ends c.args.disk.now c.put_synced.new.disk (applied rs old) c.put_synced.ensures.follows (inr (g.met.D.Disk.told_may_stay c.put_synced.new.disk (applied rs old) told_then))) in
-    through (λ (i : List ℕ). found c.args.area i ≡ found c.args.area old) _ _ image
+    through (OpensAs c.args.area old) _ _ image
     (g.met.D.Disk.parts c.args.disk.now c.put_synced.new.disk c.write_synced.new.disk image c.put_synced.ensures.follows c.write_synced.ensures.follows left)
     (λ l. while-written c.args.area c.requires rs old open_now same image (so image l))
     (λ l.
