@@ -1,0 +1,104 @@
+//! The parts of a scene.
+
+ghost use Rattle.std.specs.Prelude.{◌≡◌, ◌+◌, ℕ, Some, IfOk, length, vec_len};
+ghost use Rattle.nq_command.specs.Commands.{command_of};
+ghost use Rattle.nq_command.specs.declared.Command.{Command};
+ghost use Rattle.nq_keeper.specs.StoredKeeper.{empty_kept, told_of};
+
+use anyhow::{Context, Result};
+use nq_base::{Change, Heads, Host, Party};
+use nq_keeper::{KeepFault, Keeper, ListKeeper};
+use nq_link::MemLink;
+use nq_run::{Command, Fate, HostileFate, NoMemory, SteadyFate, Words};
+use std::alloc::Global;
+
+/// The reply to request 1: the server attached the host.
+const ATTACHED: [u8; 32] = [
+    0, 0, 0, 1, 0, 0, 0, 1, 0, 0, 0, 0, 0, 0, 0, 0, 0, 0, 0, 0, 0, 0, 0, 0, 0, 0, 0, 1, 0, 0, 0, 0,
+];
+
+/// The numbers of the calls that fail: the first, or none.
+pub(crate) fn failing(alloc: Global, first: bool) -> Result<Vec<u32>, NoMemory> {
+    let mut numbers = Vec::new(alloc);
+    if first {
+        numbers.push(0)?;
+    }
+    Ok(numbers)
+}
+
+/// A text whose line feeds are told by `;`, with the blank that stands before it left out.
+pub(crate) fn text_of(alloc: Global, told: &str) -> Result<Vec<u8>, NoMemory> {
+    let mut text = Vec::new(alloc);
+    for byte in told.bytes().skip(1) {
+        text.push(if byte == b';' { b'\n' } else { byte })?;
+    }
+    Ok(text)
+}
+
+/// Two of the four fates.
+pub(crate) fn fates(alloc: Global) -> Result<Vec<Box<dyn Fate>>, NoMemory> {
+    let mut fates: Vec<Box<dyn Fate>> = Vec::new(alloc);
+    fates.push(Box::new(alloc, SteadyFate::new())?)?;
+    fates.push(Box::new(alloc, HostileFate::new())?)?;
+    Ok(fates)
+}
+
+/// Keeps in an empty keeper that the last boot that there can be was made.
+fn keep_last_boot(keeper: &mut ListKeeper) -> Result<(), KeepFault>
+    requires { told_of keeper.old.kept ≡ empty_kept }
+{
+    keeper.commit(Change {
+        file: None,
+        block: None,
+        host: None,
+        heads: Some(Heads {
+            boot: 0x7fff_ffff,
+            opened: 1,
+            longest: 60,
+            next: 1,
+        }),
+        removed: None,
+    })
+}
+
+/// The keeper of a scene.
+pub(crate) fn keeper_of(alloc: Global, scene: &str) -> Result<ListKeeper> {
+    let failing = failing(alloc, scene.ends_with("unkept"))?;
+    let mut keeper = ListKeeper::new(alloc, failing)?;
+    if scene.starts_with("spent") {
+        keep_last_boot(&mut keeper).ok().context("nothing is kept")?;
+    }
+    Ok(keeper)
+}
+
+/// The link of a party in a scene.
+pub(crate) fn link_of(alloc: Global, scene: &str, me: Party) -> Result<MemLink, NoMemory> {
+    let failing = failing(alloc, scene.ends_with("unsent"))?;
+    let mut link = MemLink::new(alloc, me, 8, 8000, failing)?;
+    if scene.starts_with("attached") {
+        link.bring(alloc, Party::Server, &ATTACHED)?;
+    }
+    Ok(link)
+}
+
+/// The links of a loop, where the words say one: the server's, and then that of each host.
+pub(crate) fn links_of(alloc: Global, scene: &str, words: &Words) -> Result<Vec<MemLink>, NoMemory>
+    ensures { IfOk result (λ links. (hosts turns : ℕ) → command_of words.now ≡ Some (Command.Loop hosts turns) → vec_len links ≡ hosts + 1) }
+{
+    match words.command() {
+        Some(Command::Loop { hosts, .. }) => links_among(alloc, scene, hosts),
+        _ => Ok(Vec::new(alloc)),
+    }
+}
+
+/// The links of the server and of so many hosts.
+fn links_among(alloc: Global, scene: &str, hosts: u32) -> Result<Vec<MemLink>, NoMemory>
+    ensures { IfOk result (λ links. vec_len links ≡ hosts + 1) }
+{
+    let mut links = Vec::new(alloc);
+    links.push(link_of(alloc, scene, Party::Server)?)?;
+    for host in 0..hosts {
+        links.push(link_of(alloc, scene, Party::Client(Host(host)))?)?;
+    }
+    Ok(links)
+}

@@ -1,0 +1,57 @@
+//! What words do in a scene.
+
+use crate::parts::{failing, fates, keeper_of, link_of, links_of, text_of};
+use crate::top::status_of;
+use anyhow::Result;
+use nq_base::{Host, Party, Ticks};
+use nq_clock::MemClock;
+use nq_io::{MemSink, MemSource};
+use nq_run::Words;
+use std::alloc::Global;
+
+/// The most bytes that a story prints.
+const ROOM: usize = 4096;
+
+/// Words that stand behind one another, with a blank between two.
+fn words_of(alloc: Global, said: &str) -> Result<Words> {
+    let mut words = Words::new(alloc)?;
+    for word in said.split(' ') {
+        words.push(word)?;
+    }
+    Ok(words)
+}
+
+/// The input of a scene.
+fn source_of(alloc: Global, scene: &str, input: &str) -> Result<MemSource> {
+    let failing = failing(alloc, scene.ends_with("unread"))?;
+    Ok(MemSource::new(text_of(alloc, input)?, failing))
+}
+
+/// The sink of a scene.
+fn sink_of(alloc: Global, scene: &str) -> Result<MemSink> {
+    let failing = failing(alloc, scene.ends_with("unput"))?;
+    Ok(MemSink::new(alloc, ROOM, failing)?)
+}
+
+/// Runs what words say in a scene; the status, and what was printed.
+pub(crate) fn play(alloc: Global, scene: &str, said: &str, input: &str) -> Result<(u8, MemSink)> {
+    let words = words_of(alloc, said)?;
+    let mut source = source_of(alloc, scene, input)?;
+    let mut out = sink_of(alloc, scene)?;
+    let keeper = keeper_of(alloc, scene)?;
+    let mut link = link_of(alloc, scene, Party::Client(Host(0)))?;
+    let mut links = links_of(alloc, scene, &words)?;
+    let mut clock = MemClock::new(vec![in alloc; Ticks(0), Ticks(1)]?);
+    let status = status_of(
+        alloc,
+        &words,
+        &mut source,
+        &mut out,
+        keeper,
+        &mut link,
+        links.as_mut_slice(),
+        &mut clock,
+        fates(alloc)?,
+    );
+    Ok((status, out))
+}

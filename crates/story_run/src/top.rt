@@ -1,0 +1,29 @@
+//! The top call, over anything.
+
+ghost use Rattle.std.specs.Prelude.{◌≡◌, ◌+◌, ℕ, Some, length};
+ghost use Rattle.nq_command.specs.Commands.{command_of};
+ghost use Rattle.nq_command.specs.declared.Command.{Command};
+
+use nq_clock::Clock;
+use nq_io::{Sink, Source};
+use nq_keeper::Keeper;
+use nq_link::Link;
+use nq_run::{Fate, Words, run};
+use std::alloc::Global;
+
+/// Runs what the words say; the status. What `run` promises stays within: a story knows none of it, and so proves nothing of it either.
+pub(crate) fn status_of<S: Source, K: Sink, P: Keeper + Drop, L: Link, C: Clock>(
+    alloc: Global,
+    words: &Words,
+    input: &mut S,
+    out: &mut K,
+    keeper: P,
+    link: &mut L,
+    links: &mut [L],
+    clock: &mut C,
+    fates: Vec<Box<dyn Fate>>,
+) -> u8
+    requires links { (hosts turns : ℕ) → command_of words.now ≡ Some (Command.Loop hosts turns) → length links.old ≡ hosts + 1 }
+{
+    run(alloc, words, input, out, keeper, link, links, clock, fates)
+}
