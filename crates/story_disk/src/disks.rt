@@ -1,6 +1,6 @@
 //! Disks in memory and in a file, as a user meets them.
 
-use nq_disk::{DiskFault, Disk, FileDisk, MemDisk, Room};
+use nq_disk::{Disk, DiskFault, FileDisk, MemDisk, Room};
 use std::fs;
 use std::test::Fail;
 
