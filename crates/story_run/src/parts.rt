@@ -9,7 +9,7 @@ use anyhow::{Context, Result};
 use nq_base::{Change, Heads, Host, Party};
 use nq_keeper::{KeepFault, Keeper, ListKeeper};
 use nq_link::MemLink;
-use nq_run::{Command, Fate, HostileFate, NoMemory, SteadyFate, Words};
+use nq_run::{Command, NoMemory, Words};
 use std::alloc::Global;
 
 /// The reply to request 1: the server attached the host.
@@ -33,14 +33,6 @@ pub(crate) fn text_of(alloc: Global, told: &str) -> Result<Vec<u8>, NoMemory> {
         text.push(if byte == b';' { b'\n' } else { byte })?;
     }
     Ok(text)
-}
-
-/// Two of the four fates.
-pub(crate) fn fates(alloc: Global) -> Result<Vec<Box<dyn Fate>>, NoMemory> {
-    let mut fates: Vec<Box<dyn Fate>> = Vec::new(alloc);
-    fates.push(Box::new(alloc, SteadyFate::new())?)?;
-    fates.push(Box::new(alloc, HostileFate::new())?)?;
-    Ok(fates)
 }
 
 /// Keeps in an empty keeper that the last boot that there can be was made.

@@ -1,6 +1,6 @@
 //! What words do in a scene.
 
-use crate::parts::{failing, fates, keeper_of, link_of, links_of, text_of};
+use crate::parts::{failing, keeper_of, link_of, links_of, text_of};
 use crate::top::status_of;
 use anyhow::Result;
 use nq_base::{Host, Party, Ticks};
@@ -51,7 +51,6 @@ pub(crate) fn play(alloc: Global, scene: &str, said: &str, input: &str) -> Resul
         &mut link,
         links.as_mut_slice(),
         &mut clock,
-        fates(alloc)?,
-    );
+    )?;
     Ok((status, out))
 }

@@ -8,10 +8,10 @@ use nq_clock::Clock;
 use nq_io::{Sink, Source};
 use nq_keeper::Keeper;
 use nq_link::Link;
-use nq_run::{Fate, Words, run};
+use nq_run::{Fate, HostileFate, NoMemory, SteadyFate, Words, run};
 use std::alloc::Global;
 
-/// Runs what the words say; the status. What `run` promises stays within: a story knows none of it, and so proves nothing of it either.
+/// Runs what the words say, with two of the four fates; the status. What `run` promises stays within: a story knows none of it, and so proves nothing of it either.
 pub(crate) fn status_of<S: Source, K: Sink, P: Keeper + Drop, L: Link, C: Clock>(
     alloc: Global,
     words: &Words,
@@ -21,9 +21,11 @@ pub(crate) fn status_of<S: Source, K: Sink, P: Keeper + Drop, L: Link, C: Clock>
     link: &mut L,
     links: &mut [L],
     clock: &mut C,
-    fates: Vec<Box<dyn Fate>>,
-) -> u8
+) -> Result<u8, NoMemory>
     requires links { (hosts turns : ℕ) → command_of words.now ≡ Some (Command.Loop hosts turns) → length links.old ≡ hosts + 1 }
 {
-    run(alloc, words, input, out, keeper, link, links, clock, fates)
+    let mut fates: Vec<Box<dyn Fate>> = Vec::new(alloc);
+    fates.push(Box::new(alloc, SteadyFate::new())?)?;
+    fates.push(Box::new(alloc, HostileFate::new())?)?;
+    Ok(run(alloc, words, input, out, keeper, link, links, clock, fates))
 }
