@@ -1,10 +1,14 @@
 -- What several calls of a disk leave.
-use Rattle.std.specs.Prelude.{◌≡◌, ℕ, List, Option, Some}
+use Rattle.std.specs.Prelude.{◌≡◌, ◌≤◌, ℕ, List, Option, Some, None, length}
 use Rattle.std.specs.Option.{ForSome}
 
 -- something is told still, where something was told
 abbrev pub TellsOn : (told tells : Option (List ℕ)) → Type 0
 TellsOn told tells = ForSome told (λ disk. (now : List ℕ) × (tells ≡ Some now))
+
+-- nothing is told still, where nothing was told
+abbrev pub StaysSilent : (told tells : Option (List ℕ)) → Type 0
+StaysSilent told tells = told ≡ None → tells ≡ None
 
 -- a stop leaves these bytes alone
 abbrev pub Only : List ℕ → (List ℕ → Type 0) → Type 0
@@ -13,3 +17,7 @@ Only disk may_leave = (image : List ℕ) → may_leave image → image ≡ disk
 -- each stop leaves bytes that have a property
 abbrev pub Each : (List ℕ → Type 0) → (List ℕ → Type 0) → Type 0
 Each leaves holds = (image : List ℕ) → leaves image → holds image
+
+-- a stop leaves no fewer bytes than some stop before might have left
+abbrev pub LeavesNoFewer : (before leaves : List ℕ → Type 0) → Type 0
+LeavesNoFewer before leaves = (image : List ℕ) → leaves image → (old : List ℕ) × before old × (length old ≤ length image)

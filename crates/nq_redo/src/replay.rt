@@ -5,7 +5,7 @@ ghost use Rattle.std.specs.Option.{ForSome};
 ghost use Rattle.nq_disk.specs.Calling.{Counts, IsAllThatIsLeft, LeavesNoMore};
 ghost use Rattle.nq_redo.specs.declared.replay.OpenFault.TheVariants.{Failed};
 ghost use Rattle.nq_redo.specs.Opens.{CountsFault, OpensOn};
-ghost use Rattle.nq_redo.specs.Saying.{Each, Only};
+ghost use Rattle.nq_redo.specs.Saying.{Each, LeavesNoFewer, Only, StaysSilent};
 ghost use Rattle.nq_redo.specs.Whole.{IsArea, IsClosed, OpensAsOne, found, record_of};
 
 use crate::area::Area;
@@ -58,6 +58,8 @@ fn replay<D: Disk>(disk: &mut D, area: Area, len: u64, content: &[u8]) -> Result
     ensures cause { CountsFault result (D.faults disk.old) (D.faults disk.new) }
     ensures follows { D.follows disk.old disk.new }
     ensures leaves { ForSome (D.told disk.old) (λ old. Only old (D.may_leave disk.old) → area.place + area.size ≤ length old → len ≡ length old → content.now ≡ record_of area old → Each (D.leaves disk.old disk.new) (λ image. found area image ≡ found area old)) }
+    ensures long { LeavesNoFewer (D.may_leave disk.old) (D.leaves disk.old disk.new) }
+    ensures silent { StaysSilent (D.told disk.old) (D.told disk.new) }
 {
     if content[0] != 1 {
         return Ok(());
@@ -79,6 +81,8 @@ fn open_with<D: Disk>(disk: &mut D, area: Area, content: &mut [u8]) -> Result<()
     ensures cause { CountsFault result (D.faults disk.old) (D.faults disk.new) }
     ensures follows { D.follows disk.old disk.new }
     ensures leaves { ForSome (D.told disk.old) (λ old. area.place + area.size ≤ length old → Each (D.leaves disk.old disk.new) (OpensAsOne area (D.may_leave disk.old))) }
+    ensures long { LeavesNoFewer (D.may_leave disk.old) (D.leaves disk.old disk.new) }
+    ensures silent { StaysSilent (D.told disk.old) (D.told disk.new) }
 {
     let len = read_record(disk, area, content)?;
     replay(disk, area, len, content)
@@ -92,6 +96,8 @@ pub(crate) fn open_on<D: Disk>(alloc: Global, disk: &mut D, area: Area) -> Resul
     ensures cause { CountsFault result (D.faults disk.old) (D.faults disk.new) }
     ensures follows { D.follows disk.old disk.new }
     ensures leaves { ForSome (D.told disk.old) (λ old. area.place + area.size ≤ length old → Each (D.leaves disk.old disk.new) (OpensAsOne area (D.may_leave disk.old))) }
+    ensures long { LeavesNoFewer (D.may_leave disk.old) (D.leaves disk.old disk.new) }
+    ensures silent { StaysSilent (D.told disk.old) (D.told disk.new) }
 {
     match vec![in alloc; 0; area.size as usize] {
         Ok(mut content) => open_with(disk, area, &mut content),

@@ -1,4 +1,4 @@
-use Rattle.std.proofs.Common.{◌≡◌, ℕ, List, Option, Some, None, Result, Ok, Err, ◌∙◌}
+use Rattle.std.proofs.Common.{◌≡◌, ℕ, List, Option, Some, None, Result, Ok, Err, ap, ◌∙◌}
 use Rattle.nq_disk.specs.BytesLaws.{torn-written}
 use Rattle.nq_disk.specs.Bytes.{written}
 use Rattle.nq_disk.specs.Calling.{Writes, told_after}
@@ -13,3 +13,6 @@ writes-then (Err fault) place bytes (Some disk) tells is = (written place bytes 
 pub returns-clause-writes : goal.returns-clause-writes
 returns-clause-writes g c =
     writes-then c.sync.result c.args.place c.args.bytes.now (g.D.Disk.told c.args.disk.now) (g.D.Disk.told c.sync.new.self) (c.sync.ensures.same ∙ c.in_ok-write_at.ensures.writes)
+
+pub returns-clause-silent : goal.returns-clause-silent
+returns-clause-silent g c = λ none. c.sync.ensures.same ∙ c.in_ok-write_at.ensures.writes ∙ ap (told_after c.args.place c.args.bytes.now) none

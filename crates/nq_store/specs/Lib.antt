@@ -1,0 +1,4 @@
+pub mod Storing
+pub mod Telling
+pub mod Opening
+pub mod Laws

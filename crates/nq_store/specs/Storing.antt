@@ -1,0 +1,77 @@
+-- A store as contracts see it.
+use Rattle.std.specs.Prelude.{◌≡◌, ◌≤◌, ◌^◌, ℕ, ◌+◌, ◌-◌, Bool, true, false, List, Option, Some, None, Result, Ok, Err, count_by, is_some, length, min, sum_by}
+use Rattle.nq_base.specs.declared.Space.{Space}
+use Rattle.nq_io.specs.Faults.{Rose, count_up}
+use Rattle.nq_image.specs.Standing.{Standing, row_blocks}
+use Rattle.nq_keeper.specs.declared.KeepFault.{KeepFault}
+use Rattle.nq_keeper.specs.declared.KeepFault.TheVariants.{Failed, Memory}
+use Rattle.nq_format.specs.Standing.{stands_as}
+use Rattle.nq_model.specs.Kept.{Kept}
+use Rattle.nq_plan.specs.Held.{HeldTables}
+
+-- the disk, what is in memory of its image, whether a change failed, and how many calls were refused since
+pub record StoredStore (D : Type 0) : Type 0 where
+  pub disk : D
+  pub tables : HeldTables
+  pub ended : Bool
+  pub refused : ℕ
+
+-- the faults of the disk and the calls that were refused, a count that stands still at the end of its type
+abbrev pub counted : (faults refused : ℕ) → ℕ
+counted faults refused = min (faults + refused) (2 ^ 64 - 1)
+
+abbrev pub faults_of : {D : Type 0} → (D → ℕ) → StoredStore D → ℕ
+faults_of faults store = counted (faults store.disk) store.refused
+
+-- what a store tells of what it keeps: nothing yet
+abbrev pub content_of : {D : Type 0} → StoredStore D → Option Kept
+content_of store = None
+
+-- the second store is the first one after some calls
+pub record GoesOn {D : Type 0} (follows : D → D → Type 0) (first last : StoredStore D) : Type 0 where
+  pub disk : follows first.disk last.disk
+  pub refused : first.refused ≤ last.refused
+
+-- the kept state of what bytes stand for; None for what nobody can open
+abbrev pub kept_of : Option (Result Kept ℕ) → Option Kept
+kept_of None = None
+kept_of (Some (Err place)) = None
+kept_of (Some (Ok kept)) = Some kept
+
+-- what a stop leaves, as it is found again
+abbrev pub LeavesKept : (List ℕ → Type 0) → Option Kept → Type 0
+LeavesKept leaves found = (bytes : List ℕ) × leaves bytes × (found ≡ kept_of (stands_as bytes))
+
+-- a store as it is opened: no change failed, and no call was refused
+pub record IsFresh {D : Type 0} (store : StoredStore D) : Type 0 where
+  pub goes_on : store.ended ≡ false
+  pub none : store.refused ≡ 0
+
+-- a call is refused once a change failed, and the refusals are counted
+abbrev pub asked : (ended : Bool) → Result Unit KeepFault
+asked true = Err Failed
+asked false = Ok tt
+
+abbrev pub refusals : (ended : Bool) → ℕ → ℕ
+refusals true refused = count_up refused
+refusals false refused = refused
+
+abbrev pub answered : {X : Type 0} → (ended : Bool) → X → Result X KeepFault
+answered true answer = Err Failed
+answered false answer = Ok answer
+
+abbrev pub after_asking : {D : Type 0} → StoredStore D → StoredStore D
+after_asking store = record store { refused = refusals store.ended store.refused }
+
+-- how many files and blocks there are
+abbrev pub space_in : Standing → Space
+space_in s = record {
+  files = count_by (λ row. is_some row) s.rows;
+  blocks = sum_by (λ row. length (row_blocks row)) s.rows;
+}
+
+-- the count of faults of a disk rises where a call failed, and stays else
+abbrev pub CountsKeep : {X : Type 0} → Result X KeepFault → (before now : ℕ) → Type 0
+CountsKeep (Ok answer) before now = now ≡ before
+CountsKeep (Err Memory) before now = now ≡ before
+CountsKeep (Err Failed) before now = Rose before now

@@ -1,0 +1,12 @@
+//! What a server keeps, on a disk.
+#![tactic(auto)]
+
+mod fault;
+mod loading;
+mod migrating;
+mod opening;
+mod store;
+
+pub use fault::OpenFault;
+pub use nq_format::format;
+pub use store::Store;
