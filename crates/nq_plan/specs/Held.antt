@@ -1,6 +1,7 @@
 -- What a store has in memory of its image: all but the redo record and the bodies.
 use Rattle.std.specs.Prelude.{◌≡◌, ◌<◌, ◌≤◌, ℕ, Bool, List, length, slice_index}
-use Rattle.nq_image.specs.Standing.{Standing}
+use Rattle.nq_image.specs.Image.{no_marks}
+use Rattle.nq_image.specs.Standing.{Standing, Stands, blocks_in, marks_with}
 
 -- where everything stands, and for each physical block whether a file has it
 pub record HeldTables : Type 0 where
@@ -14,6 +15,11 @@ pub record AreSized (standing : Standing) (marks : List Bool) : Type 0 where
   pub hosts : length standing.hosts ≡ 64
   pub rows : length standing.rows ≡ 256
   pub all_marks : length marks ≡ 16641
+
+-- what is in memory of an image stands there, and the marks are those of the blocks that files have
+pub record IsHeldOf (bytes : List ℕ) (held : HeldTables) : Type 0 where
+  pub stands : Stands bytes held.standing
+  pub marks : held.marks ≡ marks_with (no_marks 16641) (blocks_in held.standing.rows)
 
 -- blocks that a table can have: at most 1024, each one that there is
 pub record AreBlocks (blocks : List ℕ) : Type 0 where

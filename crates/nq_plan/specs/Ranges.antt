@@ -36,12 +36,14 @@ id_range tables slot id = range (block_place (tables + 256) + 4 * slot) (to_be_b
 abbrev pub table_range : (tables slot : ℕ) → (blocks : List ℕ) → Range
 table_range tables slot blocks = range (block_place (tables + slot)) (table_of_blocks blocks)
 
--- a new file has all three; a kept one gets its row, and where its length becomes another the table
+-- all three
+abbrev pub whole_ranges : (tables : ℕ) → FileRow → PlacedFile → List Range
+whole_ranges tables row file = row_range file.slot row ∷ id_range tables file.slot row.id ∷ table_range tables file.slot file.blocks ∷ []
+
+-- a new file has all three, and so has a kept one whose length becomes another; else it is its row alone that changes
 abbrev pub file_ranges : (tables : ℕ) → (known : Option FileRow) → FileRow → PlacedFile → List Range
-file_ranges tables None row file =
-    row_range file.slot row ∷ id_range tables file.slot row.id ∷ table_range tables file.slot file.blocks ∷ []
-file_ranges tables (Some known) row file =
-    row_range file.slot row ∷ (if known.blocks == row.blocks then [] else table_range tables file.slot file.blocks ∷ [])
+file_ranges tables None row file = whole_ranges tables row file
+file_ranges tables (Some known) row file = if known.blocks == row.blocks then row_range file.slot row ∷ [] else whole_ranges tables row file
 
 abbrev pub placed_ranges : Standing → Option FileRow → Option Placed → List Range
 placed_ranges s (Some row) (Some placed) = file_ranges s.tables (row_of s row.id) row placed.file
@@ -70,11 +72,10 @@ abbrev pub removed_ranges : Standing → Option ℕ → List Range
 removed_ranges s None = []
 removed_ranges s (Some id) = removal_ranges s.tables (slot_of id s.rows)
 
--- all ranges of a change whose file comes to stand somewhere
+-- all ranges of a change whose file comes to stand somewhere, in this order: the numbers, a host, a file, a block, a file that goes
 abbrev pub ranges_of : Standing → Change → Option Placed → List Range
 ranges_of s change placed =
-    placed_ranges s change.file placed
-    ++ body_ranges s placed change.block
-    ++ host_ranges change.host
-    ++ heads_ranges change.heads
-    ++ removed_ranges s change.removed
+    heads_ranges change.heads
+    ++ (host_ranges change.host
+    ++ (placed_ranges s change.file placed
+    ++ (body_ranges s placed change.block ++ removed_ranges s change.removed)))

@@ -133,10 +133,10 @@ impl Tables {
     {
         let placed = self.place_if(alloc, &change.file)?;
         let mut batch = Batch::new(alloc)?;
+        add_heads(&mut batch, alloc, &change.heads)?;
+        add_host(&mut batch, alloc, &change.host)?;
         self.add_placed(&mut batch, alloc, &change.file, &placed)?;
         self.add_block(&mut batch, alloc, &change.block, &placed)?;
-        add_host(&mut batch, alloc, &change.host)?;
-        add_heads(&mut batch, alloc, &change.heads)?;
         self.add_removed(&mut batch, change.removed)?;
         Ok(Plan { batch, placed })
     }

@@ -2,7 +2,7 @@
 
 ghost use Rattle.std.specs.Prelude.{◌≡◌, ◌<◌, ◌≤◌, ◌+◌, [], ◌∷◌, ◌++◌, OnOk, length};
 ghost use Rattle.std.specs.Option.{ForSome};
-ghost use Rattle.nq_plan.specs.Ranges.{body_range, file_ranges as ranges_of_file, heads_ranges, host_ranges, id_range, removal_ranges, row_range, table_range};
+ghost use Rattle.nq_plan.specs.Ranges.{body_range, file_ranges as ranges_of_file, heads_ranges, host_ranges, id_range, removal_ranges, row_range, table_range, whole_ranges};
 
 use crate::bodies::spell_block;
 use crate::stored_file::StoredFile;
@@ -107,29 +107,8 @@ fn add_table(
     batch.add(block_place(tables + file.slot()), &bytes)
 }
 
-/// Adds a kept file: its row, and where its length becomes another its table.
-fn add_kept(
-    batch: &mut Batch,
-    alloc: Global,
-    tables: u32,
-    known: &FileRow,
-    row: &FileRow,
-    file: &StoredFile,
-) -> Result<(), NoMemory>
-    requires few { length batch.old + 2 ≤ 8 }
-    requires near { tables ≤ 16384 }
-    requires within { file.now.slot < 256 }
-    ensures { OnOk result (batch.new ≡ batch.old ++ ranges_of_file tables (Some known.now) row.now file.now) }
-{
-    add_row(batch, alloc, file.slot(), row)?;
-    if known.blocks == row.blocks {
-        return Ok(());
-    }
-    add_table(batch, alloc, tables, file)
-}
-
-/// Adds a new file: its row, its id, and its table.
-fn add_new(
+/// Adds a file whole: its row, its id, and its table.
+fn add_whole(
     batch: &mut Batch,
     alloc: Global,
     tables: u32,
@@ -139,11 +118,32 @@ fn add_new(
     requires few { length batch.old + 3 ≤ 8 }
     requires near { tables ≤ 16384 }
     requires within { file.now.slot < 256 }
-    ensures { OnOk result (batch.new ≡ batch.old ++ ranges_of_file tables None row.now file.now) }
+    ensures { OnOk result (batch.new ≡ batch.old ++ whole_ranges tables row.now file.now) }
 {
     add_row(batch, alloc, file.slot(), row)?;
     add_id(batch, tables, file.slot(), row.id.0)?;
     add_table(batch, alloc, tables, file)
+}
+
+/// Adds a kept file: its row, and where its length becomes another all of it.
+fn add_kept(
+    batch: &mut Batch,
+    alloc: Global,
+    tables: u32,
+    known: &FileRow,
+    row: &FileRow,
+    file: &StoredFile,
+) -> Result<(), NoMemory>
+    requires few { length batch.old + 3 ≤ 8 }
+    requires near { tables ≤ 16384 }
+    requires within { file.now.slot < 256 }
+    ensures { OnOk result (batch.new ≡ batch.old ++ ranges_of_file tables (Some known.now) row.now file.now) }
+{
+    if known.blocks == row.blocks {
+        add_row(batch, alloc, file.slot(), row)
+    } else {
+        add_whole(batch, alloc, tables, row, file)
+    }
 }
 
 /// Adds a file, which is kept with a row or is new.
@@ -163,7 +163,7 @@ pub(crate) fn add_file(
 {
     match known {
         Some(known) => add_kept(batch, alloc, tables, known, row, file),
-        None => add_new(batch, alloc, tables, row, file),
+        None => add_whole(batch, alloc, tables, row, file),
     }
 }
 

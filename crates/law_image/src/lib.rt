@@ -1,0 +1,11 @@
+//! What the ranges of a change make of an image: they join what `nq_plan` writes with what `nq_image` says of each part. Each law
+//! stands on a function that returns nothing, whose clause is the law and whose proof stands in `proofs/`.
+#![tactic(auto)]
+
+mod changes;
+mod free;
+mod settled;
+
+pub use changes::a_change_is_its_ranges;
+pub use free::{free_blocks_may_be_any, new_blocks_are_free};
+pub use settled::{a_closed_image_opens_as_it_stands, a_settled_change_is_whole};
