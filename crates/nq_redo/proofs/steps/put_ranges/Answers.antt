@@ -41,9 +41,9 @@ loop-turn-preserved g c =
           (λ i may. so.leaves old told only i (g.met.D.Disk.leaves_ends c.args.disk.now c.loop-turn.disk i so.follows (inr may)))
           c.write_at.ensures.leaves image);
       long = fewer-through (g.D.Disk.may_leave c.args.disk.now) (g.D.Disk.may_leave c.loop-turn.disk) (g.D.Disk.leaves c.args.disk.now c.loop-turn.disk) (g.D.Disk.leaves c.loop-turn.disk c.write_at.new.self) (g.D.Disk.leaves c.args.disk.now c.write_at.new.self)
-    (λ image left. g.met.D.Disk.parts c.args.disk.now c.loop-turn.disk c.write_at.new.self image so.follows c.write_at.ensures.follows left)
-    (λ image may. g.met.D.Disk.leaves_ends c.args.disk.now c.loop-turn.disk image so.follows (inr may))
-    so.long (fewer-torn _ _ _ _ c.write_at.ensures.leaves);
+          (λ image left. g.met.D.Disk.parts c.args.disk.now c.loop-turn.disk c.write_at.new.self image so.follows c.write_at.ensures.follows left)
+          (λ image may. g.met.D.Disk.leaves_ends c.args.disk.now c.loop-turn.disk image so.follows (inr may))
+          so.long (fewer-torn _ _ _ _ c.write_at.ensures.leaves);
       silent = λ none. c.in_ok-write_at-in-Some.ensures.writes ∙ ap (told_after range.place range.bytes) (so.silent none);
       told = λ old told.
           let t = so.told old told in (
