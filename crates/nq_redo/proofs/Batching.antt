@@ -127,3 +127,8 @@ module _ (area : Area) (is_area : IsArea area) (rs : List Range) (spell : AreSpe
 
     pub as-after : found area (staged area body old) ≡ after area rs old
     as-after = subst (λ (b : List ℕ). found area (staged area b old) ≡ after area rs old) (sym is) opened-staged
+
+    pub as-long : (image : List ℕ) → length (staged area body old) ≤ length image → length old ≤ length image
+    as-long image le =
+        let same = subst (λ (b : List ℕ). length (staged area b old) ≡ length old) (sym is) (length-staged area is_area (body_of rs) fit.short old closed) in
+        omega arith

@@ -5,7 +5,7 @@ use Rattle.nq_disk.specs.BytesLaws.{length-written, torn-written, written-outsid
 use Rattle.nq_disk.specs.Calling.{IsAllThatIsLeft}
 use Rattle.nq_redo.specs.Ranges.{Range, applied, Settling}
 use Rattle.nq_redo.specs.Record.{ranges_of}
-use Rattle.nq_redo.specs.Whole.{IsArea, IsClosed, IsOpen, Settled, found, record_of, staged}
+use Rattle.nq_redo.specs.Whole.{IsArea, IsClosed, IsOpen, OpensAs, Settled, found, record_of, staged}
 use Rattle.nq_redo.specs.declared.area.Area.{Area}
 use Rattle.nq_redo.proofs.Opening.{body-torn, gate-torn, opened-closed}
 use Rattle.nq_redo.proofs.Settled.{opened-closing, opened-settled, ranges}
@@ -26,12 +26,16 @@ module _ (area : Area) (is_area : IsArea area) where
     end-ranges : Settling rs old (applied rs old) → Settling (ranges area is_area old) old (applied (ranges area is_area old) old)
     end-ranges so = subst (λ (l : List Range). Settling l old (applied l old)) is-ranges so
 
-    pub while-written : (image : List ℕ) → Settling rs old image → found area image ≡ found area old
-    while-written image so = opened-settled area is_area old image open_now (as-ranges image so)
+    pub while-written : (image : List ℕ) → Settling rs old image → OpensAs area old image
+    while-written image so = (so.no_shorter, opened-settled area is_area old image open_now (as-ranges image so))
 
-    pub while-closing : (image : List ℕ) → Settling rs old (applied rs old) → Torn area.place 1 (applied rs old) image → found area image ≡ found area old
+    pub while-closing : (image : List ℕ) → Settling rs old (applied rs old) → Torn area.place 1 (applied rs old) image → OpensAs area old image
     while-closing image so torn =
-        opened-closing area is_area old image open_now (end-ranges so) (subst (λ (l : List Range). Torn area.place 1 (applied l old) image) is-ranges torn)
+        let a = so.no_shorter in
+        let b = torn.no_shorter in (
+          omega arith,
+          opened-closing area is_area old image open_now (end-ranges so) (subst (λ (l : List Range). Torn area.place 1 (applied l old) image) is-ranges torn),
+        )
 
     long-then : Settling rs old (applied rs old) → area.place + area.size ≤ length (applied rs old)
     long-then so = let l = open_now.long in let m = so.no_shorter in omega arith
@@ -53,14 +57,14 @@ module _ (area : Area) (is_area : IsArea area) where
       now = written area.place (0 ∷ []) (applied rs old);
       tells = tells;
       closed = now-closed so;
-      opens = while-closing (written area.place (0 ∷ []) (applied rs old)) so (torn-written area.place (0 ∷ []) (applied rs old));
+      opens = (while-closing (written area.place (0 ∷ []) (applied rs old)) so (torn-written area.place (0 ∷ []) (applied rs old))).1;
       alone = alone (written area.place (0 ∷ []) (applied rs old)) tells;
     }
 
   -- a record, while it is written behind a closed gate, and while the gate is opened
   module _ (body : List ℕ) (fits : length body + 1 ≤ area.size) where
-    pub while-staging : (old image : List ℕ) → IsClosed area old → Torn (area.place + 1) (length body) old image → found area image ≡ found area old
-    while-staging old image closed torn = body-torn area.place area.size area.bound (length body) old image fits closed.long closed.shut torn
+    pub while-staging : (old image : List ℕ) → IsClosed area old → Torn (area.place + 1) (length body) old image → OpensAs area old image
+    while-staging old image closed torn = (torn.no_shorter, body-torn area.place area.size area.bound (length body) old image fits closed.long closed.shut torn)
 
     abbrev behind : List ℕ → List ℕ
     behind old = written (area.place + 1) body old
@@ -72,16 +76,22 @@ module _ (area : Area) (is_area : IsArea area) where
         let len = length-written (area.place + 1) body old (inl (omega arith)) in
         record { long = omega arith; shut = λ gate. closed.shut (sym (written-outside (area.place + 1) body old area.place (inl (omega arith))) ∙ gate) }
 
-    pub while-opening : (old image : List ℕ) → IsClosed area old → Torn area.place 1 (behind old) image → (found area image ≡ found area old) ⊎ (found area image ≡ found area (staged area body old))
+    behind-longer : (old : List ℕ) → IsClosed area old → length old ≤ length (behind old)
+    behind-longer old closed = (while-staging old (behind old) closed (torn-written (area.place + 1) body old)).0
+
+    pub while-opening : (old image : List ℕ) → IsClosed area old → Torn area.place 1 (behind old) image → OpensAs area old image ⊎ OpensAs area (staged area body old) image
     while-opening old image closed torn =
         let then_closed = behind-closed old closed in
         let room = is_area.room in
         elim (gate-torn area.place area.size area.bound (behind old) image (omega arith) then_closed.long torn) [
-          | inl is ↦ inr (ap (found area) is)
+          | inl is ↦ inr (omega (arith, ap length is), ap (found area) is)
           | inr shut ↦ inl (
-              opened-closed area.place area.size area.bound image shut.0
-              ∙ ap Ok shut.1
-              ∙ sym (opened-closed area.place area.size area.bound (behind old) then_closed.shut)
-              ∙ while-staging old (behind old) closed (torn-written (area.place + 1) body old)
-              )
+            let a = behind-longer old closed in
+                let b = torn.no_shorter in
+                omega arith,
+            opened-closed area.place area.size area.bound image shut.0
+                ∙ ap Ok shut.1
+                ∙ sym (opened-closed area.place area.size area.bound (behind old) then_closed.shut)
+                ∙ (while-staging old (behind old) closed (torn-written (area.place + 1) body old)).1,
+          )
         ]

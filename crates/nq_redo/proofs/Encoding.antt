@@ -1,5 +1,5 @@
 -- What a record says is what was spelled there.
-use Rattle.std.proofs.Common.{◌≡◌, ℕ, ◌+◌, ◌<◌, ◌≤◌, ◌^◌, Bool, false, List, [], ◌∷◌, ◌++◌, length, take, drop, Option, Some, None, refl, ap, ◌∙◌, arith, length-append, append_assoc}
+use Rattle.std.proofs.Common.{◌≡◌, ℕ, ◌+◌, ◌<◌, ◌≤◌, ◌^◌, max, Bool, false, List, [], ◌∷◌, ◌++◌, length, take, drop, Option, Some, None, refl, ap, ◌∙◌, arith, length-append, append_assoc}
 use Rattle.std.specs.Prelude.{if◌then◌else◌, nat_lt}
 use Rattle.std.specs.Int.{w32, from_be_bytes, to_be_bytes}
 use Rattle.std.proofs.lemmas.Bool.Decides.{nat_tests}
@@ -35,16 +35,17 @@ ranges-spelled (range ∷ ranges) rest fits =
     ap (λ (f : Option Front). then_ranges f (ranges_in (length ranges))) (front-first range ranges rest fits)
     ∙ ap (λ (l : List Range). range ∷ l) (ranges-spelled ranges rest fits.2)
 
-module _ (area : Area) (len : ℕ) where
+module _ (area : Area) where
   not-misplaced : (b : Bool) (at : ℕ) (more : Option ℕ) → b ≡ false → more ≡ None → (if b then Some at else more) ≡ None
   not-misplaced b at more is none = ap (λ (c : Bool). if c then Some at else more) is ∙ none
 
-  pub right-spelled : (ranges : List Range) (at : ℕ) (rest : List ℕ) → AreSpellable ranges → AreAllowed area len ranges → wrong_range area.place area.size area.bound len (length ranges) at (spelled ranges ++ rest) ≡ None
-  right-spelled [] at rest fits allowed = refl
-  right-spelled (range ∷ ranges) at rest fits allowed =
-      ap (λ (f : Option Front). then_wrong area.place area.size area.bound len at (spelled (range ∷ ranges) ++ rest) f (wrong_range area.place area.size area.bound len (length ranges))) (front-first range ranges rest fits)
-      ∙ not-misplaced (is_misplaced area.place area.size area.bound len range.place (length range.bytes)) at (wrong_range area.place area.size area.bound len (length ranges) (at + 12 + length range.bytes) (spelled ranges ++ rest)) allowed.0
-      (right-spelled ranges (at + 12 + length range.bytes) rest fits.2 allowed.1)
+  pub right-spelled : (ranges : List Range) (len at : ℕ) (rest : List ℕ) → AreSpellable ranges → AreAllowed area len ranges → wrong_range area.place area.size area.bound (length ranges) len at (spelled ranges ++ rest) ≡ None
+  right-spelled [] len at rest fits allowed = refl
+  right-spelled (range ∷ ranges) len at rest fits allowed =
+      let more = max len (range.place + length range.bytes) in
+      ap (λ (f : Option Front). then_wrong area.place area.size area.bound len at (spelled (range ∷ ranges) ++ rest) f (wrong_range area.place area.size area.bound (length ranges))) (front-first range ranges rest fits)
+      ∙ not-misplaced (is_misplaced area.place area.size area.bound len range.place (length range.bytes)) at (wrong_range area.place area.size area.bound (length ranges) more (at + 12 + length range.bytes) (spelled ranges ++ rest)) allowed.0
+      (right-spelled ranges more (at + 12 + length range.bytes) rest fits.2 allowed.1)
 
 -- the number of ranges is read back
 pub word-spelled : (n : ℕ) (rest : List ℕ) → n < 2 ^ 32 → word (to_be_bytes w32 n ++ rest) ≡ n
@@ -69,5 +70,5 @@ module _ (ranges : List Range) (rest : List ℕ) (few : length ranges ≤ 8) (fi
   pub right-body : (area : Area) (len : ℕ) → AreAllowed area len ranges → wrong_field area.place area.size area.bound len (1 ∷ (body_of ranges ++ rest)) ≡ None
   unfolding wrong_field
   right-body area len allowed =
-      wrong-after (word (drop 8 (1 ∷ (body_of ranges ++ rest)))) (wrong_range area.place area.size area.bound len (word (drop 8 (1 ∷ (body_of ranges ++ rest)))) (area.place + 16) (spelled ranges ++ rest)) (area.place + 8) count-spelled
-      (ap (λ (n : ℕ). wrong_range area.place area.size area.bound len n (area.place + 16) (spelled ranges ++ rest)) count-spelled ∙ right-spelled area len ranges (area.place + 16) rest fits allowed)
+      wrong-after (word (drop 8 (1 ∷ (body_of ranges ++ rest)))) (wrong_range area.place area.size area.bound (word (drop 8 (1 ∷ (body_of ranges ++ rest)))) len (area.place + 16) (spelled ranges ++ rest)) (area.place + 8) count-spelled
+      (ap (λ (n : ℕ). wrong_range area.place area.size area.bound n len (area.place + 16) (spelled ranges ++ rest)) count-spelled ∙ right-spelled area ranges len (area.place + 16) rest fits allowed)

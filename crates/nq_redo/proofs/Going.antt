@@ -1,12 +1,12 @@
 -- Steps of a change, one call after another.
-use Rattle.std.proofs.Common.{◌≡◌, ◌⊎◌, arith, ℕ, zero, suc, List, [], ◌∷◌, length, Option, Some, None, refl, sym, ap, subst, ◌∙◌, inl, inr}
+use Rattle.std.proofs.Common.{◌≡◌, ◌⊎◌, ℕ, zero, suc, List, [], ◌∷◌, length, Option, Some, None, refl, sym, ap, subst, ◌∙◌, inl, inr}
 use Rattle.std.specs.Prelude.{Result, Ok, Err, OnOk}
 use Rattle.nq_disk.specs.Calling.{LeavesTorn, Tears, Writes, told_after}
 use Rattle.nq_disk.specs.declared.DiskFault.{DiskFault}
 use Rattle.nq_disk.specs.Bytes.{written}
 use Rattle.nq_redo.specs.Ranges.{Range, Among, Settling, applied}
 use Rattle.nq_redo.specs.Record.{Front, front_range, ranges_in, then_ranges}
-use Rattle.nq_redo.specs.Saying.{Each, LeavesNoFewer}
+use Rattle.nq_redo.specs.Saying.{Each}
 use Rattle.nq_redo.proofs.Settling.{settling-torn}
 
 -- what was so through the first part of the time, and is so through the second, is so through both
@@ -52,24 +52,3 @@ then-ok result P is known = subst (λ (r : Result Unit DiskFault). OnOk r P) is 
 pub then-writes : (result : Result Unit DiskFault) (place : ℕ) (bytes : List ℕ) (told tells : Option (List ℕ)) (old : List ℕ) → result ≡ Ok tt → Writes result place bytes told tells → told ≡ Some old → tells ≡ Some (written place bytes old)
 then-writes result place bytes told tells old is writes tell =
     subst (λ (r : Result Unit DiskFault). Writes r place bytes told tells) is writes ∙ ap (told_after place bytes) tell
-
--- no fewer bytes are left through one call, and through two
-pub fewer-none : (before leaves : List ℕ → Type 0) → ((image : List ℕ) → leaves image → before image) → LeavesNoFewer before leaves
-fewer-none before leaves more image left = (image, more image left, omega arith)
-
-pub fewer-torn : (place n : ℕ) (before leaves : List ℕ → Type 0) → LeavesTorn place n before leaves → LeavesNoFewer before leaves
-fewer-torn place n before leaves torn image left = let from = torn image left in (from.0, from.1, from.2.no_shorter)
-
-pub fewer-through : (before between first second leaves : List ℕ → Type 0) → ((image : List ℕ) → leaves image → first image ⊎ second image) → ((image : List ℕ) → between image → first image) → LeavesNoFewer before first → LeavesNoFewer between second → LeavesNoFewer before leaves
-fewer-through before between first second leaves parts ends one two image left = elim (parts image left) [
-  | inl f ↦ one image f
-  | inr s ↦
-      let from = two image s in
-      let start = one from.0 (ends from.0 from.1) in
-      (start.0, start.1, let a = start.2 in let b = from.2 in omega arith)
-]
-
--- nor is anything told after a write, where nothing was told before it
-pub silent-writes : (result : Result Unit DiskFault) (place : ℕ) (bytes : List ℕ) (told tells : Option (List ℕ)) → told ≡ None → Writes result place bytes told tells → tells ≡ None
-silent-writes (Ok done) place bytes told tells none writes = writes ∙ ap (told_after place bytes) none
-silent-writes (Err fault) place bytes told tells none writes = subst (λ (o : Option (List ℕ)). Tears place (length bytes) o tells) none writes

@@ -3,9 +3,13 @@ use Rattle.std.proofs.Common.{◌≡◌, ◌≢◌, ℕ, ◌+◌, ◌≤◌, Lis
 use Rattle.std.proofs.lemmas.List.{get_or-take, get_or-drop}
 use Rattle.nq_redo.specs.Record.{ranges_in, ranges_of, replayed, word, wrong_field}
 use Rattle.nq_redo.specs.Saying.{Only}
-use Rattle.nq_redo.specs.Whole.{IsArea, IsOpen, Settled, found, record_of}
+use Rattle.nq_redo.specs.Whole.{IsArea, IsOpen, OpensAs, Settled, found, record_of}
 use Rattle.nq_redo.specs.declared.area.Area.{Area}
 use Rattle.nq_redo.proofs.Opening.{opened-open}
+
+-- a disk opens as itself
+pub opens-itself : (area : Area) (old image : List ℕ) → image ≡ old → OpensAs area old image
+opens-itself area old image is = (omega (arith, ap length is), ap (found area) is)
 
 module _ (area : Area) (is_area : IsArea area) (old record_read : List ℕ) (long : area.place + area.size ≤ length old) (is : record_read ≡ record_of area old) where
   pub gate-read : get_or record_read 0 0 ≡ get_or old area.place 0

@@ -34,7 +34,7 @@ module _ (area : Area) (is_area : IsArea area) where
 
   pub placed-in : (disk : List ℕ) → IsOpen area disk → ArePlaced (length disk) area.place area.size (ranges disk)
   unfolding ranges
-  placed-in disk open_now = (right-record area.place area.size area.bound (length disk) (length disk) (omega arith) (record_at area.place area.size disk) open_now.right).1
+  placed-in disk open_now = (right-record area.place area.size area.bound (length disk) (length disk) (record_at area.place area.size disk) (omega arith) open_now.right).1
 
   -- it opens with its ranges written
   pub opened-right : (disk : List ℕ) → IsOpen area disk → found area disk ≡ Ok (applied (ranges disk) (blanked area.place area.size disk))
@@ -59,7 +59,7 @@ module _ (area : Area) (is_area : IsArea area) where
     settled-open = record {
       long = long-settled;
       gate = in-record area.place (omega arith) (omega (arith, some)) ∙ open_now.gate;
-      right = ap (wrong_field area.place area.size area.bound (length new)) same-record ∙ (right-record area.place area.size area.bound (length old) (length new) so.no_shorter (record_at area.place area.size old) open_now.right).0;
+      right = ap (wrong_field area.place area.size area.bound (length new)) same-record ∙ (right-record area.place area.size area.bound (length old) (length new) (record_at area.place area.size old) so.no_shorter open_now.right).0;
     }
 
     same-ranges : ranges new ≡ ranges old

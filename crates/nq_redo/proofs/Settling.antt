@@ -41,7 +41,7 @@ length-applied [] len place n disk placed le = refl
 length-applied (range ∷ ranges) len place n disk placed le =
     let begins : range.place ≤ length disk = let p = placed.0 in omega arith in
     let long = length-written range.place range.bytes disk (inl begins) in
-    let more = length-applied ranges len place n (written range.place range.bytes disk) placed.2 (omega arith) in
+    let more = length-applied ranges (max len (range.place + length range.bytes)) place n (written range.place range.bytes disk) placed.2 (omega arith) in
     let a = furthest-is ranges (length (written range.place range.bytes disk)) in
     let b = furthest-is ranges (length disk) in
     omega arith
@@ -78,9 +78,14 @@ settling-torn ranges range old mid new here so torn =
 pub past-all : (ranges : List Range) (len place n k : ℕ) → ArePlaced len place n ranges → len ≤ k → OutsideAll k ranges → furthest ranges len ≤ k
 past-all [] len place n k placed le out = le
 past-all (range ∷ ranges) len place n k placed le out =
-    let rest = past-all ranges len place n k placed.2 le out.1 in
     let p = placed.0 in
-    elim (out.0) [ inl lt ↦ absurd (omega arith) | inr past ↦ omega arith ]
+    let end = range.place + length range.bytes in
+    let a = furthest-is ranges len in
+    let b = furthest-is ranges (max len end) in
+    elim (out.0) [
+      | inl lt ↦ absurd (omega arith)
+      | inr past ↦ let rest = past-all ranges (max len end) place n k placed.2 (omega arith) out.1 in omega arith
+    ]
 
 -- so a disk that settles agrees with the old one outside of the ranges
 pub settling-agrees : (ranges : List Range) (place n : ℕ) (old new : List ℕ) → ArePlaced (length old) place n ranges → Settling ranges old new → (k : ℕ) → OutsideAll k ranges → get_or new k 0 ≡ get_or old k 0
@@ -93,9 +98,9 @@ settling-agrees ranges place n old new placed so k out = elim (cases_lt k (lengt
 pub record-outside : (ranges : List Range) (len place n k : ℕ) → ArePlaced len place n ranges → place ≤ k → k < place + n → OutsideAll k ranges
 record-outside [] len place n k placed le lt = tt
 record-outside (range ∷ ranges) len place n k placed le lt =
-    (elim (placed.1) [ inl before ↦ inr (omega arith) | inr after ↦ inl (omega arith) ], record-outside ranges len place n k placed.2 le lt)
+    (elim (placed.1) [ inl before ↦ inr (omega arith) | inr after ↦ inl (omega arith) ], record-outside ranges (max len (range.place + length range.bytes)) place n k placed.2 le lt)
 
 -- ranges are placed on a longer disk too
 pub placed-longer : (ranges : List Range) (len more place n : ℕ) → ArePlaced len place n ranges → len ≤ more → ArePlaced more place n ranges
 placed-longer [] len more place n placed le = tt
-placed-longer (range ∷ ranges) len more place n placed le = let p = placed.0 in (omega arith, placed.1, placed-longer ranges len more place n placed.2 le)
+placed-longer (range ∷ ranges) len more place n placed le = let p = placed.0 in let end = range.place + length range.bytes in (omega arith, placed.1, placed-longer ranges (max len end) (max more end) place n placed.2 (omega arith))

@@ -1,5 +1,5 @@
 -- A batch: ranges for one change, and how a record spells them.
-use Rattle.std.specs.Prelude.{◌≡◌, ℕ, ◌+◌, ◌<◌, ◌≤◌, ◌^◌, List, [], ◌∷◌, ◌++◌, IsFalse, length, drop}
+use Rattle.std.specs.Prelude.{◌≡◌, ℕ, ◌+◌, ◌<◌, ◌≤◌, ◌^◌, max, List, [], ◌∷◌, ◌++◌, IsFalse, length, drop}
 use Rattle.std.specs.Int.{w32, w64, to_be_bytes}
 use Rattle.nq_redo.specs.Ranges.{Range}
 use Rattle.nq_redo.specs.Record.{is_misplaced, ranges_in}
@@ -26,10 +26,12 @@ abbrev pub AreSpellable : List Range → Type 0
 AreSpellable [] = Unit
 AreSpellable (range ∷ ranges) = (range.place < 2 ^ 64) × (length range.bytes < 2 ^ 32) × AreSpellable ranges
 
--- ranges that lie where the ranges of a record may lie, on a disk of this length
+-- ranges that lie where the ranges of a record may lie, on a disk of this length, which each of them may make longer
 abbrev pub AreAllowed : Area → (len : ℕ) → List Range → Type 0
 AreAllowed area len [] = Unit
-AreAllowed area len (range ∷ ranges) = IsFalse (is_misplaced area.place area.size area.bound len range.place (length range.bytes)) × AreAllowed area len ranges
+AreAllowed area len (range ∷ ranges) =
+    IsFalse (is_misplaced area.place area.size area.bound len range.place (length range.bytes))
+    × AreAllowed area (max len (range.place + length range.bytes)) ranges
 
 -- ranges that a record of this area can hold and may hold on a disk of this length: eight at most
 pub record IsFit (area : Area) (len : ℕ) (ranges : List Range) : Type 0 where

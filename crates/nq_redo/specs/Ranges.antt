@@ -31,11 +31,13 @@ abbrev pub furthest : List Range → ℕ → ℕ
 furthest [] len = len
 furthest (range ∷ ranges) len = max (range.place + length range.bytes) (furthest ranges len)
 
--- no range begins past this length, and each stands outside n bytes at a place
+-- no range begins past this length, or past what the ranges before it make of it, and each stands outside n bytes at a place
 abbrev pub ArePlaced : (len place n : ℕ) → List Range → Type 0
 ArePlaced len place n [] = Unit
 ArePlaced len place n (range ∷ ranges) =
-    (range.place ≤ len) × ((range.place + length range.bytes ≤ place) ⊎ (place + n ≤ range.place)) × ArePlaced len place n ranges
+    (range.place ≤ len)
+    × ((range.place + length range.bytes ≤ place) ⊎ (place + n ≤ range.place))
+    × ArePlaced (max len (range.place + length range.bytes)) place n ranges
 
 -- any bytes stand in these ranges and past the old end, and the same elsewhere
 pub record Settling (ranges : List Range) (old new : List ℕ) : Type 0 where

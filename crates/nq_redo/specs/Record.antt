@@ -1,5 +1,5 @@
 -- The redo record on a disk: what it says, which field of it is wrong, and what an open gives.
-use Rattle.std.specs.Prelude.{ℕ, zero, suc, not, ◌+◌, ◌&&◌, ◌||◌, ◌==◌, Bool, List, [], ◌∷◌, Option, Some, None, Result, Ok, Err, length, take, drop, replicate, slice_index, nat_lt, if◌then◌else◌}
+use Rattle.std.specs.Prelude.{ℕ, zero, suc, not, ◌+◌, ◌&&◌, ◌||◌, ◌==◌, Bool, List, [], ◌∷◌, Option, Some, None, Result, Ok, Err, length, max, take, drop, replicate, slice_index, nat_lt, if◌then◌else◌}
 use Rattle.std.specs.List.{list_all}
 use Rattle.std.specs.Int.{w32, w64, from_be_bytes}
 use Rattle.nq_disk.specs.Bytes.{written}
@@ -52,21 +52,30 @@ is_misplaced start size bound len place n =
     || nat_lt bound (place + n)
     || nat_lt len place
 
--- the wrong field of a range that does not fit: its place, where that does not fit or is wrong by itself, else its length
-abbrev pub unfit_field : (start size bound len at : ℕ) → Option ℕ → ℕ
-unfit_field start size bound len at None = at
-unfit_field start size bound len at (Some place) = if is_misplaced start size bound len place 0 then at else at + 8
+-- how many bytes a range has by the number behind its place, where there is one
+abbrev pub count_at : List ℕ → ℕ
+count_at (a ∷ b ∷ c ∷ d ∷ e ∷ f ∷ g ∷ h ∷ i ∷ j ∷ k ∷ l ∷ rest) = from_be_bytes w32 (i ∷ j ∷ k ∷ l ∷ [])
+count_at short = 0
 
--- the place of the first wrong field in a range that begins at a place, or behind it
-abbrev pub then_wrong : (start size bound len at : ℕ) → List ℕ → Option Front → (ℕ → List ℕ → Option ℕ) → Option ℕ
-then_wrong start size bound len at bytes None more = Some (unfit_field start size bound len at (hyper_at bytes))
+-- the wrong field of a range that passes the end of the record: its place, where that does not fit or is wrong for so many bytes, else
+-- its length
+abbrev pub unfit_field : (start size bound len at : ℕ) → Option ℕ → (count : ℕ) → ℕ
+unfit_field start size bound len at None count = at
+unfit_field start size bound len at (Some place) count = if is_misplaced start size bound len place count then at else at + 8
+
+-- the place of the first wrong field in a range that begins at a place, or behind it, on a disk of this length. The range may make the
+-- disk longer
+abbrev pub then_wrong : (start size bound len at : ℕ) → List ℕ → Option Front → ((len at : ℕ) → List ℕ → Option ℕ) → Option ℕ
+then_wrong start size bound len at bytes None more = Some (unfit_field start size bound len at (hyper_at bytes) (count_at bytes))
 then_wrong start size bound len at bytes (Some front) more =
-    if is_misplaced start size bound len front.range.place (length front.range.bytes) then Some at else more (at + 12 + length front.range.bytes) front.rest
+    if is_misplaced start size bound len front.range.place (length front.range.bytes)
+    then Some at
+    else more (max len (front.range.place + length front.range.bytes)) (at + 12 + length front.range.bytes) front.rest
 
 -- the place of the first wrong field among so many ranges that begin at a place
-abbrev pub wrong_range : (start size bound len : ℕ) → ℕ → (at : ℕ) → List ℕ → Option ℕ
-wrong_range start size bound len zero at bytes = None
-wrong_range start size bound len (suc n) at bytes = then_wrong start size bound len at bytes (front_range bytes) (wrong_range start size bound len n)
+abbrev pub wrong_range : (start size bound : ℕ) → (count len at : ℕ) → List ℕ → Option ℕ
+wrong_range start size bound zero len at bytes = None
+wrong_range start size bound (suc n) len at bytes = then_wrong start size bound len at bytes (front_range bytes) (wrong_range start size bound n)
 
 -- the place of the first wrong field of a record that begins at a place
 unfoldable pub wrong_field : (start size bound len : ℕ) → List ℕ → Option ℕ
@@ -77,7 +86,7 @@ wrong_field start size bound len bytes =
     if nat_lt 8 (word (drop 8 bytes))
     then Some (start + 8)
     else (
-    if not (are_zeros (take 4 (drop 12 bytes))) then Some (start + 12) else wrong_range start size bound len (word (drop 8 bytes)) (start + 16) (drop 16 bytes)
+    if not (are_zeros (take 4 (drop 12 bytes))) then Some (start + 12) else wrong_range start size bound (word (drop 8 bytes)) len (start + 16) (drop 16 bytes)
     )
     )
 

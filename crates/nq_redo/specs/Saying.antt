@@ -1,5 +1,5 @@
 -- What several calls of a disk leave.
-use Rattle.std.specs.Prelude.{◌≡◌, ◌≤◌, ℕ, List, Option, Some, None, length}
+use Rattle.std.specs.Prelude.{◌≡◌, ℕ, List, Option, Some, None}
 use Rattle.std.specs.Option.{ForSome}
 
 -- something is told still, where something was told
@@ -17,7 +17,3 @@ Only disk may_leave = (image : List ℕ) → may_leave image → image ≡ disk
 -- each stop leaves bytes that have a property
 abbrev pub Each : (List ℕ → Type 0) → (List ℕ → Type 0) → Type 0
 Each leaves holds = (image : List ℕ) → leaves image → holds image
-
--- a stop leaves no fewer bytes than some stop before might have left
-abbrev pub LeavesNoFewer : (before leaves : List ℕ → Type 0) → Type 0
-LeavesNoFewer before leaves = (image : List ℕ) → leaves image → (old : List ℕ) × before old × (length old ≤ length image)

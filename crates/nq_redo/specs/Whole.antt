@@ -34,9 +34,17 @@ pub record IsOpen (area : Area) (disk : List ℕ) : Type 0 where
 abbrev pub after : Area → List Range → List ℕ → Result (List ℕ) ℕ
 after area ranges disk = Ok (applied ranges (blanked area.place area.size disk))
 
+-- an image opens as a disk, and is no shorter
+abbrev pub OpensAs : Area → (disk image : List ℕ) → Type 0
+OpensAs area disk image = (length disk ≤ length image) × (found area image ≡ found area disk)
+
+-- an image opens as a disk after these ranges were written, and is no shorter than the disk
+abbrev pub OpensAfter : Area → List Range → (disk image : List ℕ) → Type 0
+OpensAfter area ranges disk image = (length disk ≤ length image) × (found area image ≡ after area ranges disk)
+
 -- an image opens as one of these disks
 abbrev pub OpensAsOne : Area → (List ℕ → Type 0) → List ℕ → Type 0
-OpensAsOne area before image = (old : List ℕ) × before old × (found area image ≡ found area old)
+OpensAsOne area before image = (old : List ℕ) × before old × OpensAs area old image
 
 -- a disk with this record behind its gate, and the gate open
 abbrev pub staged : Area → List ℕ → List ℕ → List ℕ

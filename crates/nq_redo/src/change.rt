@@ -5,8 +5,8 @@ ghost use Rattle.std.specs.Option.{ForSome};
 ghost use Rattle.nq_disk.specs.Calling.{Counts, IsAllThatIsLeft};
 ghost use Rattle.nq_redo.specs.Ranges.{applied, Settling};
 ghost use Rattle.nq_redo.specs.Record.{ranges_in, ranges_of};
-ghost use Rattle.nq_redo.specs.Saying.{Each, LeavesNoFewer, Only, StaysSilent};
-ghost use Rattle.nq_redo.specs.Whole.{IsArea, IsClosed, IsOpen, OpensAsOne, Settled, found, record_of, staged};
+ghost use Rattle.nq_redo.specs.Saying.{Each, Only, StaysSilent};
+ghost use Rattle.nq_redo.specs.Whole.{IsArea, IsClosed, IsOpen, OpensAs, OpensAsOne, Settled, found, record_of, staged};
 
 use crate::area::Area;
 use crate::steps::{put_ranges, write_synced};
@@ -19,7 +19,6 @@ pub(crate) fn put_synced<D: Disk>(disk: &mut D, count: u32, bytes: &[u8]) -> Res
     ensures cause { Counts result (D.faults disk.old) (D.faults disk.new) }
     ensures follows { D.follows disk.old disk.new }
     ensures leaves { ForSome (D.told disk.old) (λ old. Only old (D.may_leave disk.old) → Each (D.leaves disk.old disk.new) (Settling (ranges_in count bytes.now) old)) }
-    ensures long { LeavesNoFewer (D.may_leave disk.old) (D.leaves disk.old disk.new) }
     ensures silent { StaysSilent (D.told disk.old) (D.told disk.new) }
 {
     put_ranges(disk, count, bytes)?;
@@ -37,8 +36,7 @@ pub(crate) fn settle<D: Disk>(
     ensures settled { OnOk result (ForSome (D.told disk.old) (λ old. Only old (D.may_leave disk.old) → IsOpen area old → ranges_in count bytes.now ≡ ranges_of (record_of area old) → Settled area (found area old) (D.told disk.new) (D.may_leave disk.new))) }
     ensures cause { Counts result (D.faults disk.old) (D.faults disk.new) }
     ensures follows { D.follows disk.old disk.new }
-    ensures leaves { ForSome (D.told disk.old) (λ old. Only old (D.may_leave disk.old) → IsOpen area old → ranges_in count bytes.now ≡ ranges_of (record_of area old) → Each (D.leaves disk.old disk.new) (λ image. found area image ≡ found area old)) }
-    ensures long { LeavesNoFewer (D.may_leave disk.old) (D.leaves disk.old disk.new) }
+    ensures leaves { ForSome (D.told disk.old) (λ old. Only old (D.may_leave disk.old) → IsOpen area old → ranges_in count bytes.now ≡ ranges_of (record_of area old) → Each (D.leaves disk.old disk.new) (OpensAs area old)) }
     ensures silent { StaysSilent (D.told disk.old) (D.told disk.new) }
 {
     put_synced(disk, count, bytes)?;
@@ -52,8 +50,7 @@ pub(crate) fn stage<D: Disk>(disk: &mut D, area: Area, body: &[u8]) -> Result<()
     ensures settles { OnOk result (IsAllThatIsLeft (D.told disk.new) (D.may_leave disk.new)) }
     ensures cause { Counts result (D.faults disk.old) (D.faults disk.new) }
     ensures follows { D.follows disk.old disk.new }
-    ensures leaves { ForSome (D.told disk.old) (λ old. length body.now + 1 ≤ area.size → Each (D.may_leave disk.old) (IsClosed area) → Each (D.leaves disk.old disk.new) (λ image. OpensAsOne area (D.may_leave disk.old) image ⊎ (found area image ≡ found area (staged area body.now old)))) }
-    ensures long { LeavesNoFewer (D.may_leave disk.old) (D.leaves disk.old disk.new) }
+    ensures leaves { ForSome (D.told disk.old) (λ old. length body.now + 1 ≤ area.size → Each (D.may_leave disk.old) (IsClosed area) → Each (D.leaves disk.old disk.new) (λ image. OpensAsOne area (D.may_leave disk.old) image ⊎ OpensAs area (staged area body.now old) image)) }
     ensures silent { StaysSilent (D.told disk.old) (D.told disk.new) }
 {
     write_synced(disk, area.place + 1, body)?;
@@ -72,8 +69,7 @@ pub(crate) fn change<D: Disk>(
     ensures settled { OnOk result (ForSome (D.told disk.old) (λ old. IsOpen area (staged area body.now old) → ranges_in count bytes.now ≡ ranges_of (record_of area (staged area body.now old)) → Settled area (found area (staged area body.now old)) (D.told disk.new) (D.may_leave disk.new))) }
     ensures cause { Counts result (D.faults disk.old) (D.faults disk.new) }
     ensures follows { D.follows disk.old disk.new }
-    ensures leaves { ForSome (D.told disk.old) (λ old. length body.now + 1 ≤ area.size → Each (D.may_leave disk.old) (IsClosed area) → IsOpen area (staged area body.now old) → ranges_in count bytes.now ≡ ranges_of (record_of area (staged area body.now old)) → Each (D.leaves disk.old disk.new) (λ image. OpensAsOne area (D.may_leave disk.old) image ⊎ (found area image ≡ found area (staged area body.now old)))) }
-    ensures long { LeavesNoFewer (D.may_leave disk.old) (D.leaves disk.old disk.new) }
+    ensures leaves { ForSome (D.told disk.old) (λ old. length body.now + 1 ≤ area.size → Each (D.may_leave disk.old) (IsClosed area) → IsOpen area (staged area body.now old) → ranges_in count bytes.now ≡ ranges_of (record_of area (staged area body.now old)) → Each (D.leaves disk.old disk.new) (λ image. OpensAsOne area (D.may_leave disk.old) image ⊎ OpensAs area (staged area body.now old) image)) }
     ensures silent { StaysSilent (D.told disk.old) (D.told disk.new) }
 {
     stage(disk, area, body)?;

@@ -5,8 +5,8 @@ ghost use Rattle.std.specs.Option.{ForSome};
 ghost use Rattle.nq_disk.specs.Calling.{Counts};
 ghost use Rattle.nq_redo.specs.Batch.{IsFit};
 ghost use Rattle.nq_redo.specs.Opens.{CountsOpen, Opens, disk_in};
-ghost use Rattle.nq_redo.specs.Saying.{Each, LeavesNoFewer, StaysSilent};
-ghost use Rattle.nq_redo.specs.Whole.{IsArea, IsClosed, OpensAsOne, Settled, after, found};
+ghost use Rattle.nq_redo.specs.Saying.{Each, StaysSilent};
+ghost use Rattle.nq_redo.specs.Whole.{IsArea, IsClosed, OpensAfter, OpensAsOne, Settled, after, found};
 
 use crate::area::Area;
 use crate::batch::Batch;
@@ -52,7 +52,6 @@ impl<D: Disk> Redo<D> {
         ensures cause { CountsOpen result (D.faults disk) (D.faults (disk_in result)) }
         ensures follows { D.follows disk (disk_in result) }
         ensures leaves { ForSome (D.told disk) (λ old. area.place + area.size ≤ length old → Each (D.leaves disk (disk_in result)) (OpensAsOne area (D.may_leave disk))) }
-        ensures long { LeavesNoFewer (D.may_leave disk) (D.leaves disk (disk_in result)) }
         ensures silent { StaysSilent (D.told disk) (D.told (disk_in result)) }
     {
         let mut disk = disk;
@@ -77,8 +76,7 @@ impl<D: Disk> Redo<D> {
         ensures same { self.new.area ≡ self.old.area }
         ensures cause { Counts result (D.faults self.old.disk) (D.faults self.new.disk) }
         ensures follows { D.follows self.old.disk self.new.disk }
-        ensures whole { ForSome (D.told self.old.disk) (λ old. Each (D.may_leave self.old.disk) (IsClosed self.old.area) → IsFit self.old.area (length old) batch.now → Each (D.leaves self.old.disk self.new.disk) (λ image. OpensAsOne self.old.area (D.may_leave self.old.disk) image ⊎ (found self.old.area image ≡ after self.old.area batch.now old))) }
-        ensures long { LeavesNoFewer (D.may_leave self.old.disk) (D.leaves self.old.disk self.new.disk) }
+        ensures whole { ForSome (D.told self.old.disk) (λ old. Each (D.may_leave self.old.disk) (IsClosed self.old.area) → IsFit self.old.area (length old) batch.now → Each (D.leaves self.old.disk self.new.disk) (λ image. OpensAsOne self.old.area (D.may_leave self.old.disk) image ⊎ OpensAfter self.old.area batch.now old image)) }
         ensures silent { StaysSilent (D.told self.old.disk) (D.told self.new.disk) }
     {
         change(

@@ -5,8 +5,8 @@ ghost use Rattle.std.specs.Option.{ForSome};
 ghost use Rattle.nq_disk.specs.Calling.{Counts, IsAllThatIsLeft, LeavesNoMore};
 ghost use Rattle.nq_redo.specs.declared.replay.OpenFault.TheVariants.{Failed};
 ghost use Rattle.nq_redo.specs.Opens.{CountsFault, OpensOn};
-ghost use Rattle.nq_redo.specs.Saying.{Each, LeavesNoFewer, Only, StaysSilent};
-ghost use Rattle.nq_redo.specs.Whole.{IsArea, IsClosed, OpensAsOne, found, record_of};
+ghost use Rattle.nq_redo.specs.Saying.{Each, Only, StaysSilent};
+ghost use Rattle.nq_redo.specs.Whole.{IsArea, IsClosed, OpensAs, OpensAsOne, record_of};
 
 use crate::area::Area;
 use crate::change::settle;
@@ -57,8 +57,7 @@ fn replay<D: Disk>(disk: &mut D, area: Area, len: u64, content: &[u8]) -> Result
     ensures quiet { slice_index content.now 0 ≢ 1 → D.told disk.new ≡ D.told disk.old }
     ensures cause { CountsFault result (D.faults disk.old) (D.faults disk.new) }
     ensures follows { D.follows disk.old disk.new }
-    ensures leaves { ForSome (D.told disk.old) (λ old. Only old (D.may_leave disk.old) → area.place + area.size ≤ length old → len ≡ length old → content.now ≡ record_of area old → Each (D.leaves disk.old disk.new) (λ image. found area image ≡ found area old)) }
-    ensures long { LeavesNoFewer (D.may_leave disk.old) (D.leaves disk.old disk.new) }
+    ensures leaves { ForSome (D.told disk.old) (λ old. Only old (D.may_leave disk.old) → area.place + area.size ≤ length old → len ≡ length old → content.now ≡ record_of area old → Each (D.leaves disk.old disk.new) (OpensAs area old)) }
     ensures silent { StaysSilent (D.told disk.old) (D.told disk.new) }
 {
     if content[0] != 1 {
@@ -81,7 +80,6 @@ fn open_with<D: Disk>(disk: &mut D, area: Area, content: &mut [u8]) -> Result<()
     ensures cause { CountsFault result (D.faults disk.old) (D.faults disk.new) }
     ensures follows { D.follows disk.old disk.new }
     ensures leaves { ForSome (D.told disk.old) (λ old. area.place + area.size ≤ length old → Each (D.leaves disk.old disk.new) (OpensAsOne area (D.may_leave disk.old))) }
-    ensures long { LeavesNoFewer (D.may_leave disk.old) (D.leaves disk.old disk.new) }
     ensures silent { StaysSilent (D.told disk.old) (D.told disk.new) }
 {
     let len = read_record(disk, area, content)?;
@@ -96,7 +94,6 @@ pub(crate) fn open_on<D: Disk>(alloc: Global, disk: &mut D, area: Area) -> Resul
     ensures cause { CountsFault result (D.faults disk.old) (D.faults disk.new) }
     ensures follows { D.follows disk.old disk.new }
     ensures leaves { ForSome (D.told disk.old) (λ old. area.place + area.size ≤ length old → Each (D.leaves disk.old disk.new) (OpensAsOne area (D.may_leave disk.old))) }
-    ensures long { LeavesNoFewer (D.may_leave disk.old) (D.leaves disk.old disk.new) }
     ensures silent { StaysSilent (D.told disk.old) (D.told disk.new) }
 {
     match vec![in alloc; 0; area.size as usize] {

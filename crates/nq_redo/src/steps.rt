@@ -6,7 +6,7 @@ ghost use Rattle.std.specs.Option.{ForSome};
 ghost use Rattle.nq_disk.specs.Calling.{Counts, LeavesTorn, Writes, IsAllThatIsLeft};
 ghost use Rattle.nq_redo.specs.Ranges.{applied, Settling};
 ghost use Rattle.nq_redo.specs.Record.{front_of, front_range, ranges_in};
-ghost use Rattle.nq_redo.specs.Saying.{Each, LeavesNoFewer, Only, StaysSilent, TellsOn};
+ghost use Rattle.nq_redo.specs.Saying.{Each, Only, StaysSilent, TellsOn};
 
 use nq_disk::{Disk, DiskFault};
 
@@ -17,7 +17,6 @@ pub(crate) fn write_synced<D: Disk>(disk: &mut D, place: u64, bytes: &[u8]) -> R
     ensures cause { Counts result (D.faults disk.old) (D.faults disk.new) }
     ensures follows { D.follows disk.old disk.new }
     ensures leaves { LeavesTorn place (length bytes.now) (D.may_leave disk.old) (D.leaves disk.old disk.new) }
-    ensures long { LeavesNoFewer (D.may_leave disk.old) (D.leaves disk.old disk.new) }
     ensures silent { StaysSilent (D.told disk.old) (D.told disk.new) }
 {
     disk.write_at(place, bytes)?;
@@ -47,7 +46,6 @@ pub(crate) fn put_ranges<D: Disk>(disk: &mut D, count: u32, bytes: &[u8]) -> Res
     ensures cause { Counts result (D.faults disk.old) (D.faults disk.new) }
     ensures follows { D.follows disk.old disk.new }
     ensures leaves { ForSome (D.told disk.old) (λ old. Only old (D.may_leave disk.old) → Each (D.leaves disk.old disk.new) (Settling (ranges_in count bytes.now) old)) }
-    ensures long { LeavesNoFewer (D.may_leave disk.old) (D.leaves disk.old disk.new) }
     ensures silent { StaysSilent (D.told disk.old) (D.told disk.new) }
 {
     let mut rest = bytes;

@@ -1,1 +1,3 @@
 pub mod Faults
+mod Sought
+mod Rows

@@ -1,13 +1,17 @@
 -- A store as contracts see it.
-use Rattle.std.specs.Prelude.{◌≡◌, ◌≤◌, ◌^◌, ℕ, ◌+◌, ◌-◌, Bool, true, false, List, Option, Some, None, Result, Ok, Err, count_by, is_some, length, min, sum_by}
+use Rattle.std.specs.Prelude.{◌≡◌, ◌≤◌, ◌^◌, ℕ, ◌+◌, ◌-◌, Bool, true, false, List, Option, Some, None, Result, Ok, Err, count_by, is_some, length, min, sum_by, if◌then◌else◌}
+use Rattle.std.specs.Option.{ForSome}
 use Rattle.nq_base.specs.declared.Space.{Space}
 use Rattle.nq_io.specs.Faults.{Rose, count_up}
 use Rattle.nq_image.specs.Standing.{Standing, row_blocks}
 use Rattle.nq_keeper.specs.declared.KeepFault.{KeepFault}
 use Rattle.nq_keeper.specs.declared.KeepFault.TheVariants.{Failed, Memory}
-use Rattle.nq_format.specs.Standing.{stands_as}
+use Rattle.nq_keeper.specs.StoredKeeper.{is_within}
+use Rattle.nq_format.specs.Standing.{image_area, stands_as}
 use Rattle.nq_model.specs.Kept.{Kept}
-use Rattle.nq_plan.specs.Held.{HeldTables}
+use Rattle.nq_plan.specs.Held.{HeldTables, IsHeldOf}
+use Rattle.nq_redo.specs.Saying.{Only}
+use Rattle.nq_redo.specs.Whole.{IsClosed}
 
 -- the disk, what is in memory of its image, whether a change failed, and how many calls were refused since
 pub record StoredStore (D : Type 0) : Type 0 where
@@ -23,24 +27,51 @@ counted faults refused = min (faults + refused) (2 ^ 64 - 1)
 abbrev pub faults_of : {D : Type 0} → (D → ℕ) → StoredStore D → ℕ
 faults_of faults store = counted (faults store.disk) store.refused
 
--- what a store tells of what it keeps: nothing yet
-abbrev pub content_of : {D : Type 0} → StoredStore D → Option Kept
-content_of store = None
-
 -- the second store is the first one after some calls
 pub record GoesOn {D : Type 0} (follows : D → D → Type 0) (first last : StoredStore D) : Type 0 where
   pub disk : follows first.disk last.disk
   pub refused : first.refused ≤ last.refused
 
+-- a kept state, where it is within its bounds
+abbrev pub if_within : Kept → Option Kept
+if_within kept = if is_within kept then Some kept else None
+
 -- the kept state of what bytes stand for; None for what nobody can open
 abbrev pub kept_of : Option (Result Kept ℕ) → Option Kept
 kept_of None = None
 kept_of (Some (Err place)) = None
-kept_of (Some (Ok kept)) = Some kept
+kept_of (Some (Ok kept)) = if_within kept
+
+-- the kept state for which the bytes of a disk stand
+unfoldable pub kept_on : List ℕ → Option Kept
+kept_on bytes = kept_of (stands_as bytes)
+
+-- the same of the bytes that a disk tells
+abbrev pub kept_told : Option (List ℕ) → Option Kept
+kept_told None = None
+kept_told (Some bytes) = kept_on bytes
+
+-- what a store tells of what it keeps: what its disk stands for, until a change fails
+abbrev pub content_while : (ended : Bool) → Option (List ℕ) → Option Kept
+content_while true told = None
+content_while false told = kept_told told
+
+abbrev pub content_of : {D : Type 0} → (D → Option (List ℕ)) → StoredStore D → Option Kept
+content_of told store = content_while store.ended (told store.disk)
+
+-- the tables in memory are those of the image that these bytes are, its record is closed, and a stop leaves nothing else
+pub record IsKeptOn (held : HeldTables) (may_leave : List ℕ → Type 0) (bytes : List ℕ) : Type 0 where
+  pub is_held : IsHeldOf bytes held
+  pub closed : IsClosed image_area bytes
+  pub alone : Only bytes may_leave
+
+-- until a change fails, the tables in memory are those of the image on the disk, where the disk tells its bytes
+abbrev pub IsSound : (told : Option (List ℕ)) → (may_leave : List ℕ → Type 0) → HeldTables → (ended : Bool) → Type 0
+IsSound told may_leave held ended = ended ≡ false → ForSome told (IsKeptOn held may_leave)
 
 -- what a stop leaves, as it is found again
 abbrev pub LeavesKept : (List ℕ → Type 0) → Option Kept → Type 0
-LeavesKept leaves found = (bytes : List ℕ) × leaves bytes × (found ≡ kept_of (stands_as bytes))
+LeavesKept leaves found = (bytes : List ℕ) × leaves bytes × (found ≡ kept_on bytes)
 
 -- a store as it is opened: no change failed, and no call was refused
 pub record IsFresh {D : Type 0} (store : StoredStore D) : Type 0 where

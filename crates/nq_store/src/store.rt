@@ -10,7 +10,7 @@ ghost use Rattle.nq_plan.specs.Finding.{row_behind, row_named, row_of};
 ghost use Rattle.nq_plan.specs.Settling.{settled};
 ghost use Rattle.nq_disk.specs.Calling.{Counts};
 ghost use Rattle.nq_format.specs.Standing.{image_area};
-ghost use Rattle.nq_store.specs.Laws.{goes-further, goes-itself, goes-rising, leaves-parts, may-leave, no-content};
+ghost use Rattle.nq_store.specs.Laws.{goes-further, goes-itself, goes-rising, leaves-parts, may-leave, told-is-within};
 ghost use Rattle.nq_store.specs.Opening.{AnswersOpen, FollowsOpen};
 ghost use Rattle.nq_store.specs.Storing.{CountsKeep, GoesOn, IsFresh, LeavesKept, after_asking, answered, asked, content_of, faults_of, refusals, space_in};
 
@@ -28,7 +28,7 @@ use std::marker::Model;
 /// What a server keeps, on a disk. The rows and tables are in memory; the bodies of the blocks are read from the disk. Contracts
 /// see the disk, the tables, whether a change failed, and how many calls were refused since.
 #[derive(Drop)]
-pub struct Store<D> {
+pub struct Store<D: Disk> {
     redo: Redo<D>,
     tables: Tables,
     alloc: Global,
@@ -38,16 +38,16 @@ pub struct Store<D> {
     refused: u64,
 }
 
-impl<D> Model for Store<D> {
+impl<D: Disk> Model for Store<D> {
     ghost use Rattle.std.specs.Prelude.{◌≡◌};
     ghost use Rattle.nq_format.specs.Standing.{image_area};
-    ghost use Rattle.nq_store.specs.Storing.{StoredStore};
+    ghost use Rattle.nq_store.specs.Storing.{IsSound, StoredStore};
 
     ghost Value = { StoredStore D };
 
     ghost view = { λ s. record { disk = s.redo.disk; tables = s.tables; ended = s.ended; refused = s.refused } };
 
-    ghost invariant = { λ s. s.redo.area ≡ image_area };
+    ghost invariant = { λ s. (s.redo.area ≡ image_area) × IsSound (D.told s.redo.disk) (D.may_leave s.redo.disk) s.tables s.ended };
 }
 
 /// Reads the body of a physical block. What the disk does not hold of it is zeros.
@@ -174,7 +174,7 @@ impl<D: Disk + Drop> Store<D> {
 }
 
 impl<D: Disk + Drop> Keeper for Store<D> {
-    ghost content = { content_of };
+    ghost content = { content_of D.told };
 
     ghost faults = { faults_of D.faults };
 
@@ -184,10 +184,10 @@ impl<D: Disk + Drop> Keeper for Store<D> {
 
     fn file(&mut self, id: FileId) -> Result<Option<FileRow>, KeepFault>
         // As of any keeper.
-        ensures told { ForSome (content_of self.old) (λ kept. IfOk result (λ row. row ≡ row_of_found (find_file id kept.files))) }
-        ensures reads { Reads result (content_of self.old) (content_of self.new) (faults_of D.faults self.old) (faults_of D.faults self.new) }
+        ensures told { ForSome (content_of D.told self.old) (λ kept. IfOk result (λ row. row ≡ row_of_found (find_file id kept.files))) }
+        ensures reads { Reads result (content_of D.told self.old) (content_of D.told self.new) (faults_of D.faults self.old) (faults_of D.faults self.new) }
         ensures follows { GoesOn D.follows self.old self.new }
-        ensures leaves { LeavesOne (content_of self.old) (LeavesKept (D.leaves self.old.disk self.new.disk)) }
+        ensures leaves { LeavesOne (content_of D.told self.old) (LeavesKept (D.leaves self.old.disk self.new.disk)) }
 
         // Of this one.
         ensures answer { result ≡ answered self.old.ended (row_of self.old.tables.standing id) }
@@ -199,10 +199,10 @@ impl<D: Disk + Drop> Keeper for Store<D> {
 
     fn by_name(&mut self, name: &Name) -> Result<Option<FileRow>, KeepFault>
         // As of any keeper.
-        ensures told { ForSome (content_of self.old) (λ kept. IfOk result (λ row. row ≡ row_of_found (find_name name.now kept.files))) }
-        ensures reads { Reads result (content_of self.old) (content_of self.new) (faults_of D.faults self.old) (faults_of D.faults self.new) }
+        ensures told { ForSome (content_of D.told self.old) (λ kept. IfOk result (λ row. row ≡ row_of_found (find_name name.now kept.files))) }
+        ensures reads { Reads result (content_of D.told self.old) (content_of D.told self.new) (faults_of D.faults self.old) (faults_of D.faults self.new) }
         ensures follows { GoesOn D.follows self.old self.new }
-        ensures leaves { LeavesOne (content_of self.old) (LeavesKept (D.leaves self.old.disk self.new.disk)) }
+        ensures leaves { LeavesOne (content_of D.told self.old) (LeavesKept (D.leaves self.old.disk self.new.disk)) }
 
         // Of this one.
         ensures answer { result ≡ answered self.old.ended (row_named self.old.tables.standing name.now) }
@@ -214,10 +214,10 @@ impl<D: Disk + Drop> Keeper for Store<D> {
 
     fn next_file(&mut self, after: FileId) -> Result<Option<FileRow>, KeepFault>
         // As of any keeper.
-        ensures told { ForSome (content_of self.old) (λ kept. IfOk result (λ row. row ≡ row_of_found (file_after after kept.files))) }
-        ensures reads { Reads result (content_of self.old) (content_of self.new) (faults_of D.faults self.old) (faults_of D.faults self.new) }
+        ensures told { ForSome (content_of D.told self.old) (λ kept. IfOk result (λ row. row ≡ row_of_found (file_after after kept.files))) }
+        ensures reads { Reads result (content_of D.told self.old) (content_of D.told self.new) (faults_of D.faults self.old) (faults_of D.faults self.new) }
         ensures follows { GoesOn D.follows self.old self.new }
-        ensures leaves { LeavesOne (content_of self.old) (LeavesKept (D.leaves self.old.disk self.new.disk)) }
+        ensures leaves { LeavesOne (content_of D.told self.old) (LeavesKept (D.leaves self.old.disk self.new.disk)) }
 
         // Of this one.
         ensures answer { result ≡ answered self.old.ended (row_behind self.old.tables.standing after) }
@@ -231,10 +231,10 @@ impl<D: Disk + Drop> Keeper for Store<D> {
         requires { host < most_hosts }
 
         // As of any keeper.
-        ensures told { ForSome (content_of self.old) (λ kept. IfOk result (λ row. row ≡ host_row kept host)) }
-        ensures reads { Reads result (content_of self.old) (content_of self.new) (faults_of D.faults self.old) (faults_of D.faults self.new) }
+        ensures told { ForSome (content_of D.told self.old) (λ kept. IfOk result (λ row. row ≡ host_row kept host)) }
+        ensures reads { Reads result (content_of D.told self.old) (content_of D.told self.new) (faults_of D.faults self.old) (faults_of D.faults self.new) }
         ensures follows { GoesOn D.follows self.old self.new }
-        ensures leaves { LeavesOne (content_of self.old) (LeavesKept (D.leaves self.old.disk self.new.disk)) }
+        ensures leaves { LeavesOne (content_of D.told self.old) (LeavesKept (D.leaves self.old.disk self.new.disk)) }
 
         // Of this one.
         ensures answer { result ≡ answered self.old.ended (slice_index_or self.old.tables.standing.hosts host fresh_row) }
@@ -246,10 +246,10 @@ impl<D: Disk + Drop> Keeper for Store<D> {
 
     fn heads(&mut self) -> Result<Heads, KeepFault>
         // As of any keeper.
-        ensures told { ForSome (content_of self.old) (λ kept. IfOk result (λ heads. heads ≡ heads_of kept)) }
-        ensures reads { Reads result (content_of self.old) (content_of self.new) (faults_of D.faults self.old) (faults_of D.faults self.new) }
+        ensures told { ForSome (content_of D.told self.old) (λ kept. IfOk result (λ heads. heads ≡ heads_of kept)) }
+        ensures reads { Reads result (content_of D.told self.old) (content_of D.told self.new) (faults_of D.faults self.old) (faults_of D.faults self.new) }
         ensures follows { GoesOn D.follows self.old self.new }
-        ensures leaves { LeavesOne (content_of self.old) (LeavesKept (D.leaves self.old.disk self.new.disk)) }
+        ensures leaves { LeavesOne (content_of D.told self.old) (LeavesKept (D.leaves self.old.disk self.new.disk)) }
 
         // Of this one.
         ensures answer { result ≡ answered self.old.ended (self.old.tables.standing.heads) }
@@ -261,10 +261,10 @@ impl<D: Disk + Drop> Keeper for Store<D> {
 
     fn space(&mut self) -> Result<Space, KeepFault>
         // As of any keeper.
-        ensures told { ForSome (content_of self.old) (λ kept. IfOk result (λ space. space ≡ space_of kept)) }
-        ensures reads { Reads result (content_of self.old) (content_of self.new) (faults_of D.faults self.old) (faults_of D.faults self.new) }
+        ensures told { ForSome (content_of D.told self.old) (λ kept. IfOk result (λ space. space ≡ space_of kept)) }
+        ensures reads { Reads result (content_of D.told self.old) (content_of D.told self.new) (faults_of D.faults self.old) (faults_of D.faults self.new) }
         ensures follows { GoesOn D.follows self.old self.new }
-        ensures leaves { LeavesOne (content_of self.old) (LeavesKept (D.leaves self.old.disk self.new.disk)) }
+        ensures leaves { LeavesOne (content_of D.told self.old) (LeavesKept (D.leaves self.old.disk self.new.disk)) }
 
         // Of this one.
         ensures answer { result ≡ answered self.old.ended (space_in self.old.tables.standing) }
@@ -275,13 +275,13 @@ impl<D: Disk + Drop> Keeper for Store<D> {
     }
 
     fn block(&mut self, id: FileId, block: BlockNo) -> Result<Block, KeepFault>
-        requires { ForSome (content_of self.old) (λ kept. HasBlock block (find_file id kept.files)) }
+        requires { ForSome (content_of D.told self.old) (λ kept. HasBlock block (find_file id kept.files)) }
 
         // As of any keeper.
-        ensures told { ForSome (content_of self.old) (λ kept. IfOk result (λ body. Some body ≡ body_at block (find_file id kept.files))) }
-        ensures reads { Reads result (content_of self.old) (content_of self.new) (faults_of D.faults self.old) (faults_of D.faults self.new) }
+        ensures told { ForSome (content_of D.told self.old) (λ kept. IfOk result (λ body. Some body ≡ body_at block (find_file id kept.files))) }
+        ensures reads { Reads result (content_of D.told self.old) (content_of D.told self.new) (faults_of D.faults self.old) (faults_of D.faults self.new) }
         ensures follows { GoesOn D.follows self.old self.new }
-        ensures leaves { LeavesOne (content_of self.old) (LeavesKept (D.leaves self.old.disk self.new.disk)) }
+        ensures leaves { LeavesOne (content_of D.told self.old) (LeavesKept (D.leaves self.old.disk self.new.disk)) }
     {
         ask(self.ended, &mut self.refused)?;
         match self.tables.physical(id, block) {
@@ -292,13 +292,13 @@ impl<D: Disk + Drop> Keeper for Store<D> {
 
     fn commit(&mut self, change: Change) -> Result<(), KeepFault>
         requires host { NamesHost change }
-        requires fits { ForSome (content_of self.old) (λ kept. Fits kept change) }
-        requires within { ForSome (content_of self.old) (λ kept. IsChangeWithin kept change) }
+        requires fits { ForSome (content_of D.told self.old) (λ kept. Fits kept change) }
+        requires within { ForSome (content_of D.told self.old) (λ kept. IsChangeWithin kept change) }
 
         // As of any keeper.
-        ensures commits { Commits result change (content_of self.old) (content_of self.new) (faults_of D.faults self.old) (faults_of D.faults self.new) }
+        ensures commits { Commits result change (content_of D.told self.old) (content_of D.told self.new) (faults_of D.faults self.old) (faults_of D.faults self.new) }
         ensures follows { GoesOn D.follows self.old self.new }
-        ensures leaves { LeavesTwo change (content_of self.old) (LeavesKept (D.leaves self.old.disk self.new.disk)) }
+        ensures leaves { LeavesTwo change (content_of D.told self.old) (LeavesKept (D.leaves self.old.disk self.new.disk)) }
     {
         ask(self.ended, &mut self.refused)?;
         let plan = match self.tables.plan(self.alloc, &change) {
@@ -309,10 +309,10 @@ impl<D: Disk + Drop> Keeper for Store<D> {
     }
 
     fn pause(&self)
-        ensures leaves { LeavesOne (content_of self.now) (LeavesKept (D.leaves self.now.disk self.now.disk)) }
+        ensures leaves { LeavesOne (content_of D.told self.now) (LeavesKept (D.leaves self.now.disk self.now.disk)) }
     {}
 
-    ghost within = { no-content };
+    ghost within = { told-is-within D.told };
 
     ghost follows_itself = { goes-itself D.follows D.follows_itself };
 
@@ -320,7 +320,7 @@ impl<D: Disk + Drop> Keeper for Store<D> {
 
     ghost faults_rise = { goes-rising D.follows D.faults D.rises };
 
-    ghost may_leave = { may-leave D.follows D.leaves };
+    ghost may_leave = { may-leave D.follows D.told D.may_leave D.leaves D.told_may_stay D.leaves_ends };
 
     ghost parts = { leaves-parts D.follows D.leaves D.parts };
 }

@@ -1,6 +1,6 @@
 use Rattle.std.proofs.Common.{◌≡◌, ◌⊎◌, ℕ, List, inr}
-use Rattle.nq_redo.specs.Whole.{OpensAsOne, found, staged}
-use Rattle.nq_redo.proofs.Going.{fewer-through, on-ok, then-ok, through}
+use Rattle.nq_redo.specs.Whole.{OpensAs, OpensAsOne, staged}
+use Rattle.nq_redo.proofs.Going.{on-ok, then-ok, through}
 use Rattle.nq_redo.proofs.change.change.Goals as goal
 
 pub returns-in_err-stage-clause-leaves : goal.returns-in_err-stage-clause-leaves
@@ -16,14 +16,7 @@ pub returns-clause-leaves : goal.returns-clause-leaves
 returns-clause-leaves g c = λ old told short closed open_now same image left.
     let staged_now = staged c.args.area c.args.body.now old in
     let told_then = c.in_ok-stage.ensures.staged old told in
-    through (λ (i : List ℕ). OpensAsOne c.args.area (g.D.Disk.may_leave c.args.disk.now) i ⊎ (found c.args.area i ≡ found c.args.area staged_now)) _ _ image
+    through (λ (i : List ℕ). OpensAsOne c.args.area (g.D.Disk.may_leave c.args.disk.now) i ⊎ OpensAs c.args.area staged_now i) _ _ image
     (g.met.D.Disk.parts c.args.disk.now c.stage.new.disk c.settle.new.disk image c.stage.ensures.follows c.settle.ensures.follows left)
     (c.stage.ensures.leaves old told short closed image)
     (λ l. inr (c.settle.ensures.leaves staged_now told_then (c.in_ok-stage.ensures.settles staged_now told_then) open_now same image l))
-
-pub returns-clause-long : goal.returns-clause-long
-returns-clause-long g c =
-    fewer-through (g.D.Disk.may_leave c.args.disk.now) (g.D.Disk.may_leave c.stage.new.disk) (g.D.Disk.leaves c.args.disk.now c.stage.new.disk) (g.D.Disk.leaves c.stage.new.disk c.settle.new.disk) (g.D.Disk.leaves c.args.disk.now c.settle.new.disk)
-    (λ image left. g.met.D.Disk.parts c.args.disk.now c.stage.new.disk c.settle.new.disk image c.stage.ensures.follows c.settle.ensures.follows left)
-    (λ image may. g.met.D.Disk.leaves_ends c.args.disk.now c.stage.new.disk image c.stage.ensures.follows (inr may))
-    (c.stage.ensures.long) (c.settle.ensures.long)

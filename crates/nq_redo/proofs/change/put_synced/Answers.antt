@@ -1,7 +1,7 @@
 use Rattle.std.proofs.Common.{◌∙◌, inr}
 use Rattle.nq_redo.specs.Ranges.{Settling}
 use Rattle.nq_redo.specs.Record.{ranges_in}
-use Rattle.nq_redo.proofs.Going.{fewer-none, fewer-through, on-ok, through}
+use Rattle.nq_redo.proofs.Going.{on-ok, through}
 use Rattle.nq_redo.proofs.change.put_synced.Goals as goal
 
 pub returns-clause-written : goal.returns-clause-written
@@ -13,13 +13,6 @@ returns-clause-leaves g c = λ old told only image left.
     (g.met.D.Disk.parts c.args.disk.now c.put_ranges.new.disk c.sync.new.self image c.put_ranges.ensures.follows c.sync.ensures.follows left)
     (c.put_ranges.ensures.leaves old told only image)
     (λ l. c.put_ranges.ensures.leaves old told only image (g.met.D.Disk.leaves_ends c.args.disk.now c.put_ranges.new.disk image c.put_ranges.ensures.follows (inr (c.sync.ensures.leaves image l))))
-
-pub returns-clause-long : goal.returns-clause-long
-returns-clause-long g c =
-    fewer-through (g.D.Disk.may_leave c.args.disk.now) (g.D.Disk.may_leave c.put_ranges.new.disk) (g.D.Disk.leaves c.args.disk.now c.put_ranges.new.disk) (g.D.Disk.leaves c.put_ranges.new.disk c.sync.new.self) (g.D.Disk.leaves c.args.disk.now c.sync.new.self)
-    (λ image left. g.met.D.Disk.parts c.args.disk.now c.put_ranges.new.disk c.sync.new.self image c.put_ranges.ensures.follows c.sync.ensures.follows left)
-    (λ image may. g.met.D.Disk.leaves_ends c.args.disk.now c.put_ranges.new.disk image c.put_ranges.ensures.follows (inr may))
-    (c.put_ranges.ensures.long) (fewer-none _ _ c.sync.ensures.leaves)
 
 pub returns-clause-silent : goal.returns-clause-silent
 returns-clause-silent g c = λ none. c.sync.ensures.same ∙ c.put_ranges.ensures.silent none

@@ -2,9 +2,9 @@ use Rattle.std.proofs.Common.{◌≡◌, ℕ, List, [], ◌∷◌, inr, subst}
 use Rattle.nq_disk.specs.Bytes.{Torn}
 use Rattle.nq_redo.specs.Ranges.{applied}
 use Rattle.nq_redo.specs.Record.{ranges_in}
-use Rattle.nq_redo.specs.Whole.{found}
+use Rattle.nq_redo.specs.Whole.{OpensAs}
 use Rattle.nq_redo.proofs.Changing.{when-closed, while-closing, while-written}
-use Rattle.nq_redo.proofs.Going.{fewer-through, on-ok, then-ok, then-writes, through}
+use Rattle.nq_redo.proofs.Going.{on-ok, then-ok, then-writes, through}
 use Rattle.nq_redo.proofs.change.settle.Goals as goal
 
 pub returns-in_err-put_synced-clause-leaves : goal.returns-in_err-put_synced-clause-leaves
@@ -26,17 +26,10 @@ returns-clause-leaves g c = λ old told only open_now same image left.
     let told_then = c.in_ok-put_synced.ensures.written old told in
     let so = c.put_synced.ensures.leaves old told only in
     let end = so (applied rs old) (g.met.D.Disk.leaves_ends c.args.disk.now c.put_synced.new.disk (applied rs old) c.put_synced.ensures.follows (inr (g.met.D.Disk.told_may_stay c.put_synced.new.disk (applied rs old) told_then))) in
-    through (λ (i : List ℕ). found c.args.area i ≡ found c.args.area old) _ _ image
+    through (OpensAs c.args.area old) _ _ image
     (g.met.D.Disk.parts c.args.disk.now c.put_synced.new.disk c.write_synced.new.disk image c.put_synced.ensures.follows c.write_synced.ensures.follows left)
     (λ l. while-written c.args.area c.requires rs old open_now same image (so image l))
     (λ l.
     let from = c.write_synced.ensures.leaves image l in
     let is_applied = c.in_ok-put_synced.ensures.settles (applied rs old) told_then from.0 from.1 in
     while-closing c.args.area c.requires rs old open_now same image end (subst (λ (i : List ℕ). Torn c.args.area.place 1 i image) is_applied from.2))
-
-pub returns-clause-long : goal.returns-clause-long
-returns-clause-long g c =
-    fewer-through (g.D.Disk.may_leave c.args.disk.now) (g.D.Disk.may_leave c.put_synced.new.disk) (g.D.Disk.leaves c.args.disk.now c.put_synced.new.disk) (g.D.Disk.leaves c.put_synced.new.disk c.write_synced.new.disk) (g.D.Disk.leaves c.args.disk.now c.write_synced.new.disk)
-    (λ image left. g.met.D.Disk.parts c.args.disk.now c.put_synced.new.disk c.write_synced.new.disk image c.put_synced.ensures.follows c.write_synced.ensures.follows left)
-    (λ image may. g.met.D.Disk.leaves_ends c.args.disk.now c.put_synced.new.disk image c.put_synced.ensures.follows (inr may))
-    (c.put_synced.ensures.long) (c.write_synced.ensures.long)

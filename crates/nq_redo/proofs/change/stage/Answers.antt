@@ -1,7 +1,7 @@
 use Rattle.std.proofs.Common.{◌≡◌, ◌+◌, ◌⊎◌, ℕ, List, [], ◌∷◌, ap, ◌∙◌, inl, inr, subst}
 use Rattle.nq_disk.specs.Bytes.{Torn, written}
 use Rattle.nq_disk.specs.Calling.{told_after}
-use Rattle.nq_redo.specs.Whole.{OpensAsOne, found, staged}
+use Rattle.nq_redo.specs.Whole.{OpensAs, OpensAsOne, staged}
 use Rattle.nq_redo.proofs.Changing.{while-opening, while-staging}
 use Rattle.nq_redo.proofs.Going.{on-ok, then-writes, through}
 use Rattle.nq_redo.proofs.change.stage.Goals as goal
@@ -19,7 +19,7 @@ returns-clause-staged g c = on-ok c.write_synced-2.result _ (λ is old told.
 pub returns-clause-leaves : goal.returns-clause-leaves
 returns-clause-leaves g c = λ old told short closed image left.
     let behind = written (c.args.area.place + 1) c.args.body.now old in
-    through (λ (i : List ℕ). OpensAsOne c.args.area (g.D.Disk.may_leave c.args.disk.now) i ⊎ (found c.args.area i ≡ found c.args.area (staged c.args.area c.args.body.now old))) _ _ image
+    through (λ (i : List ℕ). OpensAsOne c.args.area (g.D.Disk.may_leave c.args.disk.now) i ⊎ OpensAs c.args.area (staged c.args.area c.args.body.now old) i) _ _ image
     (g.met.D.Disk.parts c.args.disk.now c.write_synced.new.disk c.write_synced-2.new.disk image c.write_synced.ensures.follows c.write_synced-2.ensures.follows left)
     (λ l.
     let from = c.write_synced.ensures.leaves image l in

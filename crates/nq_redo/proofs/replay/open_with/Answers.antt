@@ -1,11 +1,11 @@
-use Rattle.std.proofs.Common.{inr, refl, sym, ◌∙◌}
+use Rattle.std.proofs.Common.{◌≤◌, arith, refl, sym, ◌∙◌}
 use Rattle.nq_redo.specs.Whole.{OpensAsOne}
-use Rattle.nq_redo.proofs.Going.{fewer-none, fewer-through, through}
+use Rattle.nq_redo.proofs.Going.{through}
 use Rattle.nq_redo.proofs.Replaying.{gate-read}
 use Rattle.nq_redo.proofs.replay.open_with.Goals as goal
 
 pub returns-in_err-len-clause-leaves : goal.returns-in_err-len-clause-leaves
-returns-in_err-len-clause-leaves g c = λ old told long image left. (image, c.read_record.ensures.leaves image left, refl)
+returns-in_err-len-clause-leaves g c = λ old told long image left. (image, c.read_record.ensures.leaves image left, (omega arith, refl))
 
 pub returns-in_err-len-clause-again : goal.returns-in_err-len-clause-again
 returns-in_err-len-clause-again g c = λ old told closed. c.read_record.ensures.same ∙ told
@@ -14,7 +14,7 @@ pub returns-clause-leaves : goal.returns-clause-leaves
 returns-clause-leaves g c = λ old told long image left.
     through (OpensAsOne c.args.area (g.D.Disk.may_leave c.args.disk.now)) _ _ image
     (g.met.D.Disk.parts c.args.disk.now c.read_record.new.disk c.replay.new.disk image c.read_record.ensures.follows c.replay.ensures.follows left)
-    (λ l. (image, c.read_record.ensures.leaves image l, refl))
+    (λ l. (image, c.read_record.ensures.leaves image l, (omega arith, refl)))
     (λ l. (old, g.met.D.Disk.told_may_stay c.args.disk.now old told, c.replay.ensures.leaves old (c.read_record.ensures.same ∙ told) (c.in_ok-len.ensures.settles old told) long (c.in_ok-len.ensures.long old told) (c.in_ok-len.ensures.record old told long) image l))
 
 pub returns-clause-opens : goal.returns-clause-opens
@@ -25,10 +25,3 @@ pub returns-clause-again : goal.returns-clause-again
 returns-clause-again g c = λ old told closed.
     c.replay.ensures.quiet (λ gate. closed.shut (sym (gate-read c.args.area c.requires.area old c.read_record.new.content closed.long (c.in_ok-len.ensures.record old told closed.long)) ∙ gate))
     ∙ c.read_record.ensures.same ∙ told
-
-pub returns-clause-long : goal.returns-clause-long
-returns-clause-long g c =
-    fewer-through (g.D.Disk.may_leave c.args.disk.now) (g.D.Disk.may_leave c.read_record.new.disk) (g.D.Disk.leaves c.args.disk.now c.read_record.new.disk) (g.D.Disk.leaves c.read_record.new.disk c.replay.new.disk) (g.D.Disk.leaves c.args.disk.now c.replay.new.disk)
-    (λ image left. g.met.D.Disk.parts c.args.disk.now c.read_record.new.disk c.replay.new.disk image c.read_record.ensures.follows c.replay.ensures.follows left)
-    (λ image may. g.met.D.Disk.leaves_ends c.args.disk.now c.read_record.new.disk image c.read_record.ensures.follows (inr may))
-    (fewer-none _ _ c.read_record.ensures.leaves) (c.replay.ensures.long)

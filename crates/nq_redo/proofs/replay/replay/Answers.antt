@@ -1,7 +1,6 @@
-use Rattle.std.proofs.Common.{◌≡◌, ◌≢◌, get_or, ap, ◌∙◌, arith}
+use Rattle.std.proofs.Common.{◌≡◌, ◌≢◌, get_or, ◌∙◌, arith}
 use Rattle.std.proofs.lemmas.Bool.Decides.{nat_tests}
-use Rattle.nq_redo.specs.Whole.{found}
-use Rattle.nq_redo.proofs.Replaying.{bad-read, closed-read, open-read, ranges-read}
+use Rattle.nq_redo.proofs.Replaying.{bad-read, closed-read, open-read, opens-itself, ranges-read}
 use Rattle.nq_redo.proofs.replay.replay.Goals as goal
 
 pub returns-then-content-ne1-clause-opens : goal.returns-then-content-ne1-clause-opens
@@ -10,7 +9,7 @@ returns-then-content-ne1-clause-opens g c = λ old told only long len_is read.
     closed-read c.args.area c.requires.area old c.args.content.now long read (g.D.Disk.told c.args.disk.now) (g.D.Disk.may_leave c.args.disk.now) shut told only
 
 pub returns-then-content-ne1-clause-leaves : goal.returns-then-content-ne1-clause-leaves
-returns-then-content-ne1-clause-leaves g c = λ old told only long len_is read image left. ap (found c.args.area) (only image (g.met.D.Disk.leaves_now c.args.disk.now image left))
+returns-then-content-ne1-clause-leaves g c = λ old told only long len_is read image left. opens-itself c.args.area old image (only image (g.met.D.Disk.leaves_now c.args.disk.now image left))
 
 pub returns-in-Some-clause-opens : goal.returns-in-Some-clause-opens
 returns-in-Some-clause-opens g c = λ old told only long len_is read.
@@ -18,7 +17,7 @@ returns-in-Some-clause-opens g c = λ old told only long len_is read.
     (bad-read c.args.area c.requires.area old c.args.content.now long read c.args.len c.in-Some.place gate len_is c.in-Some.ensures, told)
 
 pub returns-in-Some-clause-leaves : goal.returns-in-Some-clause-leaves
-returns-in-Some-clause-leaves g c = λ old told only long len_is read image left. ap (found c.args.area) (only image (g.met.D.Disk.leaves_now c.args.disk.now image left))
+returns-in-Some-clause-leaves g c = λ old told only long len_is read image left. opens-itself c.args.area old image (only image (g.met.D.Disk.leaves_now c.args.disk.now image left))
 
 pub returns-in_err-settle-clause-leaves : goal.returns-in_err-settle-clause-leaves
 returns-in_err-settle-clause-leaves g c = λ old told only long len_is read image left.

@@ -3,7 +3,7 @@ use Rattle.nq_disk.specs.Bytes.{written}
 use Rattle.nq_disk.specs.Calling.{Tears, told_after}
 use Rattle.nq_redo.specs.Ranges.{Range, Among, Settling, applied}
 use Rattle.nq_redo.specs.Record.{front_of, ranges_in}
-use Rattle.nq_redo.proofs.Going.{fewer-none, fewer-through, fewer-torn, ranges-none, ranges-step, step-settles, through, told-end, told-step}
+use Rattle.nq_redo.proofs.Going.{ranges-none, ranges-step, step-settles, through, told-end, told-step}
 use Rattle.nq_redo.proofs.Settling.{settling-none}
 use Rattle.nq_redo.proofs.steps.put_ranges.Goals as goal
 
@@ -16,7 +16,6 @@ loop-turn-init g c =
       leaves = λ old told only image left.
           subst (λ (i : List ℕ). Settling (ranges_in c.args.count c.args.bytes.now) old i) (sym (only image (g.met.D.Disk.leaves_now c.args.disk.now image left)))
           (settling-none (ranges_in c.args.count c.args.bytes.now) old);
-      long = fewer-none _ _ (λ image left. g.met.D.Disk.leaves_now c.args.disk.now image left);
       silent = λ none. none;
       told = λ old told. (old, told, ap (λ (n : ℕ). applied (ranges_in n c.args.bytes.now) old) all);
       among = λ range here. subst (λ (n : ℕ). Among (ranges_in n c.args.bytes.now) range) all here;
@@ -40,10 +39,6 @@ loop-turn-preserved g c =
           (so.among range (subst (λ (l : List Range). Among l range) (sym step) (inl refl)))
           (λ i may. so.leaves old told only i (g.met.D.Disk.leaves_ends c.args.disk.now c.loop-turn.disk i so.follows (inr may)))
           c.write_at.ensures.leaves image);
-      long = fewer-through (g.D.Disk.may_leave c.args.disk.now) (g.D.Disk.may_leave c.loop-turn.disk) (g.D.Disk.leaves c.args.disk.now c.loop-turn.disk) (g.D.Disk.leaves c.loop-turn.disk c.write_at.new.self) (g.D.Disk.leaves c.args.disk.now c.write_at.new.self)
-          (λ image left. g.met.D.Disk.parts c.args.disk.now c.loop-turn.disk c.write_at.new.self image so.follows c.write_at.ensures.follows left)
-          (λ image may. g.met.D.Disk.leaves_ends c.args.disk.now c.loop-turn.disk image so.follows (inr may))
-          so.long (fewer-torn _ _ _ _ c.write_at.ensures.leaves);
       silent = λ none. c.in_ok-write_at-in-Some.ensures.writes ∙ ap (told_after range.place range.bytes) (so.silent none);
       told = λ old told.
           let t = so.told old told in (
@@ -74,20 +69,6 @@ pub returns-in-None-clause-written : goal.returns-in-None-clause-written
 returns-in-None-clause-written g c = λ old told.
     let t = c.loop-turn.invariant.told old told in
     t.1 ∙ ap Some (told-end (ranges_in (c.args.count - c.loop-turn._turn) c.loop-turn.rest.now) old t.0 (ranges_in c.args.count c.args.bytes.now) (ranges-none (c.args.count - c.loop-turn._turn) c.loop-turn.rest.now c.in-None.ensures) t.2)
-
-pub returns-in_err-write_at-in-Some-clause-long : goal.returns-in_err-write_at-in-Some-clause-long
-returns-in_err-write_at-in-Some-clause-long g c =
-    let so = c.loop-turn.invariant in
-    fewer-through (g.D.Disk.may_leave c.args.disk.now) (g.D.Disk.may_leave c.loop-turn.disk) (g.D.Disk.leaves c.args.disk.now c.loop-turn.disk) (g.D.Disk.leaves c.loop-turn.disk c.write_at.new.self) (g.D.Disk.leaves c.args.disk.now c.write_at.new.self)
-    (λ image left. g.met.D.Disk.parts c.args.disk.now c.loop-turn.disk c.write_at.new.self image so.follows c.write_at.ensures.follows left)
-    (λ image may. g.met.D.Disk.leaves_ends c.args.disk.now c.loop-turn.disk image so.follows (inr may))
-    so.long (fewer-torn _ _ _ _ c.write_at.ensures.leaves)
-
-pub returns-after-loop-turn-clause-long : goal.returns-after-loop-turn-clause-long
-returns-after-loop-turn-clause-long g c = c.loop-turn.invariant.long
-
-pub returns-in-None-clause-long : goal.returns-in-None-clause-long
-returns-in-None-clause-long g c = c.loop-turn.invariant.long
 
 pub returns-in_err-write_at-in-Some-clause-silent : goal.returns-in_err-write_at-in-Some-clause-silent
 returns-in_err-write_at-in-Some-clause-silent g c =

@@ -1,7 +1,7 @@
 use Rattle.std.proofs.Common.{◌≡◌, ◌-◌, ℕ, List, Some}
 use Rattle.nq_redo.specs.Ranges.{Range, Among, Settling, applied}
 use Rattle.nq_redo.specs.Record.{ranges_in}
-use Rattle.nq_redo.specs.Saying.{Each, LeavesNoFewer, Only, StaysSilent}
+use Rattle.nq_redo.specs.Saying.{Each, Only, StaysSilent}
 use Rattle.nq_redo.proofs.steps.put_ranges.Given as goal
 
 abbrev pub invariant-loop-turn : goal.invariant-loop-turn
@@ -9,7 +9,6 @@ invariant-loop-turn g l = record {
   follows : g.D.Disk.follows l.fn.disk l.disk;
   faults : g.D.Disk.faults l.disk ≡ g.D.Disk.faults l.fn.disk;
   leaves : (old : List ℕ) → g.D.Disk.told l.fn.disk ≡ Some old → Only old (g.D.Disk.may_leave l.fn.disk) → Each (g.D.Disk.leaves l.fn.disk l.disk) (Settling (ranges_in l.count l.bytes) old);
-  long : LeavesNoFewer (g.D.Disk.may_leave l.fn.disk) (g.D.Disk.leaves l.fn.disk l.disk);
   silent : StaysSilent (g.D.Disk.told l.fn.disk) (g.D.Disk.told l.disk);
   told : (old : List ℕ) → g.D.Disk.told l.fn.disk ≡ Some old → (now : List ℕ) × (g.D.Disk.told l.disk ≡ Some now) × (applied (ranges_in (l.count - l._turn) l.rest) now ≡ applied (ranges_in l.count l.bytes) old);
   among : (range : Range) → Among (ranges_in (l.count - l._turn) l.rest) range → Among (ranges_in l.count l.bytes) range;

@@ -1,7 +1,7 @@
 use Rattle.std.proofs.Common.{◌+◌, ◌≤◌, ℕ, List, Result, length, ap, sym, subst, ◌∙◌, inl, inr}
 use Rattle.nq_redo.specs.Record.{ranges_in}
 use Rattle.nq_redo.specs.Whole.{Settled}
-use Rattle.nq_redo.proofs.Batching.{as-after, as-open, as-ranges}
+use Rattle.nq_redo.proofs.Batching.{as-after, as-long, as-open, as-ranges}
 use Rattle.nq_redo.proofs.Going.{on-ok, then-ok}
 use Rattle.nq_redo.proofs.redo.Redo.apply.Goals as goal
 
@@ -28,5 +28,8 @@ returns-clause-whole g c = λ old told closed fit image left.
     let ranges = as-ranges area c.requires rs c.count.ensures.fits old shut fit c.body.result.now spells c.count.result c.ranges-2.result.now same in
     elim (c.change.ensures.leaves old told (subst (λ (b : List ℕ). length b + 1 ≤ area.size) (sym spells) fit.short) closed open_now ranges image left) [
       | inl before ↦ inl before
-      | inr behind ↦ inr (behind ∙ as-after area c.requires rs c.count.ensures.fits old shut fit c.body.result.now spells)
+      | inr behind ↦ inr (
+        as-long area c.requires rs c.count.ensures.fits old shut fit c.body.result.now spells image behind.0,
+        behind.1 ∙ as-after area c.requires rs c.count.ensures.fits old shut fit c.body.result.now spells,
+      )
     ]
