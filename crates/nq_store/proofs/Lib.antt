@@ -1,3 +1,7 @@
-pub mod Faults
+mod Faults
 mod Sought
 mod Rows
+mod Cited
+mod Zeroing
+mod Keeping
+mod Committing

@@ -1,17 +1,19 @@
 -- A store as contracts see it.
-use Rattle.std.specs.Prelude.{◌≡◌, ◌≤◌, ◌^◌, ℕ, ◌+◌, ◌-◌, Bool, true, false, List, Option, Some, None, Result, Ok, Err, count_by, is_some, length, min, sum_by, if◌then◌else◌}
+use Rattle.std.specs.Prelude.{◌≡◌, ◌⊎◌, ◌≤◌, All, ◌^◌, ℕ, ◌+◌, ◌-◌, Bool, true, false, List, Option, Some, None, Result, Ok, Err, count_by, is_some, length, min, sum_by, if◌then◌else◌}
 use Rattle.std.specs.Option.{ForSome}
 use Rattle.nq_base.specs.declared.Space.{Space}
 use Rattle.nq_io.specs.Faults.{Rose, count_up}
-use Rattle.nq_image.specs.Standing.{Standing, row_blocks}
+use Rattle.nq_image.specs.Standing.{Agree, IsFree, Standing, Stands, kept_at, row_blocks}
 use Rattle.nq_keeper.specs.declared.KeepFault.{KeepFault}
 use Rattle.nq_keeper.specs.declared.KeepFault.TheVariants.{Failed, Memory}
 use Rattle.nq_keeper.specs.StoredKeeper.{is_within}
 use Rattle.nq_format.specs.Standing.{image_area, stands_as}
+use Rattle.nq_model.specs.Change.{IsWithinBounds}
 use Rattle.nq_model.specs.Kept.{Kept}
 use Rattle.nq_plan.specs.Held.{HeldTables, IsHeldOf}
 use Rattle.nq_redo.specs.Saying.{Only}
-use Rattle.nq_redo.specs.Whole.{IsClosed}
+use Rattle.nq_redo.specs.Ranges.{Range}
+use Rattle.nq_redo.specs.Whole.{IsClosed, OpensAfter, OpensAs}
 
 -- the disk, what is in memory of its image, whether a change failed, and how many calls were refused since
 pub record StoredStore (D : Type 0) : Type 0 where
@@ -59,11 +61,12 @@ content_while false told = kept_told told
 abbrev pub content_of : {D : Type 0} → (D → Option (List ℕ)) → StoredStore D → Option Kept
 content_of told store = content_while store.ended (told store.disk)
 
--- the tables in memory are those of the image that these bytes are, its record is closed, and a stop leaves nothing else
+-- the tables in memory are those of the image that these bytes are, whose record is closed, and a stop leaves nothing else
 pub record IsKeptOn (held : HeldTables) (may_leave : List ℕ → Type 0) (bytes : List ℕ) : Type 0 where
   pub is_held : IsHeldOf bytes held
   pub closed : IsClosed image_area bytes
   pub alone : Only bytes may_leave
+  pub within : IsWithinBounds (kept_at bytes held.standing)
 
 -- until a change fails, the tables in memory are those of the image on the disk, where the disk tells its bytes
 abbrev pub IsSound : (told : Option (List ℕ)) → (may_leave : List ℕ → Type 0) → HeldTables → (ended : Bool) → Type 0
@@ -72,6 +75,22 @@ IsSound told may_leave held ended = ended ≡ false → ForSome told (IsKeptOn h
 -- what a stop leaves, as it is found again
 abbrev pub LeavesKept : (List ℕ → Type 0) → Option Kept → Type 0
 LeavesKept leaves found = (bytes : List ℕ) × leaves bytes × (found ≡ kept_on bytes)
+
+-- an image is all that a stop leaves, its record is closed, and no file has these blocks
+pub record IsReady (s : Standing) (blocks : List ℕ) (may_leave : List ℕ → Type 0) (bytes : List ℕ) : Type 0 where
+  pub stands : Stands bytes s
+  pub closed : IsClosed image_area bytes
+  pub alone : Only bytes may_leave
+  pub free : All (IsFree s) blocks
+
+-- another image is the same wherever something stands, and its record is closed
+pub record StandsStill (s : Standing) (bytes image : List ℕ) : Type 0 where
+  pub agree : Agree s bytes image
+  pub closed : IsClosed image_area image
+
+-- what a stop leaves opens as an image where the same stands, or as a disk after these ranges were written
+abbrev pub OpensWhole : (s : Standing) (ranges : List Range) (old zeroed image : List ℕ) → Type 0
+OpensWhole s ranges old zeroed image = ((mid : List ℕ) × StandsStill s old mid × OpensAs image_area mid image) ⊎ OpensAfter image_area ranges zeroed image
 
 -- a store as it is opened: no change failed, and no call was refused
 pub record IsFresh {D : Type 0} (store : StoredStore D) : Type 0 where

@@ -6,6 +6,7 @@ mod loading;
 mod migrating;
 mod opening;
 mod store;
+mod writing;
 
 pub use fault::OpenFault;
 pub use nq_format::format;

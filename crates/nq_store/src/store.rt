@@ -1,29 +1,33 @@
 //! What a server keeps, on a disk.
 
-ghost use Rattle.std.specs.Prelude.{◌≡◌, ◌≤◌, ◌<◌, IfOk, OnOk, slice_index_or};
+ghost use Rattle.std.specs.Prelude.{◌≡◌, ◌≤◌, ◌<◌, ℕ, List, All, IfOk, OnOk, length, slice_index_or};
 ghost use Rattle.std.specs.Option.{ForSome};
 ghost use Rattle.nq_keeper.specs.Keeping.{Commits, LeavesOne, LeavesTwo, NamesHost, Reads, body_at};
 ghost use Rattle.nq_model.specs.Change.{Fits, HasBlock, IsChangeWithin, file_after, heads_of, row_of_found, space_of};
 ghost use Rattle.nq_model.specs.Kept.{find_file, find_name, fresh_row, host_row};
 ghost use Rattle.nq_model.specs.Profile.{most_hosts};
+ghost use Rattle.nq_image.specs.Bounds.{AreBytes};
+ghost use Rattle.nq_image.specs.Kept.{body_in};
 ghost use Rattle.nq_plan.specs.Finding.{row_behind, row_named, row_of};
-ghost use Rattle.nq_plan.specs.Settling.{settled};
-ghost use Rattle.nq_disk.specs.Calling.{Counts};
-ghost use Rattle.nq_format.specs.Standing.{image_area};
+ghost use Rattle.nq_plan.specs.Placing.{IsPlacedFor};
+ghost use Rattle.nq_plan.specs.Ranges.{ranges_of};
 ghost use Rattle.nq_store.specs.Laws.{goes-further, goes-itself, goes-rising, leaves-parts, may-leave, told-is-within};
 ghost use Rattle.nq_store.specs.Opening.{AnswersOpen, FollowsOpen};
-ghost use Rattle.nq_store.specs.Storing.{CountsKeep, GoesOn, IsFresh, LeavesKept, after_asking, answered, asked, content_of, faults_of, refusals, space_in};
+ghost use Rattle.nq_store.specs.Storing.{GoesOn, IsFresh, IsSound, LeavesKept, after_asking, answered, content_of, faults_of, space_in};
 
 use crate::fault::OpenFault;
 use crate::opening::{open_record, open_tables};
+use crate::writing::{carry_out, fresh_blocks, read_body};
 use nq_base::{Block, BlockNo, Change, FileId, FileRow, Heads, Host, HostRow, Name, Space};
 use nq_disk::{Disk, DiskFault};
-use nq_image::block_place;
 use nq_keeper::{KeepFault, Keeper};
-use nq_plan::{Placed, Plan, Tables};
+use nq_plan::{Plan, Tables};
 use nq_redo::Redo;
 use std::alloc::Global;
 use std::marker::Model;
+
+/// A block of zeros.
+const ZEROS: [u8; Block::SIZE] = [0; Block::SIZE];
 
 /// What a server keeps, on a disk. The rows and tables are in memory; the bodies of the blocks are read from the disk. Contracts
 /// see the disk, the tables, whether a change failed, and how many calls were refused since.
@@ -48,66 +52,6 @@ impl<D: Disk> Model for Store<D> {
     ghost view = { λ s. record { disk = s.redo.disk; tables = s.tables; ended = s.ended; refused = s.refused } };
 
     ghost invariant = { λ s. (s.redo.area ≡ image_area) × IsSound (D.told s.redo.disk) (D.may_leave s.redo.disk) s.tables s.ended };
-}
-
-/// Reads the body of a physical block. What the disk does not hold of it is zeros.
-fn read_body<D: Disk>(disk: &mut D, alloc: Global, block: u32) -> Result<Block, KeepFault>
-    ensures cause { CountsKeep result (D.faults disk.old) (D.faults disk.new) }
-    ensures follows { D.follows disk.old disk.new }
-{
-    let mut bytes = [0; Block::SIZE];
-    let read = disk.read(block_place(block), &mut bytes);
-    if let Err(DiskFault::Failed) = read {
-        return Err(KeepFault::Failed);
-    }
-    match Block::from_bytes(alloc, &bytes) {
-        Ok(Some(body)) => Ok(body),
-        Ok(None) => Ok(Block::fill(0)),
-        Err(_) => Err(KeepFault::Memory),
-    }
-}
-
-/// Writes zeros over the blocks that a file gets.
-fn write_zeros<D: Disk>(disk: &mut D, blocks: &[u32]) -> Result<(), DiskFault>
-    ensures cause { Counts result (D.faults disk.old) (D.faults disk.new) }
-    ensures follows { D.follows disk.old disk.new }
-{
-    for block in blocks {
-        disk.write_at(block_place(*block), &[0; Block::SIZE])?;
-    }
-    Ok(())
-}
-
-/// The blocks that a file gets by a change; none where the change has no file.
-fn fresh_blocks(placed: &Option<Placed>) -> &[u32] {
-    match placed {
-        Some(placed) => placed.fresh(),
-        None => &[],
-    }
-}
-
-/// Writes zeros over the blocks that a file gets, and then the ranges of a change, whole or not at all. The first sync of the
-/// change settles the zeros.
-fn carry_out<D: Disk>(redo: &mut Redo<D>, plan: &Plan) -> Result<(), DiskFault>
-    requires { redo.old.area ≡ image_area }
-    ensures area { redo.new.area ≡ image_area }
-    ensures cause { Counts result (D.faults redo.old.disk) (D.faults redo.new.disk) }
-    ensures follows { D.follows redo.old.disk redo.new.disk }
-{
-    write_zeros(&mut redo.disk, fresh_blocks(&plan.placed))?;
-    redo.apply(&plan.batch)
-}
-
-/// Whether a store answers; it refuses each call once a change failed.
-fn ask(ended: bool, refused: &mut u64) -> Result<(), KeepFault>
-    ensures answer { result ≡ asked ended }
-    ensures refused { refused.new ≡ refusals ended refused.old }
-{
-    if ended {
-        *refused = refused.saturating_add(1);
-        return Err(KeepFault::Failed);
-    }
-    Ok(())
 }
 
 impl<D: Disk + Drop> Store<D> {
@@ -152,17 +96,52 @@ impl<D: Disk + Drop> Store<D> {
         disk
     }
 
+    /// Gives an answer out of memory; once a change failed, each call is refused, and the refusals are counted.
+    fn tell<X: Drop>(&mut self, answer: X) -> Result<X, KeepFault>
+        ensures answer { result ≡ answered self.old.ended answer }
+        ensures store { self.new ≡ after_asking self.old }
+        ensures sound { IsSound (D.told self.old.disk) (D.may_leave self.old.disk) self.old.tables self.old.ended }
+        ensures reads { Reads result (content_of D.told self.old) (content_of D.told self.new) (faults_of D.faults self.old) (faults_of D.faults self.new) }
+        ensures follows { GoesOn D.follows self.old self.new }
+        ensures leaves { LeavesOne (content_of D.told self.old) (LeavesKept (D.leaves self.old.disk self.new.disk)) }
+    {
+        if self.ended {
+            self.refused = self.refused.saturating_add(1);
+            return Err(KeepFault::Failed);
+        }
+        Ok(answer)
+    }
+
+    /// The body of a physical block that a file has.
+    fn read_block(&mut self, block: u32) -> Result<Block, KeepFault>
+        requires { self.old.ended ≡ false }
+        ensures told { ForSome (content_of D.told self.old) (λ kept. (body : List ℕ) → length body ≡ 4096 → ForSome (D.told self.old.disk) (λ bytes. body_in bytes block ≡ body → IfOk result (λ read. read ≡ body))) }
+        ensures sound { IsSound (D.told self.old.disk) (D.may_leave self.old.disk) self.old.tables self.old.ended }
+        ensures reads { Reads result (content_of D.told self.old) (content_of D.told self.new) (faults_of D.faults self.old) (faults_of D.faults self.new) }
+        ensures follows { GoesOn D.follows self.old self.new }
+        ensures leaves { LeavesOne (content_of D.told self.old) (LeavesKept (D.leaves self.old.disk self.new.disk)) }
+    {
+        read_body(&mut self.redo.disk, self.alloc, block)
+    }
+
     /// Writes what was planned of a change, and brings the tables up to it.
     fn keep(&mut self, change: &Change, plan: Plan) -> Result<(), KeepFault>
         requires host { NamesHost change.now }
-        requires within { ForSome plan.placed (λ p. p.file.slot < 256) }
-        ensures kept { OnOk result (self.new.tables ≡ settled self.old.tables change.now plan.placed) }
-        ensures ended { OnOk result (self.new.ended ≡ self.old.ended) }
-        ensures same { self.new.refused ≡ self.old.refused }
-        ensures cause { CountsKeep result (D.faults self.old.disk) (D.faults self.new.disk) }
-        ensures follows { D.follows self.old.disk self.new.disk }
+        requires goes_on { self.old.ended ≡ false }
+        requires placed { IsPlacedFor self.old.tables change.now.file plan.placed }
+        requires ranges { plan.batch ≡ ranges_of self.old.tables.standing change.now plan.placed }
+        requires fits { ForSome (content_of D.told self.old) (λ kept. Fits kept change.now) }
+        requires within { ForSome (content_of D.told self.old) (λ kept. IsChangeWithin kept change.now) }
+        ensures commits { Commits result change.now (content_of D.told self.old) (content_of D.told self.new) (faults_of D.faults self.old) (faults_of D.faults self.new) }
+        ensures follows { GoesOn D.follows self.old self.new }
+        ensures leaves { LeavesTwo change.now (content_of D.told self.old) (LeavesKept (D.leaves self.old.disk self.new.disk)) }
     {
-        let written = carry_out(&mut self.redo, &plan);
+        let written = carry_out(
+            &mut self.redo,
+            fresh_blocks(&plan.placed),
+            &plan.batch,
+            &ZEROS,
+        );
         if let Err(DiskFault::Failed) = written {
             self.ended = true;
             return Err(KeepFault::Failed);
@@ -193,8 +172,8 @@ impl<D: Disk + Drop> Keeper for Store<D> {
         ensures answer { result ≡ answered self.old.ended (row_of self.old.tables.standing id) }
         ensures store { self.new ≡ after_asking self.old }
     {
-        ask(self.ended, &mut self.refused)?;
-        Ok(self.tables.row(id))
+        let row = self.tables.row(id);
+        self.tell(row)
     }
 
     fn by_name(&mut self, name: &Name) -> Result<Option<FileRow>, KeepFault>
@@ -208,8 +187,8 @@ impl<D: Disk + Drop> Keeper for Store<D> {
         ensures answer { result ≡ answered self.old.ended (row_named self.old.tables.standing name.now) }
         ensures store { self.new ≡ after_asking self.old }
     {
-        ask(self.ended, &mut self.refused)?;
-        Ok(self.tables.row_named(name))
+        let row = self.tables.row_named(name);
+        self.tell(row)
     }
 
     fn next_file(&mut self, after: FileId) -> Result<Option<FileRow>, KeepFault>
@@ -223,8 +202,8 @@ impl<D: Disk + Drop> Keeper for Store<D> {
         ensures answer { result ≡ answered self.old.ended (row_behind self.old.tables.standing after) }
         ensures store { self.new ≡ after_asking self.old }
     {
-        ask(self.ended, &mut self.refused)?;
-        Ok(self.tables.row_behind(after))
+        let row = self.tables.row_behind(after);
+        self.tell(row)
     }
 
     fn host(&mut self, host: Host) -> Result<HostRow, KeepFault>
@@ -240,8 +219,8 @@ impl<D: Disk + Drop> Keeper for Store<D> {
         ensures answer { result ≡ answered self.old.ended (slice_index_or self.old.tables.standing.hosts host fresh_row) }
         ensures store { self.new ≡ after_asking self.old }
     {
-        ask(self.ended, &mut self.refused)?;
-        Ok(self.tables.host(host))
+        let row = self.tables.host(host);
+        self.tell(row)
     }
 
     fn heads(&mut self) -> Result<Heads, KeepFault>
@@ -255,8 +234,8 @@ impl<D: Disk + Drop> Keeper for Store<D> {
         ensures answer { result ≡ answered self.old.ended (self.old.tables.standing.heads) }
         ensures store { self.new ≡ after_asking self.old }
     {
-        ask(self.ended, &mut self.refused)?;
-        Ok(self.tables.heads())
+        let heads = self.tables.heads();
+        self.tell(heads)
     }
 
     fn space(&mut self) -> Result<Space, KeepFault>
@@ -270,8 +249,8 @@ impl<D: Disk + Drop> Keeper for Store<D> {
         ensures answer { result ≡ answered self.old.ended (space_in self.old.tables.standing) }
         ensures store { self.new ≡ after_asking self.old }
     {
-        ask(self.ended, &mut self.refused)?;
-        Ok(self.tables.space())
+        let space = self.tables.space();
+        self.tell(space)
     }
 
     fn block(&mut self, id: FileId, block: BlockNo) -> Result<Block, KeepFault>
@@ -283,10 +262,13 @@ impl<D: Disk + Drop> Keeper for Store<D> {
         ensures follows { GoesOn D.follows self.old self.new }
         ensures leaves { LeavesOne (content_of D.told self.old) (LeavesKept (D.leaves self.old.disk self.new.disk)) }
     {
-        ask(self.ended, &mut self.refused)?;
-        match self.tables.physical(id, block) {
-            Some(physical) => read_body(&mut self.redo.disk, self.alloc, physical),
-            None => Ok(Block::fill(0)),
+        let physical = self.tables.physical(id, block);
+        if self.ended {
+            return self.tell(Block::fill(0));
+        }
+        match physical {
+            Some(physical) => self.read_block(physical),
+            None => self.tell(Block::fill(0)),
         }
     }
 
@@ -300,12 +282,13 @@ impl<D: Disk + Drop> Keeper for Store<D> {
         ensures follows { GoesOn D.follows self.old self.new }
         ensures leaves { LeavesTwo change (content_of D.told self.old) (LeavesKept (D.leaves self.old.disk self.new.disk)) }
     {
-        ask(self.ended, &mut self.refused)?;
-        let plan = match self.tables.plan(self.alloc, &change) {
-            Ok(plan) => plan,
-            Err(_) => return Err(KeepFault::Memory),
-        };
-        self.keep(&change, plan)
+        if self.ended {
+            return self.tell(());
+        }
+        match self.tables.plan(self.alloc, &change) {
+            Ok(plan) => self.keep(&change, plan),
+            Err(_) => Err(KeepFault::Memory),
+        }
     }
 
     fn pause(&self)
