@@ -4,7 +4,7 @@ use Rattle.std.specs.Prelude.{replicate}
 use Rattle.std.proofs.Math.Seq.{drop-append-add}
 use Rattle.std.proofs.lemmas.List.{append-nil, drop_at, take_at, length-replicate}
 use Rattle.nq_disk.specs.Bytes.{written}
-use Rattle.nq_format.specs.Nothing.{zeros_of}
+use Rattle.nq_image.specs.Writing.{zeros_of}
 use Rattle.nq_redo.specs.Record.{blanked, opened, record_at, replayed, wrong_field}
 use Rattle.nq_redo.specs.Whole.{found}
 use Rattle.nq_redo.specs.declared.Area.{Area}

@@ -7,13 +7,16 @@ use Rattle.nq_disk.specs.Bytes.{written}
 use Rattle.nq_disk.specs.Calling.{IsAllThatIsLeft, told_after}
 use Rattle.nq_disk.specs.declared.DiskFault.{DiskFault}
 use Rattle.nq_image.specs.Kept.{opened}
-use Rattle.nq_format.specs.Nothing.{first_of_nothing, zeros_of}
+use Rattle.nq_image.specs.Nothing.{first_of_nothing}
+use Rattle.nq_image.specs.Writing.{zeros_of}
 use Rattle.nq_image.specs.Whole.{has_image_name}
 use Rattle.nq_redo.specs.Record.{blanked}
 use Rattle.nq_redo.specs.Saying.{Each}
 use Rattle.nq_redo.specs.Whole.{found}
 use Rattle.nq_format.proofs.Blank.{blanked-zeros, found-as-is, written-on}
-use Rattle.nq_format.proofs.Reading.{in-three, length-zeros, named-so, nothing-opens, zeros-join}
+use Rattle.nq_image.proofs.Emptying.{nothing-opens, zeros-join}
+use Rattle.nq_image.proofs.ReadBack.{length-zeros}
+use Rattle.nq_format.proofs.Reading.{in-three, named-so}
 use Rattle.nq_format.specs.Formatted.{StandsForNothing, TellsNothing}
 use Rattle.nq_format.specs.Standing.{begins_as_image, image_area, settled_as, stands_as}
 

@@ -1,7 +1,7 @@
 -- A disk on which nothing is kept.
 use Rattle.std.specs.Prelude.{◌≡◌, ℕ, List, Option, Some, Ok}
 use Rattle.nq_format.specs.Standing.{stands_as}
-use Rattle.nq_format.specs.Nothing.{nothing_kept}
+use Rattle.nq_image.specs.Nothing.{nothing_kept}
 
 -- bytes stand for the kept state of a server that never booted
 abbrev pub StandsForNothing : List ℕ → Type 0

@@ -1,3 +1,2 @@
-pub mod Nothing
 pub mod Standing
 pub mod Formatted

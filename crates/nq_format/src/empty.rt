@@ -4,7 +4,7 @@ ghost use Rattle.std.specs.Prelude.{◌≡◌, ◌*◌, ◌<◌, ◌++◌, Some,
 ghost use Rattle.std.specs.Option.{ForSome};
 ghost use Rattle.nq_disk.specs.Calling.{Counts};
 ghost use Rattle.nq_format.specs.Formatted.{StandsForNothing, TellsNothing};
-ghost use Rattle.nq_format.specs.Nothing.{zeros_of};
+ghost use Rattle.nq_image.specs.Writing.{zeros_of};
 ghost use Rattle.nq_redo.specs.Saying.{Each};
 
 use nq_disk::{Disk, DiskFault};

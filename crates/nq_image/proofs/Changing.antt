@@ -163,7 +163,7 @@ ids-later next later place known (slot ∷ slots) rest le h = (
   ids-later next later (place + 4) (known ++ word_in 0 rest ∷ []) slots (drop 4 rest) le h.1,
 )
 
-first-id : (front : List ℕ) (f : Front) → Hold (front_checks front) → front_of front ≡ f → 1 ≤ f.next
+pub first-id : (front : List ℕ) (f : Front) → Hold (front_checks front) → front_of front ≡ f → 1 ≤ f.next
 unfolding front_of
 first-id front f hold is =
     let e : word_in 20 front ≡ f.next = ap (λ (x : Front). x.next) is in

@@ -3,29 +3,29 @@ pub mod KeptWalks
 pub mod Names
 pub mod Places
 pub mod Walks
-mod Holding
-mod Filing
-mod Giving
-mod Within
-mod ReadBack
-mod FileRows
-mod Tabling
-mod Bodying
-mod Imaging
+pub mod Holding
+pub mod Filing
+pub mod Giving
+pub mod Within
+pub mod ReadBack
+pub mod FileRows
+pub mod Tabling
+pub mod Bodying
+pub mod Imaging
 pub mod Emptying
-mod Pieces
-mod Parting
-mod Gathering
-mod Agreeing
-mod Changing
-mod Rowing
-mod Numbering
-mod Allotting
-mod Replacing
-mod Placing
-mod Sorting
-mod Retaining
-mod Entering
-mod Finding
-mod Owning
-mod Overwriting
+pub mod Pieces
+pub mod Parting
+pub mod Gathering
+pub mod Agreeing
+pub mod Changing
+pub mod Rowing
+pub mod Numbering
+pub mod Allotting
+pub mod Replacing
+pub mod Placing
+pub mod Sorting
+pub mod Retaining
+pub mod Entering
+pub mod Finding
+pub mod Owning
+pub mod Overwriting

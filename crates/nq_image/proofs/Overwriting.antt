@@ -20,20 +20,20 @@ use Rattle.nq_image.proofs.Replacing.{held-all, other-held}
 
 -- ---- blocks beside one another
 
-apart-blocks : (a b : ℕ) → a ≢ b → (block_place a + 4096 ≤ block_place b) ⊎ (block_place b + 4096 ≤ block_place a)
+pub apart-blocks : (a b : ℕ) → a ≢ b → (block_place a + 4096 ≤ block_place b) ⊎ (block_place b + 4096 ≤ block_place a)
 apart-blocks a b ne = elim (cases_lt a b) [
   | inl lt ↦ inl (omega (arith, lt))
   | inr le ↦ let lt : b < a = omega (arith, le, ne) in inr (omega (arith, lt))
 ]
 
-of-tables : (tables n block : ℕ) → n < 257 → tables + n ≡ block → is_of_tables tables block ≡ true
+pub of-tables : (tables n block : ℕ) → n < 257 → tables + n ≡ block → is_of_tables tables block ≡ true
 of-tables tables n block lt is = and-two (nat_le tables block) (nat_lt block (tables + 257)) (le-true tables tables block refl (omega (arith, is))) (lt-true block block (tables + 257) refl (omega (arith, lt, is)))
 
-not-tables : (tables n block : ℕ) → n < 257 → is_of_tables tables block ≡ false → tables + n ≢ block
+pub not-tables : (tables n block : ℕ) → n < 257 → is_of_tables tables block ≡ false → tables + n ≢ block
 not-tables tables n block lt apart is = let there = of-tables tables n block lt is in cc
 
 -- a block beside one that is written
-block-beside : (a b : ℕ) (part bytes : List ℕ) → a ≢ b → length part ≡ 4096 → block_place b ≤ length bytes → block_place a + 4096 ≤ length bytes → body_in (overwritten (block_place b) part bytes) a ≡ body_in bytes a
+pub block-beside : (a b : ℕ) (part bytes : List ℕ) → a ≢ b → length part ≡ 4096 → block_place b ≤ length bytes → block_place a + 4096 ≤ length bytes → body_in (overwritten (block_place b) part bytes) a ≡ body_in bytes a
 block-beside a b part bytes ne long begins whole = by (apart-blocks a b ne)
   where
     by : (block_place a + 4096 ≤ block_place b) ⊎ (block_place b + 4096 ≤ block_place a) → body_in (overwritten (block_place b) part bytes) a ≡ body_in bytes a
@@ -41,7 +41,7 @@ block-beside a b part bytes ne long begins whole = by (apart-blocks a b ne)
     by (inr after) = piece-beside (block_place a) 4096 (block_place b) part bytes begins whole (inr (omega (arith, after, long)))
 
 -- a block behind a part that ends before the blocks
-block-behind : (a place : ℕ) (part bytes : List ℕ) → place + length part ≤ 40960 → 40960 ≤ length bytes → block_place a + 4096 ≤ length bytes → body_in (overwritten place part bytes) a ≡ body_in bytes a
+pub block-behind : (a place : ℕ) (part bytes : List ℕ) → place + length part ≤ 40960 → 40960 ≤ length bytes → block_place a + 4096 ≤ length bytes → body_in (overwritten place part bytes) a ≡ body_in bytes a
 block-behind a place part bytes fits long whole = piece-beside (block_place a) 4096 place part bytes (omega (arith, fits, long)) whole (inr (omega (arith, fits)))
 
 -- ---- a table
@@ -51,20 +51,20 @@ unfolding entries_of
 length-entries [] = refl
 length-entries (block ∷ blocks) = omega (arith, length-entries blocks)
 
-length-of-table : (blocks : List ℕ) → length blocks ≤ 1024 → length (table_of_blocks blocks) ≡ 4096
+pub length-of-table : (blocks : List ℕ) → length blocks ≤ 1024 → length (table_of_blocks blocks) ≡ 4096
 unfolding table_of_blocks
 length-of-table blocks short = omega (arith, short, length-entries blocks, length-zeros (4096 - 4 * length blocks), length-append (entries_of blocks) (zeros_of (4096 - 4 * length blocks)))
 
 -- ---- one range
 
 module _ (bytes : List ℕ) (s : Standing) (stands : Stands bytes s) where
-  long-enough : 40960 ≤ length bytes
+  pub long-enough : 40960 ≤ length bytes
   long-enough = let image = parts-of bytes (found_of s) stands.found in image.begins.long
 
-  whole-tables : (n : ℕ) → n < 257 → block_place (s.tables + n) + 4096 ≤ length bytes
+  pub whole-tables : (n : ℕ) → n < 257 → block_place (s.tables + n) + 4096 ≤ length bytes
   whole-tables n lt = let image = parts-of bytes (found_of s) stands.found in let whole = image.parts.ids_whole in omega (arith, whole, lt)
 
-  whole-bodies : All (IsHeld (length bytes)) (blocks_in s.rows)
+  pub whole-bodies : All (IsHeld (length bytes)) (blocks_in s.rows)
   whole-bodies = let image = parts-of bytes (found_of s) stands.found in held-all s bytes image.parts
 
   module _ (place : ℕ) (part : List ℕ) where
@@ -186,6 +186,21 @@ module _ (bytes : List ℕ) (s : Standing) (stands : Stands bytes s) where
             (blocks_in (others slot s.rows)) (other-blocks slot lt row id row_long id_long);
       }
 
+  -- a block of a file stays as it is where another file's row, id and table are written
+  pub file-leaves : (file : PlacedFile) → CanStand s file → (block : ℕ) → IsHeld (length bytes) block → IsFileBlock s.tables block → body_in (with_file_written s file bytes) block ≡ body_in bytes block
+  file-leaves file can block whole own =
+      let slot = file.slot in
+      let lt = can.row in
+      let row = row_bytes file.name (length file.blocks) file.rev in
+      let id = to_be_bytes w32 file.id in
+      let row_long = length-row file.name (length file.blocks) file.rev can.name can.short can.rev in
+      let id_long : length id ≡ 4 = refl in
+      let before = two slot lt row id row_long id_long in
+      let same = length-two slot lt row id row_long id_long in
+      let table_whole = whole-tables slot (omega (arith, lt)) in
+      block-beside block (s.tables + slot) (table_of_blocks file.blocks) before (λ e. not-tables s.tables slot block (omega (arith, lt)) own.apart (sym e)) (length-of-table file.blocks can.short) (omega (arith, table_whole, same)) (omega (arith, whole, same))
+      ∙ two-block slot lt row id row_long id_long block (own-tables slot lt row id row_long id_long block own) whole
+
   pub file-written : (file : PlacedFile) → CanStand s file → All (IsHeld (length bytes)) file.blocks → IsFileWritten s file bytes (with_file_written s file bytes)
   file-written file can whole =
       let slot = file.slot in
@@ -211,8 +226,7 @@ module _ (bytes : List ℕ) (s : Standing) (stands : Stands bytes s) where
             ∙ two-block slot lt row id row_long id_long (s.tables + n) (not-256 slot lt row id row_long id_long n below) (whole-tables n (omega (arith, below)));
         id = block-beside (s.tables + 256) at table before (omega (arith, lt)) long begins (omega (arith, ids, same)) ∙ two-id slot lt row id row_long id_long;
         bodies = All-weaker (λ block. IsHeld (length bytes) block × IsFileBlock s.tables block) (λ block. body_in (with_file_written s file bytes) block ≡ body_in bytes block)
-            (λ block both. block-beside block at table before (λ e. not-tables s.tables slot block (omega (arith, lt)) both.1.apart (sym e)) long begins (let w = both.0 in omega (arith, w, same))
-            ∙ two-block slot lt row id row_long id_long block (own-tables slot lt row id row_long id_long block both.1) both.0)
+            (λ block both. file-leaves file can block both.0 both.1)
             (blocks_in (others slot s.rows)) (other-blocks slot lt row id row_long id_long);
         whole = All-weaker (IsHeld (length bytes)) (λ block. block_place block + 4096 ≤ length (with_file_written s file bytes)) (λ block w. omega (arith, w, after, same)) file.blocks whole;
       }

@@ -256,7 +256,7 @@ standing-apart bytes s file stands lt is =
 
 -- ---- the laws of changes, with nothing to show of the other files
 
-rows-of : (bytes : List ℕ) (s : Standing) → Stands bytes s → length s.rows ≡ 256
+pub rows-of : (bytes : List ℕ) (s : Standing) → Stands bytes s → length s.rows ≡ 256
 rows-of bytes s stands = let image = parts-of bytes (found_of s) stands.found in sym (length-map s.rows row_slot) ∙ all-rows s bytes image.parts
 
 pub new-file-kept : (s : Standing) (file : PlacedFile) (old new : List ℕ) → Stands old s → CanStand s file → row_at s file.slot ≡ None → All (λ f. f.id < file.id) (files_in s) → HasBodies s file old new → IsFileWritten s file old new → kept_at new (with_placed s file.slot (Some file)) ≡ with_files (kept_at old s) (with_file (row_for file) (kept_at old s).files)

@@ -28,7 +28,7 @@ module _ (bytes : List ℕ) where
   abbrev kept : PlacedFile → File
   kept f = file_at bytes f
 
-  id-of : (f : PlacedFile) → (file_at bytes f).id ≡ f.id
+  pub id-of : (f : PlacedFile) → (file_at bytes f).id ≡ f.id
   unfolding file_at
   id-of f = refl
 
@@ -36,7 +36,7 @@ module _ (bytes : List ℕ) where
   find-step true f rest never = cc
   find-step false f rest never = refl
 
-  find-none : (id : ℕ) (files : List PlacedFile) → All (λ f. f.id ≢ id) files → find_file id (map (file_at bytes) files) ≡ None
+  pub find-none : (id : ℕ) (files : List PlacedFile) → All (λ f. f.id ≢ id) files → find_file id (map (file_at bytes) files) ≡ None
   find-none id [] all = refl
   find-none id (f ∷ files) all =
       let own = ap (λ (n : ℕ). n == id) (id-of f) ∙ not-equal f.id id (λ e. All-head (λ g. g.id ≢ id) f files all (sym e)) in
@@ -50,7 +50,7 @@ module _ (bytes : List ℕ) where
   find-first : (x : PlacedFile) (files : List PlacedFile) → find_file x.id (map (file_at bytes) (x ∷ files)) ≡ Some (file_at bytes x)
   find-first x files = find-own ((file_at bytes x).id == x.id) x (find_file x.id (map (file_at bytes) files)) (ap (λ (n : ℕ). n == x.id) (id-of x) ∙ same-id x.id)
 
-  find-put : (x : PlacedFile) (files : List PlacedFile) → All (λ f. f.id ≢ x.id) files → find_file x.id (map (file_at bytes) (put_file x files)) ≡ Some (file_at bytes x)
+  pub find-put : (x : PlacedFile) (files : List PlacedFile) → All (λ f. f.id ≢ x.id) files → find_file x.id (map (file_at bytes) (put_file x files)) ≡ Some (file_at bytes x)
   find-put x [] all = find-first x []
   find-put x (f ∷ files) all = by (nat_lt x.id f.id) (find-put x files (All-tail (λ g. g.id ≢ x.id) f files all))
     where
@@ -136,14 +136,14 @@ ids-of-row : (id : ℕ) (row : Option PlacedFile) → IsOtherId id row → OfRow
 ids-of-row id None other = tt
 ids-of-row id (Some file) other = other
 
-abbrev apart-rows : (s : Standing) (slot : ℕ) (id : ℕ) → Type 0
+abbrev pub apart-rows : (s : Standing) (slot : ℕ) (id : ℕ) → Type 0
 apart-rows s slot id = All (IsOtherId id) (others slot s.rows)
 
 -- the files of the other rows
 abbrev pub other-files : (s : Standing) (slot : ℕ) → List PlacedFile
 other-files s slot = with_rows [] (others slot s.rows)
 
-others-apart : (s : Standing) (slot id : ℕ) → apart-rows s slot id → All (λ f. f.id ≢ id) (other-files s slot)
+pub others-apart : (s : Standing) (slot id : ℕ) → apart-rows s slot id → All (λ f. f.id ≢ id) (other-files s slot)
 others-apart s slot id apart =
     of-rows (λ f. f.id ≢ id) (others slot s.rows) [] (All-nil (λ f. f.id ≢ id))
     (All-weaker (IsOtherId id) (OfRow (λ f. f.id ≢ id)) (λ row other. ids-of-row id row other) (others slot s.rows) apart)
@@ -156,7 +156,7 @@ module _ (s : Standing) (slot : ℕ) (lt : slot < length s.rows) where
   rest = drop (suc slot) s.rows
 
   -- the files with another in the row
-  files-with : (file : PlacedFile) → apart-rows s slot file.id → files_in (with_placed s slot (Some file)) ≡ put_file file (other-files s slot)
+  pub files-with : (file : PlacedFile) → apart-rows s slot file.id → files_in (with_placed s slot (Some file)) ≡ put_file file (other-files s slot)
   files-with file apart =
       ap (λ (rows : List (Option PlacedFile)). with_rows [] rows) (set_split s.rows slot (Some file) lt)
       ∙ row-put file front rest [] (all-rest (IsOtherId file.id) front rest apart)
@@ -168,10 +168,10 @@ module _ (s : Standing) (slot : ℕ) (lt : slot < length s.rows) where
   files-now : (row : Option PlacedFile) → row_at s slot ≡ row → s.rows ≡ front ++ row ∷ rest
   files-now row is = around-row slot s.rows lt ∙ ap (λ (r : Option PlacedFile). front ++ r ∷ rest) is
 
-  files-none : row_at s slot ≡ None → files_in s ≡ other-files s slot
+  pub files-none : row_at s slot ≡ None → files_in s ≡ other-files s slot
   files-none is = ap (λ (rows : List (Option PlacedFile)). with_rows [] rows) (files-now None is) ∙ row-gone front rest []
 
-  files-some : (was : PlacedFile) → row_at s slot ≡ Some was → apart-rows s slot was.id → files_in s ≡ put_file was (other-files s slot)
+  pub files-some : (was : PlacedFile) → row_at s slot ≡ Some was → apart-rows s slot was.id → files_in s ≡ put_file was (other-files s slot)
   files-some was is apart =
       ap (λ (rows : List (Option PlacedFile)). with_rows [] rows) (files-now (Some was) is)
       ∙ row-put was front rest [] (all-rest (IsOtherId was.id) front rest apart)
@@ -212,7 +212,7 @@ from-files : (s : Standing) (slot : ℕ) (row : Option PlacedFile) (old new : Li
 unfolding kept_at with_files
 from-files s slot row old new files same = ap (kept-with s) same
 
-kept-files : (bytes : List ℕ) (s : Standing) → (kept_at bytes s).files ≡ map (file_at bytes) (files_in s)
+pub kept-files : (bytes : List ℕ) (s : Standing) → (kept_at bytes s).files ≡ map (file_at bytes) (files_in s)
 unfolding kept_at
 kept-files bytes s = refl
 

@@ -56,7 +56,7 @@ module _ (start size bound : ℕ) where
   right-longer (suc n) len more at bytes longer right = by-front n len more at bytes (front_range bytes) longer (right-longer n) right
 
   -- where none of three tests found a wrong field, the last one decides
-  three-tests : (a b c : Bool) (x y z : ℕ) (w v : Option ℕ) → (if a then Some x else (if b then Some y else (if c then Some z else w))) ≡ None → (w ≡ None) × (v ≡ None → (if a then Some x else (if b then Some y else (if c then Some z else v))) ≡ None)
+  pub three-tests : (a b c : Bool) (x y z : ℕ) (w v : Option ℕ) → (if a then Some x else (if b then Some y else (if c then Some z else w))) ≡ None → (w ≡ None) × (v ≡ None → (if a then Some x else (if b then Some y else (if c then Some z else v))) ≡ None)
   three-tests true b c x y z w v is = absurd (cc)
   three-tests false true c x y z w v is = absurd (cc)
   three-tests false false true x y z w v is = absurd (cc)

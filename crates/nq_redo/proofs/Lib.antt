@@ -1,12 +1,13 @@
-mod Going
-mod Lawful
-mod Opening
-mod Settling
-mod Settled
-mod Changing
-mod Encoding
-mod Batching
-mod Adding
-mod Fielding
-mod Reading
-mod Replaying
+pub mod Going
+pub mod Lawful
+pub mod Opening
+pub mod Settling
+pub mod Settled
+pub mod Changing
+pub mod Encoding
+pub mod Batching
+pub mod Adding
+pub mod Fielding
+pub mod Reading
+pub mod Replaying
+pub mod Front

@@ -13,6 +13,9 @@ const AREA: Area = Area {
     bound: 68_202_496,
 };
 
+/// How many bytes a record may lengthen a disk by.
+const SPARE: u64 = 8192;
+
 /// How long the rows and the record are together.
 const SHORTEST: usize = 40960;
 
@@ -34,7 +37,7 @@ fn disk_of(rt: &HostRuntime, image: &[u8]) -> Result<MemDisk> {
     let alloc = rt.alloc();
     let bytes = image.to_vec(alloc)?;
     let room = Room {
-        size: bytes.len() as u64,
+        size: bytes.len() as u64 + SPARE,
         calls: 100,
         written: 100_000,
     };

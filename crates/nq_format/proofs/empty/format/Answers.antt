@@ -1,5 +1,5 @@
 use Rattle.std.proofs.Common.{drop, refl}
-use Rattle.nq_format.specs.Nothing.{zeros_of}
+use Rattle.nq_image.specs.Writing.{zeros_of}
 use Rattle.nq_format.proofs.Formatting.{formatted, on-ok, then-ok}
 use Rattle.nq_format.proofs.empty.format.Goals as goal
 

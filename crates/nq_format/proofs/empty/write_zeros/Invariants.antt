@@ -1,5 +1,5 @@
 use Rattle.std.proofs.Common.{◌≡◌, ◌*◌, ◌++◌, ℕ, List, Some, drop}
-use Rattle.nq_format.specs.Nothing.{zeros_of}
+use Rattle.nq_image.specs.Writing.{zeros_of}
 use Rattle.nq_format.proofs.empty.write_zeros.Given as goal
 
 abbrev pub invariant-loop-chunk : goal.invariant-loop-chunk
