@@ -96,11 +96,11 @@ module _ (held : HeldTables) (change : Change) (placed : Option Placed) (may : L
     stands-either image (inl before) =
         let mid = before.0 in
         let still = before.1 in
-        let as = before.2 in
+        let opens = before.2 in
         let long = still.closed.long in
-        let more = as.0 in
+        let more = opens.0 in
         let kept = agree-kept s old mid still.agree.blocks in
-        let stands = closed-stands mid image s (agree-stands s old mid on.is_held.stands still.agree) still.closed (omega arith) as.1 in
+        let stands = closed-stands mid image s (agree-stands s old mid on.is_held.stands still.agree) still.closed (omega arith) opens.1 in
         inl (stands-kept image (kept_at mid s) stands (subst IsWithinBounds (sym kept) on.within) ∙ ap (λ (k : Kept). Some k) kept)
     stands-either image (inr behind) =
         let long = agrees.blocks.no_shorter in

@@ -11,6 +11,7 @@ use Rattle.nq_format.specs.Standing.{image_area}
 use Rattle.nq_image.specs.Kept.{body_in}
 use Rattle.nq_image.specs.Layout.{block_place, piece}
 use Rattle.nq_image.specs.Standing.{IsFree, Standing, Stands}
+use Rattle.nq_model.proofs.WithinBounds.{zeros-body}
 use Rattle.nq_redo.specs.Whole.{IsClosed}
 use Rattle.law_image.specs.Changing.{zeroed}
 use Rattle.nq_store.specs.Storing.{StandsStill}
@@ -92,3 +93,6 @@ read-whole count block disk buffer front size whole =
     ∙ ap (λ (n : ℕ). take n buffer) (sym all)
     ∙ front.front
     ∙ ap (λ (n : ℕ). take n (drop (block_place block) disk)) all
+
+pub size-of : (part : List ℕ) → part ≡ zeros → length part ≡ 4096
+size-of part is = ap length is ∙ zeros-body.size
