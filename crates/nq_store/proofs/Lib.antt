@@ -5,3 +5,4 @@ mod Cited
 mod Zeroing
 mod Keeping
 mod Committing
+mod Asking

@@ -8,14 +8,15 @@ use Rattle.std.proofs.lemmas.Bool.Decides.{nat_tests}
 use Rattle.std.proofs.lemmas.List.{append_assoc, length-map}
 use Rattle.std.proofs.lemmas.List.Elements.{All-cons, All-nil, All-head, All-tail}
 use Rattle.std.proofs.lemmas.List.Sums.{sum_by-cons}
-use Rattle.std.proofs.lemmas.Option.{slice_get-map}
+use Rattle.std.proofs.lemmas.Option.{slice_get-map, unwrap_or-slice_get}
 use Rattle.std.proofs.lemmas.Slice.Eq.{bytes_eq-Decides}
 use Rattle.nq_base.specs.declared.FileRow.{FileRow}
+use Rattle.nq_base.specs.declared.Space.{Space}
 use Rattle.nq_image.specs.Kept.{body_in}
 use Rattle.nq_image.specs.Standing.{AreNumbered, CanStand, IsApartFrom, PlacedFile, Standing, Stands, file_at, files_in, kept_at, others, row_at, row_blocks, row_for, with_rows}
 use Rattle.nq_keeper.specs.Keeping.{body_at}
-use Rattle.nq_model.specs.Change.{file_after, row_of, row_of_found}
-use Rattle.nq_model.specs.Kept.{File, blocks_in_all, blocks_of, find_file, find_name}
+use Rattle.nq_model.specs.Change.{file_after, heads_of, row_of, row_of_found, space_of}
+use Rattle.nq_model.specs.Kept.{File, blocks_in_all, blocks_of, find_file, find_name, fresh_row, host_row}
 use Rattle.nq_plan.specs.Finding as said
 use Rattle.nq_store.proofs.Sought.{IsOne, closer, found-again, id_if, in-order, length-sum, rows-nearest, rows-sum}
 
@@ -221,3 +222,18 @@ files-are bytes s =
     let b = length-sum (files_in s) in
     let c = rows-sum (λ f. 1) (λ row. if is_some row then 1 else 0) refl (λ f. refl) s.rows [] in
     omega arith
+
+pub space-is : (bytes : List ℕ) (s : Standing) (space : Space) → space.files ≡ count_by (λ row. is_some row) s.rows → space.blocks ≡ sum_by (λ row. length (row_blocks row)) s.rows → space ≡ space_of (kept_at bytes s)
+space-is bytes s space files blocks =
+    let made : ℕ → ℕ → Space = λ f b. record { files = f; blocks = b } in
+    ap (λ (f : ℕ). made f space.blocks) (files ∙ files-are bytes s) ∙ ap (made (length (kept_at bytes s).files)) (blocks ∙ blocks-are bytes s)
+
+-- ---- hosts and numbers
+
+pub host-is : (bytes : List ℕ) (s : Standing) (host : ℕ) → get_or s.hosts host fresh_row ≡ host_row (kept_at bytes s) host
+unfolding kept_at
+host-is bytes s host = sym (unwrap_or-slice_get s.hosts host fresh_row)
+
+pub heads-are : (bytes : List ℕ) (s : Standing) → s.heads ≡ heads_of (kept_at bytes s)
+unfolding kept_at
+heads-are bytes s = refl

@@ -1,5 +1,7 @@
 -- What the opening of a store answers.
-use Rattle.std.specs.Prelude.{◌≡◌, ℕ, Result, Ok, Err}
+use Rattle.std.specs.Prelude.{◌≡◌, ℕ, List, Option, Some, None, Result, Ok, Err}
+use Rattle.std.specs.Option.{ForSome}
+use Rattle.nq_format.specs.Standing.{stands_as}
 use Rattle.nq_io.specs.Faults.{Rose}
 use Rattle.nq_store.specs.declared.fault.Fault.{Fault}
 use Rattle.nq_store.specs.declared.fault.Fault.TheVariants.{NotAnImage, BadField, Failed, Memory}
@@ -44,3 +46,11 @@ FollowsOpen held follows (Err (opening.NotAnImage back)) disk = follows disk bac
 FollowsOpen held follows (Err (opening.BadField back place)) disk = follows disk back
 FollowsOpen held follows (Err (opening.Failed back)) disk = follows disk back
 FollowsOpen held follows (Err (opening.Memory back)) disk = follows disk back
+
+-- a disk is refused as no image, or for a field, where it stands for no kept state
+abbrev pub SaysWrong : {X D : Type 0} → Result X (OpenFault D) → (told : Option (List ℕ)) → Type 0
+SaysWrong (Ok opened) told = Unit {0}
+SaysWrong (Err (opening.NotAnImage back)) told = ForSome told (λ bytes. stands_as bytes ≡ None)
+SaysWrong (Err (opening.BadField back place)) told = ForSome told (λ bytes. stands_as bytes ≡ Some (Err place))
+SaysWrong (Err (opening.Failed back)) told = Unit {0}
+SaysWrong (Err (opening.Memory back)) told = Unit {0}

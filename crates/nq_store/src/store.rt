@@ -2,6 +2,7 @@
 
 ghost use Rattle.std.specs.Prelude.{◌≡◌, ◌≤◌, ◌<◌, ℕ, List, All, IfOk, OnOk, length, slice_index_or};
 ghost use Rattle.std.specs.Option.{ForSome};
+ghost use Rattle.nq_io.specs.Faults.{count_up};
 ghost use Rattle.nq_keeper.specs.Keeping.{Commits, LeavesOne, LeavesTwo, NamesHost, Reads, body_at};
 ghost use Rattle.nq_model.specs.Change.{Fits, HasBlock, IsChangeWithin, file_after, heads_of, row_of_found, space_of};
 ghost use Rattle.nq_model.specs.Kept.{find_file, find_name, fresh_row, host_row};
@@ -12,8 +13,8 @@ ghost use Rattle.nq_plan.specs.Finding.{row_behind, row_named, row_of};
 ghost use Rattle.nq_plan.specs.Placing.{IsPlacedFor};
 ghost use Rattle.nq_plan.specs.Ranges.{ranges_of};
 ghost use Rattle.nq_store.specs.Laws.{goes-further, goes-itself, goes-rising, leaves-parts, may-leave, told-is-within};
-ghost use Rattle.nq_store.specs.Opening.{AnswersOpen, FollowsOpen};
-ghost use Rattle.nq_store.specs.Storing.{GoesOn, IsFresh, IsSound, LeavesKept, after_asking, answered, content_of, faults_of, space_in};
+ghost use Rattle.nq_store.specs.Opening.{AnswersOpen, FollowsOpen, SaysWrong};
+ghost use Rattle.nq_store.specs.Storing.{GoesOn, IsFresh, IsSound, LeavesKept, after_asking, answered, content_of, faults_of, kept_told, space_in};
 
 use crate::fault::OpenFault;
 use crate::opening::{open_record, open_tables};
@@ -21,6 +22,7 @@ use crate::writing::{carry_out, fresh_blocks, read_body};
 use nq_base::{Block, BlockNo, Change, FileId, FileRow, Heads, Host, HostRow, Name, Space};
 use nq_disk::{Disk, DiskFault};
 use nq_keeper::{KeepFault, Keeper};
+use nq_memory::NoMemory;
 use nq_plan::{Plan, Tables};
 use nq_redo::Redo;
 use std::alloc::Global;
@@ -55,12 +57,16 @@ impl<D: Disk> Model for Store<D> {
 }
 
 impl<D: Disk + Drop> Store<D> {
-    /// Opens a disk: it writes what an open record says, and makes an image of version 1 one of version 2.
+    /// Opens a disk: it writes what an open record says, and makes an image of version 1 one of version 2. The store keeps what the
+    /// disk stood for.
     ///
     /// # Errors
     ///
-    /// `NotAnImage` and `BadField` where the disk is no image, `Failed` only where the disk failed, and want of memory.
+    /// `NotAnImage` and `BadField` where the disk stands for no kept state, `Failed` only where the disk failed, and want of memory.
     pub fn open(alloc: Global, disk: D) -> Result<Store<D>, OpenFault<D>>
+        requires bytes { ForSome (D.told disk) AreBytes }
+        ensures content { IfOk result (λ store. content_of D.told store ≡ kept_told (D.told disk)) }
+        ensures wrong { SaysWrong result (D.told disk) }
         ensures fresh { IfOk result IsFresh }
         ensures cause { AnswersOpen (λ store. store.disk) D.faults result disk }
         ensures follows { FollowsOpen (λ store. store.disk) D.follows result disk }
@@ -96,6 +102,29 @@ impl<D: Disk + Drop> Store<D> {
         disk
     }
 
+    /// What is in memory of the image.
+    fn tables(&self) -> &Tables
+        ensures { result.now ≡ self.now.tables }
+    {
+        &self.tables
+    }
+
+    /// Whether a change failed. Until then the tables are those of the image on the disk.
+    fn has_ended(&self) -> bool
+        ensures ended { result ≡ self.now.ended }
+        ensures sound { IsSound (D.told self.now.disk) (D.may_leave self.now.disk) self.now.tables self.now.ended }
+    {
+        self.ended
+    }
+
+    /// Counts a call that is refused.
+    fn refuse(&mut self)
+        ensures counted { self.new ≡ record self.old { refused = count_up self.old.refused } }
+        ensures rises { self.old.refused ≤ self.new.refused }
+    {
+        self.refused = self.refused.saturating_add(1);
+    }
+
     /// Gives an answer out of memory; once a change failed, each call is refused, and the refusals are counted.
     fn tell<X: Drop>(&mut self, answer: X) -> Result<X, KeepFault>
         ensures answer { result ≡ answered self.old.ended answer }
@@ -105,11 +134,20 @@ impl<D: Disk + Drop> Store<D> {
         ensures follows { GoesOn D.follows self.old self.new }
         ensures leaves { LeavesOne (content_of D.told self.old) (LeavesKept (D.leaves self.old.disk self.new.disk)) }
     {
-        if self.ended {
-            self.refused = self.refused.saturating_add(1);
+        if self.has_ended() {
+            self.refuse();
             return Err(KeepFault::Failed);
         }
         Ok(answer)
+    }
+
+    /// What a change writes, and where its file comes to stand.
+    fn plan(&self, change: &Change) -> Result<Plan, NoMemory>
+        requires { NamesHost change.now }
+        ensures placed { IfOk result (λ plan. IsPlacedFor self.now.tables change.now.file plan.placed) }
+        ensures ranges { IfOk result (λ plan. plan.batch ≡ ranges_of self.now.tables.standing change.now plan.placed) }
+    {
+        self.tables.plan(self.alloc, change)
     }
 
     /// The body of a physical block that a file has.
@@ -172,7 +210,7 @@ impl<D: Disk + Drop> Keeper for Store<D> {
         ensures answer { result ≡ answered self.old.ended (row_of self.old.tables.standing id) }
         ensures store { self.new ≡ after_asking self.old }
     {
-        let row = self.tables.row(id);
+        let row = self.tables().row(id);
         self.tell(row)
     }
 
@@ -187,7 +225,7 @@ impl<D: Disk + Drop> Keeper for Store<D> {
         ensures answer { result ≡ answered self.old.ended (row_named self.old.tables.standing name.now) }
         ensures store { self.new ≡ after_asking self.old }
     {
-        let row = self.tables.row_named(name);
+        let row = self.tables().row_named(name);
         self.tell(row)
     }
 
@@ -202,7 +240,7 @@ impl<D: Disk + Drop> Keeper for Store<D> {
         ensures answer { result ≡ answered self.old.ended (row_behind self.old.tables.standing after) }
         ensures store { self.new ≡ after_asking self.old }
     {
-        let row = self.tables.row_behind(after);
+        let row = self.tables().row_behind(after);
         self.tell(row)
     }
 
@@ -219,7 +257,7 @@ impl<D: Disk + Drop> Keeper for Store<D> {
         ensures answer { result ≡ answered self.old.ended (slice_index_or self.old.tables.standing.hosts host fresh_row) }
         ensures store { self.new ≡ after_asking self.old }
     {
-        let row = self.tables.host(host);
+        let row = self.tables().host(host);
         self.tell(row)
     }
 
@@ -234,7 +272,7 @@ impl<D: Disk + Drop> Keeper for Store<D> {
         ensures answer { result ≡ answered self.old.ended (self.old.tables.standing.heads) }
         ensures store { self.new ≡ after_asking self.old }
     {
-        let heads = self.tables.heads();
+        let heads = self.tables().heads();
         self.tell(heads)
     }
 
@@ -249,7 +287,7 @@ impl<D: Disk + Drop> Keeper for Store<D> {
         ensures answer { result ≡ answered self.old.ended (space_in self.old.tables.standing) }
         ensures store { self.new ≡ after_asking self.old }
     {
-        let space = self.tables.space();
+        let space = self.tables().space();
         self.tell(space)
     }
 
@@ -262,8 +300,8 @@ impl<D: Disk + Drop> Keeper for Store<D> {
         ensures follows { GoesOn D.follows self.old self.new }
         ensures leaves { LeavesOne (content_of D.told self.old) (LeavesKept (D.leaves self.old.disk self.new.disk)) }
     {
-        let physical = self.tables.physical(id, block);
-        if self.ended {
+        let physical = self.tables().physical(id, block);
+        if self.has_ended() {
             return self.tell(Block::fill(0));
         }
         match physical {
@@ -282,10 +320,10 @@ impl<D: Disk + Drop> Keeper for Store<D> {
         ensures follows { GoesOn D.follows self.old self.new }
         ensures leaves { LeavesTwo change (content_of D.told self.old) (LeavesKept (D.leaves self.old.disk self.new.disk)) }
     {
-        if self.ended {
+        if self.has_ended() {
             return self.tell(());
         }
-        match self.tables.plan(self.alloc, &change) {
+        match self.plan(&change) {
             Ok(plan) => self.keep(&change, plan),
             Err(_) => Err(KeepFault::Memory),
         }
@@ -293,7 +331,9 @@ impl<D: Disk + Drop> Keeper for Store<D> {
 
     fn pause(&self)
         ensures leaves { LeavesOne (content_of D.told self.now) (LeavesKept (D.leaves self.now.disk self.now.disk)) }
-    {}
+    {
+        let _ended = self.has_ended();
+    }
 
     ghost within = { told-is-within D.told };
 
