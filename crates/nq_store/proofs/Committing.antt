@@ -158,3 +158,15 @@ module _ (held : HeldTables) (change : Change) (placed : Option Placed) (may : L
             | inr behind ↦ inr (left.2 ∙ behind ∙ ap (λ (k : Kept). Some (applied k change)) same)
           ]
     ]
+
+    -- the same, said of a list of blocks and of ranges that are these
+    module _ (blocks : List ℕ) (batch : List Range) (all : blocks ≡ fresh) (are : batch ≡ ranges) where
+      pub settles-as : (tells : Option (List ℕ)) (then : List ℕ → Type 0) → ((old : List ℕ) → told ≡ Some old → (t : Standing) → IsReady t blocks may old → IsFit image_area (length (zeroed blocks old)) batch → Settled image_area (after image_area batch (zeroed blocks old)) tells then) → SettlesSo tells then
+      settles-as tells then known = λ old is.
+          let So : List ℕ → List Range → Type 0 = λ f b. IsReady s f may old → IsFit image_area (length (zeroed f old)) b → Settled image_area (after image_area b (zeroed f old)) tells then in
+          subst (λ (b : List Range). So fresh b) are (subst (λ (f : List ℕ). So f batch) all (known old is s))
+
+      pub whole-as : (leaves : List ℕ → Type 0) → ((old : List ℕ) → told ≡ Some old → (t : Standing) → IsReady t blocks may old → IsFit image_area (length (zeroed blocks old)) batch → Each leaves (OpensWhole t batch old (zeroed blocks old))) → (old : List ℕ) → told ≡ Some old → IsReady s fresh may old → IsFit image_area (length (zeroed fresh old)) ranges → Each leaves (OpensWhole s ranges old (zeroed fresh old))
+      whole-as leaves known = λ old is.
+          let So : List ℕ → List Range → Type 0 = λ f b. IsReady s f may old → IsFit image_area (length (zeroed f old)) b → Each leaves (OpensWhole s b old (zeroed f old)) in
+          subst (λ (b : List Range). So fresh b) are (subst (λ (f : List ℕ). So f batch) all (known old is s))

@@ -6,3 +6,4 @@ mod Zeroing
 mod Keeping
 mod Committing
 mod Asking
+mod Carrying

@@ -180,13 +180,17 @@ impl<D: Disk + Drop> Store<D> {
             &plan.batch,
             &ZEROS,
         );
-        if let Err(DiskFault::Failed) = written {
-            self.ended = true;
-            return Err(KeepFault::Failed);
+        match written {
+            Ok(()) => {
+                let Plan { batch: _, placed } = plan;
+                self.tables.settle(change, placed);
+                Ok(())
+            }
+            Err(DiskFault::Failed) => {
+                self.ended = true;
+                Err(KeepFault::Failed)
+            }
         }
-        let Plan { batch: _, placed } = plan;
-        self.tables.settle(change, placed);
-        Ok(())
     }
 }
 

@@ -1,0 +1,56 @@
+-- What the clauses of a commit say of a store, by what happened to its fields.
+use Rattle.std.proofs.Common.{◌≡◌, ◌⊎◌, ◌≤◌, ℕ, Bool, true, false, List, Option, Some, None, Result, Ok, Err, refl, sym, ap, subst, ◌∙◌, inl, inr, arith}
+use Rattle.std.specs.Option.{ForSome}
+use Rattle.nq_base.specs.declared.Change.{Change}
+use Rattle.nq_io.specs.Faults.{Rose}
+use Rattle.nq_keeper.specs.Keeping.{Commits, LeavesTwo, told_after}
+use Rattle.nq_keeper.specs.declared.keeper.KeepFault.{KeepFault}
+use Rattle.nq_keeper.specs.declared.keeper.KeepFault.TheVariants.{Failed, Memory}
+use Rattle.nq_model.specs.Kept.{Kept}
+use Rattle.nq_store.specs.Storing.{GoesOn, LeavesKept, StoredStore, content_of, content_while, counted, faults_of, kept_told}
+use Rattle.nq_store.proofs.Keeping.{rose-counted}
+
+module _ {D : Type 0} (view store : StoredStore D) (is : view ≡ store) (goes : store.ended ≡ false) where
+  pub goes-in : view.ended ≡ false
+  goes-in = ap (λ (s : StoredStore D). s.ended) is ∙ goes
+
+  told-in : (told : D → Option (List ℕ)) → content_of told view ≡ kept_told (told view.disk)
+  told-in told = ap (λ (b : Bool). content_while b (told view.disk)) goes-in
+
+  told-of : (told : D → Option (List ℕ)) → content_of told store ≡ kept_told (told view.disk)
+  told-of told = ap (λ (s : StoredStore D). content_of told s) (sym is) ∙ told-in told
+
+  pub asked-in : (told : D → Option (List ℕ)) (P : Kept → Type 0) → ForSome (content_of told store) P → ForSome (kept_told (told view.disk)) P
+  asked-in told P for = subst (λ (o : Option Kept). ForSome o P) (told-of told) for
+
+  module _ (new : StoredStore D) (same : new.refused ≡ view.refused) where
+    counts-as : (faults : D → ℕ) → faults_of faults store ≡ counted (faults view.disk) view.refused
+    counts-as faults = ap (λ (s : StoredStore D). faults_of faults s) (sym is)
+
+    counts-now : (faults : D → ℕ) → faults_of faults new ≡ counted (faults new.disk) view.refused
+    counts-now faults = ap (λ (n : ℕ). counted (faults new.disk) n) same
+
+    pub commits-ok : (change : Change) (told : D → Option (List ℕ)) (faults : D → ℕ) → new.ended ≡ view.ended → kept_told (told new.disk) ≡ told_after change (kept_told (told view.disk)) → faults new.disk ≡ faults view.disk → Commits (Ok tt) change (content_of told store) (content_of told new) (faults_of faults store) (faults_of faults new)
+    commits-ok change told faults still tells count = (
+      ap (λ (b : Bool). content_while b (told new.disk)) (still ∙ goes-in) ∙ tells ∙ sym (ap (told_after change) (told-of told)),
+      counts-now faults ∙ ap (λ (n : ℕ). counted n view.refused) count ∙ sym (counts-as faults),
+    )
+
+    pub commits-failed : (change : Change) (told : D → Option (List ℕ)) (faults : D → ℕ) → new.ended ≡ true → Rose (faults view.disk) (faults new.disk) → Commits (Err Failed) change (content_of told store) (content_of told new) (faults_of faults store) (faults_of faults new)
+    commits-failed change told faults ended rose =
+        let Counts : ℕ → ℕ → Type 0 = λ before now. Rose before now in
+        let risen = rose-counted (faults view.disk) (faults new.disk) view.refused rose in (
+          inr (ap (λ (b : Bool). content_while b (told new.disk)) ended),
+          subst (λ (n : ℕ). Counts n (faults_of faults new)) (sym (counts-as faults)) (subst (λ (n : ℕ). Counts (counted (faults view.disk) view.refused) n) (sym (counts-now faults)) risen),
+        )
+
+    pub follows-so : (follows : D → D → Type 0) → follows view.disk new.disk → GoesOn follows store new
+    follows-so follows goes_on = record {
+      disk = subst (λ (s : StoredStore D). follows s.disk new.disk) is goes_on;
+      refused = let a = same in let b = ap (λ (s : StoredStore D). s.refused) is in omega arith;
+    }
+
+    pub leaves-so : (change : Change) (told : D → Option (List ℕ)) (leaves : D → D → List ℕ → Type 0) → LeavesTwo change (kept_told (told view.disk)) (LeavesKept (leaves view.disk new.disk)) → LeavesTwo change (content_of told store) (LeavesKept (leaves store.disk new.disk))
+    leaves-so change told leaves left =
+        let At : StoredStore D → Type 0 = λ s. LeavesTwo change (content_of told store) (LeavesKept (leaves s.disk new.disk)) in
+        subst At is (subst (λ (o : Option Kept). LeavesTwo change o (LeavesKept (leaves view.disk new.disk))) (sym (told-of told)) left)
