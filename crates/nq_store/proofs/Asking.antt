@@ -19,8 +19,8 @@ module _ {D : Type 0} (store new : StoredStore D) where
     pub refused-store : new ≡ after_asking store
     refused-store = is ∙ sym (asking-as true ended)
 
-    pub refused-reads : {X : Type 0} (told : D → Option (List ℕ)) (faults : D → ℕ) → Reads {X = X} (Err Failed) (content_of told store) (content_of told new) (faults_of faults store) (faults_of faults new)
-    refused-reads {X} told faults =
+    pub refused-reads : (X : Type 0) (told : D → Option (List ℕ)) (faults : D → ℕ) → Reads {X = X} (Err Failed) (content_of told store) (content_of told new) (faults_of faults store) (faults_of faults new)
+    refused-reads X told faults =
         let Done : StoredStore D → Type 0 = λ s. Reads {X = X} (Err Failed) (content_of told store) (content_of told s) (faults_of faults store) (faults_of faults s) in
         subst Done (sym is) (inl refl, rose-refused (faults store.disk) store.refused)
 

@@ -1,7 +1,6 @@
 mod Faults
 mod Sought
 mod Rows
-mod Cited
 mod Zeroing
 mod Keeping
 mod Committing
