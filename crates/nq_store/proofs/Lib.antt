@@ -6,3 +6,4 @@ mod Keeping
 mod Committing
 mod Asking
 mod Carrying
+mod Bodies

@@ -1,6 +1,6 @@
 //! What a server keeps, on a disk.
 
-ghost use Rattle.std.specs.Prelude.{◌≡◌, ◌≤◌, ◌<◌, ℕ, List, All, IfOk, OnOk, length, slice_index_or};
+ghost use Rattle.std.specs.Prelude.{◌≡◌, ◌≤◌, ◌<◌, ◌+◌, IfOk, OnOk, length, slice_index_or};
 ghost use Rattle.std.specs.Option.{ForSome};
 ghost use Rattle.nq_io.specs.Faults.{count_up};
 ghost use Rattle.nq_keeper.specs.Keeping.{Commits, LeavesOne, LeavesTwo, NamesHost, Reads, body_at};
@@ -9,6 +9,7 @@ ghost use Rattle.nq_model.specs.Kept.{find_file, find_name, fresh_row, host_row}
 ghost use Rattle.nq_model.specs.Profile.{most_hosts};
 ghost use Rattle.nq_image.specs.Bounds.{AreBytes};
 ghost use Rattle.nq_image.specs.Kept.{body_in};
+ghost use Rattle.nq_image.specs.Layout.{block_place as place_of_block};
 ghost use Rattle.nq_plan.specs.Finding.{row_behind, row_named, row_of};
 ghost use Rattle.nq_plan.specs.Placing.{IsPlacedFor};
 ghost use Rattle.nq_plan.specs.Ranges.{ranges_of};
@@ -153,7 +154,7 @@ impl<D: Disk + Drop> Store<D> {
     /// The body of a physical block that a file has.
     fn read_block(&mut self, block: u32) -> Result<Block, KeepFault>
         requires { self.old.ended ≡ false }
-        ensures told { ForSome (content_of D.told self.old) (λ kept. (body : List ℕ) → length body ≡ 4096 → ForSome (D.told self.old.disk) (λ bytes. body_in bytes block ≡ body → IfOk result (λ read. read ≡ body))) }
+        ensures told { ForSome (D.told self.old.disk) (λ bytes. place_of_block block + 4096 ≤ length bytes → IfOk result (λ body. body ≡ body_in bytes block)) }
         ensures sound { IsSound (D.told self.old.disk) (D.may_leave self.old.disk) self.old.tables self.old.ended }
         ensures reads { Reads result (content_of D.told self.old) (content_of D.told self.new) (faults_of D.faults self.old) (faults_of D.faults self.new) }
         ensures follows { GoesOn D.follows self.old self.new }
