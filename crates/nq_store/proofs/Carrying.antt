@@ -3,11 +3,11 @@ use Rattle.std.proofs.Common.{◌≡◌, ◌⊎◌, ◌≤◌, ℕ, Bool, true, 
 use Rattle.std.specs.Option.{ForSome}
 use Rattle.nq_base.specs.declared.Change.{Change}
 use Rattle.nq_io.specs.Faults.{Rose}
-use Rattle.nq_keeper.specs.Keeping.{Commits, LeavesTwo, told_after}
+use Rattle.nq_keeper.specs.Keeping.{Commits, LeavesTwo, Reads, told_after}
 use Rattle.nq_keeper.specs.declared.keeper.KeepFault.{KeepFault}
 use Rattle.nq_keeper.specs.declared.keeper.KeepFault.TheVariants.{Failed, Memory}
 use Rattle.nq_model.specs.Kept.{Kept}
-use Rattle.nq_store.specs.Storing.{GoesOn, LeavesKept, StoredStore, content_of, content_while, counted, faults_of, kept_told}
+use Rattle.nq_store.specs.Storing.{CountsKeep, GoesOn, LeavesKept, StoredStore, content_of, content_while, counted, faults_of, kept_told}
 use Rattle.nq_store.proofs.Keeping.{rose-counted}
 
 module _ {D : Type 0} (view store : StoredStore D) (is : view ≡ store) (goes : store.ended ≡ false) where
@@ -54,3 +54,22 @@ module _ {D : Type 0} (view store : StoredStore D) (is : view ≡ store) (goes :
     leaves-so change told leaves left =
         let At : StoredStore D → Type 0 = λ s. LeavesTwo change (content_of told store) (LeavesKept (leaves s.disk new.disk)) in
         subst At is (subst (λ (o : Option Kept). LeavesTwo change o (LeavesKept (leaves view.disk new.disk))) (sym (told-of told)) left)
+
+    content-same : (told : D → Option (List ℕ)) → new.ended ≡ view.ended → told new.disk ≡ told view.disk → content_of told new ≡ content_of told store
+    content-same told still tells =
+        ap (λ (b : Bool). content_while b (told new.disk)) (still ∙ goes-in) ∙ ap kept_told tells ∙ sym (told-of told)
+
+    counts-same : (faults : D → ℕ) → faults new.disk ≡ faults view.disk → faults_of faults new ≡ faults_of faults store
+    counts-same faults count = counts-now faults ∙ ap (λ (n : ℕ). counted n view.refused) count ∙ sym (counts-as faults)
+
+    counts-rose : (faults : D → ℕ) → Rose (faults view.disk) (faults new.disk) → Rose (faults_of faults store) (faults_of faults new)
+    counts-rose faults rose =
+        let Counts : ℕ → ℕ → Type 0 = λ before now. Rose before now in
+        let risen = rose-counted (faults view.disk) (faults new.disk) view.refused rose in
+        subst (λ (n : ℕ). Counts n (faults_of faults new)) (sym (counts-as faults)) (subst (λ (n : ℕ). Counts (counted (faults view.disk) view.refused) n) (sym (counts-now faults)) risen)
+
+    -- a call that reads the disk
+    pub reads-so : (X : Type 0) (result : Result X KeepFault) (told : D → Option (List ℕ)) (faults : D → ℕ) → new.ended ≡ view.ended → told new.disk ≡ told view.disk → CountsKeep result (faults view.disk) (faults new.disk) → Reads result (content_of told store) (content_of told new) (faults_of faults store) (faults_of faults new)
+    reads-so X (Ok answer) told faults still tells count = (content-same told still tells, counts-same faults count)
+    reads-so X (Err Memory) told faults still tells count = (content-same told still tells, counts-same faults count)
+    reads-so X (Err Failed) told faults still tells count = (inl (content-same told still tells), counts-rose faults count)

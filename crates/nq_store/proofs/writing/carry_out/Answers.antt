@@ -5,7 +5,7 @@ use Rattle.nq_redo.specs.Saying.{Each}
 use Rattle.nq_redo.specs.Whole.{IsClosed, OpensAfter, OpensAsOne, Settled, after}
 use Rattle.nq_redo.specs.declared.Area.{Area}
 use Rattle.law_image.specs.Changing.{zeroed}
-use Rattle.nq_store.specs.Storing.{OpensWhole}
+use Rattle.nq_store.specs.Storing.{OpensWhole, StandsStill}
 use Rattle.nq_store.proofs.Zeroing.{on-ok, then-ok, through}
 use Rattle.nq_store.proofs.writing.carry_out.Goals as goal
 
@@ -26,8 +26,8 @@ pub returns-clause-whole : goal.returns-clause-whole
 returns-clause-whole g c = λ old told s ready fit image left.
     let z = zeroed c.args.fresh.now old in
     let mid = c.in_ok-write_zeros.ensures.written old told in
-    let still = c.write_zeros.ensures.still old told s ready in
-    let ends = λ (i : List ℕ) may. g.met.D.Disk.leaves_ends c.args.redo.now.disk c.write_zeros.new.disk i c.write_zeros.ensures.follows (inr may) in
+    let still : Each (g.D.Disk.leaves c.args.redo.now.disk c.write_zeros.new.disk) (StandsStill s old) = c.write_zeros.ensures.still old told s ready in
+    let ends : (i : List ℕ) → g.D.Disk.may_leave c.write_zeros.new.disk i → g.D.Disk.leaves c.args.redo.now.disk c.write_zeros.new.disk i = λ i may. g.met.D.Disk.leaves_ends c.args.redo.now.disk c.write_zeros.new.disk i c.write_zeros.ensures.follows (inr may) in
     let Then : Area → Type 0 = λ a. Each (g.D.Disk.may_leave c.write_zeros.new.disk) (IsClosed a) → IsFit a (length z) c.args.batch.now → Each (g.D.Disk.leaves c.write_zeros.new.disk c.apply.new.self.disk) (λ i. OpensAsOne a (g.D.Disk.may_leave c.write_zeros.new.disk) i ⊎ OpensAfter a c.args.batch.now z i) in
     through (OpensWhole s c.args.batch.now old z) _ _ image
     (g.met.D.Disk.parts c.args.redo.now.disk c.write_zeros.new.disk c.apply.new.self.disk image c.write_zeros.ensures.follows c.apply.ensures.follows left)

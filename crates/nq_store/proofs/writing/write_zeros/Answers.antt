@@ -1,4 +1,4 @@
-use Rattle.std.proofs.Common.{◌≡◌, ◌+◌, ℕ, List, Option, Some, length, drop, refl, sym, ap, subst, ◌∙◌, inr}
+use Rattle.std.proofs.Common.{get_or, ◌≡◌, ◌+◌, ℕ, List, Option, Some, length, drop, refl, sym, ap, subst, ◌∙◌, inr}
 use Rattle.nq_base.specs.Block.{zeros}
 use Rattle.nq_disk.specs.Bytes.{Torn, written}
 use Rattle.nq_disk.specs.Calling.{Tears, told_after}
@@ -22,7 +22,7 @@ pub loop-block-preserved : goal.loop-block-preserved
 loop-block-preserved g c =
     let so = c.loop-block.invariant in
     let i = c.loop-block.block-index in
-    let block = c.block-item.result in
+    let block = get_or c.args.blocks.now i 0 in
     let part = c.args.zeros.now in
     let place : c.block_place.result ≡ block_place block = c.block_place.ensures in
     record {
@@ -34,7 +34,7 @@ loop-block-preserved g c =
             written c.block_place.result part t.0,
             c.in_ok-write_at.ensures.writes ∙ ap (told_after c.block_place.result part) t.1,
             ap (λ (p : ℕ). zeroed (drop (i + 1) c.args.blocks.now) (written p part t.0)) place
-                ∙ zeroed-passes i block c.args.blocks.now t.0 part (zeroed c.args.blocks.now old) c.requires c.loop-block-test.true c.block-item.is t.2,
+                ∙ zeroed-passes i block c.args.blocks.now t.0 part (zeroed c.args.blocks.now old) c.requires c.loop-block-test.true refl t.2,
           );
       still = λ old told s ready image left.
           through (StandsStill s old) _ _ image
@@ -43,7 +43,7 @@ loop-block-preserved g c =
           (λ l.
           let from = c.write_at.ensures.leaves image l in
           let mid = so.still old told s ready from.0 (g.met.D.Disk.leaves_ends c.args.disk.now c.loop-block.disk from.0 so.follows (inr from.1)) in
-          still-torn s old from.0 image block (length part) (size-of part c.requires) ready.stands (free-at s i block c.args.blocks.now ready.free c.loop-block-test.true c.block-item.is) mid
+          still-torn s old from.0 image block (length part) (size-of part c.requires) ready.stands (free-at s i block c.args.blocks.now ready.free c.loop-block-test.true refl) mid
           (subst (λ (p : ℕ). Torn p (length part) from.0 image) place from.2));
     }
 
@@ -51,7 +51,7 @@ pub returns-in_err-write_at-clause-still : goal.returns-in_err-write_at-clause-s
 returns-in_err-write_at-clause-still g c =
     let so = c.loop-block.invariant in
     let i = c.loop-block.block-index in
-    let block = c.block-item.result in
+    let block = get_or c.args.blocks.now i 0 in
     let part = c.args.zeros.now in
     λ old told s ready image left.
     through (StandsStill s old) _ _ image
@@ -60,7 +60,7 @@ returns-in_err-write_at-clause-still g c =
     (λ l.
     let from = c.write_at.ensures.leaves image l in
     let mid = so.still old told s ready from.0 (g.met.D.Disk.leaves_ends c.args.disk.now c.loop-block.disk from.0 so.follows (inr from.1)) in
-    still-torn s old from.0 image block (length part) (size-of part c.requires) ready.stands (free-at s i block c.args.blocks.now ready.free c.loop-block-test.true c.block-item.is) mid
+    still-torn s old from.0 image block (length part) (size-of part c.requires) ready.stands (free-at s i block c.args.blocks.now ready.free c.loop-block-test.true refl) mid
     (subst (λ (p : ℕ). Torn p (length part) from.0 image) c.block_place.ensures from.2))
 
 pub returns-in_err-write_at-clause-silent : goal.returns-in_err-write_at-clause-silent
