@@ -1,9 +1,11 @@
 -- What a call of a store does that is answered out of memory, or refused.
 use Rattle.std.proofs.Common.{◌≡◌, ◌⊎◌, ◌≤◌, ℕ, Bool, true, false, List, Option, Some, None, Result, Ok, Err, refl, sym, ap, subst, ◌∙◌, inl, inr, arith}
+use Rattle.nq_base.specs.declared.Change.{Change}
 use Rattle.nq_io.specs.Faults.{count_up}
-use Rattle.nq_keeper.specs.Keeping.{LeavesOne, Reads}
+use Rattle.nq_keeper.specs.Keeping.{Commits, LeavesOne, LeavesTwo, Reads}
 use Rattle.nq_keeper.specs.declared.keeper.KeepFault.{KeepFault}
 use Rattle.nq_keeper.specs.declared.keeper.KeepFault.TheVariants.{Failed, Memory}
+use Rattle.nq_model.specs.Kept.{Kept}
 use Rattle.nq_store.specs.Storing.{GoesOn, IsSound, LeavesKept, StoredStore, after_asking, answered, content_of, faults_of, refusals}
 use Rattle.nq_store.proofs.Keeping.{leaves-same, rose-refused}
 
@@ -42,3 +44,12 @@ module _ {D : Type 0} (store new : StoredStore D) where
 
 pub told-leaves : {D : Type 0} (store : StoredStore D) (told : D → Option (List ℕ)) (may : D → List ℕ → Type 0) (leaves : D → D → List ℕ → Type 0) → IsSound (told store.disk) (may store.disk) store.tables store.ended → ((disk : D) (image : List ℕ) → leaves disk disk image → may disk image) → LeavesOne (content_of told store) (LeavesKept (leaves store.disk store.disk))
 told-leaves store told may leaves sound now = leaves-same store.ended (told store.disk) store.tables (may store.disk) (leaves store.disk store.disk) sound (now store.disk)
+
+-- nothing is changed by a commit that is refused
+pub refused-commits : (result : Result (Unit {0}) KeepFault) (change : Change) (ended : Bool) (told tells : Option Kept) (before now : ℕ) → ended ≡ true → result ≡ answered ended tt → Reads result told tells before now → Commits result change told tells before now
+refused-commits result change ended told tells before now is answer reads =
+    let failed : result ≡ Err Failed = let Answers : Bool → Type 0 = λ b. result ≡ answered b tt in subst Answers is answer in
+    subst (λ (r : Result (Unit {0}) KeepFault). Commits r change told tells before now) (sym failed) (subst (λ (r : Result (Unit {0}) KeepFault). Reads r told tells before now) failed reads)
+
+pub one-two : (change : Change) (told : Option Kept) (leaves : Option Kept → Type 0) → LeavesOne told leaves → LeavesTwo change told leaves
+one-two change told leaves one = λ kept e found left. inl (one kept e found left)

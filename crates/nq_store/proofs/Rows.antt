@@ -18,6 +18,7 @@ use Rattle.nq_keeper.specs.Keeping.{body_at}
 use Rattle.nq_model.specs.Change.{file_after, heads_of, row_of, row_of_found, space_of}
 use Rattle.nq_model.specs.Kept.{File, blocks_in_all, blocks_of, find_file, find_name, fresh_row, host_row}
 use Rattle.nq_plan.specs.Finding as said
+use Rattle.nq_store.specs.Storing.{space_in}
 use Rattle.nq_store.proofs.Sought.{IsOne, closer, found-again, id_if, in-order, length-sum, rows-nearest, rows-sum}
 
 -- ---- rows stand apart
@@ -237,3 +238,8 @@ host-is bytes s host = sym (unwrap_or-slice_get s.hosts host fresh_row)
 pub heads-are : (bytes : List ℕ) (s : Standing) → s.heads ≡ heads_of (kept_at bytes s)
 unfolding kept_at
 heads-are bytes s = refl
+
+pub space-in : (s : Standing) (space : Space) → space.files ≡ count_by (λ row. is_some row) s.rows → space.blocks ≡ sum_by (λ row. length (row_blocks row)) s.rows → space ≡ space_in s
+space-in s space files blocks =
+    let made : ℕ → ℕ → Space = λ f b. record { files = f; blocks = b } in
+    ap (λ (f : ℕ). made f space.blocks) files ∙ ap (made (count_by (λ row. is_some row) s.rows)) blocks

@@ -2,7 +2,8 @@ use Rattle.std.proofs.Common.{◌≡◌, refl, sym, ap, ◌∙◌}
 use Rattle.nq_model.specs.Change.{space_of}
 use Rattle.nq_image.specs.Standing.{row_blocks}
 use Rattle.std.specs.Prelude.{count_by, is_some, length, sum_by}
-use Rattle.nq_store.proofs.Rows.{space-is}
+use Rattle.nq_store.specs.Storing.{answered}
+use Rattle.nq_store.proofs.Rows.{space-in, space-is}
 use Rattle.nq_plan.specs.Held.{HeldTables}
 use Rattle.nq_store.proofs.Keeping.{apart-in, told-answer}
 use Rattle.nq_store.proofs.store.StoreKeeper.space.Goals as goal
@@ -14,3 +15,11 @@ returns-clause-told g c =
     (λ bytes is_held. space-is bytes store.tables.standing c.space.result
         (c.space.ensures.files ∙ ap (λ (t : HeldTables). count_by (λ row. is_some row) t.standing.rows) c.tables.ensures)
         (c.space.ensures.blocks ∙ ap (λ (t : HeldTables). sum_by (λ row. length (row_blocks row)) t.standing.rows) c.tables.ensures))
+
+pub returns-clause-answer : goal.returns-clause-answer
+returns-clause-answer g c =
+    let store = c.args.self.now in
+    c.tell.ensures.answer
+    ∙ ap (answered store.ended) (space-in store.tables.standing c.space.result
+    (c.space.ensures.files ∙ ap (λ (t : HeldTables). count_by (λ row. is_some row) t.standing.rows) c.tables.ensures)
+    (c.space.ensures.blocks ∙ ap (λ (t : HeldTables). sum_by (λ row. length (row_blocks row)) t.standing.rows) c.tables.ensures))
