@@ -11,7 +11,7 @@ use Rattle.nq_base.specs.declared.FileRow.{FileRow}
 use Rattle.nq_base.specs.declared.Heads.{Heads}
 use Rattle.nq_base.specs.declared.HostRow.{HostRow}
 use Rattle.nq_image.specs.Layout.{block_place}
-use Rattle.nq_image.specs.Standing.{PlacedFile, Standing, Stands, file_at, files_in, kept_at, overwritten, row_at, row_blocks, with_placed, with_row_cleared}
+use Rattle.nq_image.specs.Standing.{IsFileBlock, PlacedFile, Standing, Stands, file_at, files_in, kept_at, overwritten, row_at, row_blocks, with_placed, with_row_cleared}
 use Rattle.nq_image.proofs.Giving.{IsHeld}
 use Rattle.nq_image.proofs.Overwriting.{body-written, row-cleared, whole-bodies}
 use Rattle.nq_image.proofs.Owning.{body-stands, body-written-kept, removed-kept, rows-of, standing-apart}
@@ -62,7 +62,7 @@ block-end old t stands change blocks file is has body =
     let found = ap (λ (id : ℕ). find_file id (kept_at old t).files) (sym is.own) ∙ found-at old t file stands is.within is.at in
     let lt : k < length file.blocks = let l = subst Has found has in omega (arith, l, blocks-at old file) in
     let can = standing-apart old t file stands is.within is.at in
-    let own = All-get_or _ file.blocks k 0 lt can.there in
+    let own = All-get_or (IsFileBlock t.tables) file.blocks k 0 lt can.there in
     let in_rows : file.slot < length t.rows = let w = is.within in omega (arith, w, rows-of old t stands) in
     let held = of-row (IsHeld (length old)) t file.slot in_rows (whole-bodies old t stands) in
     let Held : List ℕ → Type 0 = λ l. All (IsHeld (length old)) l in

@@ -132,7 +132,7 @@ module _ (before : List ℕ) (held : HeldTables) (is_held : IsHeldOf before held
     ended : (known_now : List ℕ) (fresh_now : List ℕ) (seat : IsSeated bytes s file known_now fresh_now) (own : AreOwn bytes s stands file known_now fresh_now seat) (new : List ℕ) → IsFiled bytes s stands file known_now fresh_now seat own new → IsEnd bytes row file new
     ended known_now fresh_now seat own new filed =
         let Kept : FileRow → Type 0 = λ r. kept_at new (with_placed s file.slot (Some file)) ≡ with_files (kept_at bytes s) (with_file r (kept_at bytes s).files) in
-        record { stands = filed.stands; kept = subst Kept own-row filed.kept; no_shorter = filed.no_shorter }
+        record { stands = filed.stood; kept = subst Kept own-row filed.kept; no_shorter = filed.no_shorter }
 
     whole-ranges-are : CanStand s file → applied (whole_ranges s.tables row file) bytes ≡ with_file_written s file bytes
     whole-ranges-are can = ap (λ (r : FileRow). applied (whole_ranges s.tables r file) bytes) (sym own-row) ∙ file-ranges bytes s stands file can
@@ -263,11 +263,11 @@ module _ (before : List ℕ) (held : HeldTables) (is_held : IsHeldOf before held
       apart : All (IsApartFrom file) (others file.slot s.rows)
       apart =
           let Apart : ℕ → Type 0 = λ n. All (IsApartFrom was) (others n s.rows) in
-          All-weaker (IsApartFrom was) (IsApartFrom file) (λ r own. one r own) (others file.slot s.rows) (subst Apart was-slot can-was.apart)
+          All-weaker (IsApartFrom was) (IsApartFrom file) (λ r other. one r other) (others file.slot s.rows) (subst Apart was-slot can-was.apart)
         where
           one : (r : Option PlacedFile) → IsApartFrom was r → IsApartFrom file r
-          one None own = tt
-          one (Some other) own = (λ e. own.0 (e ∙ same-name), λ e. own.1 (e ∙ sym same-id))
+          one None is_apart = tt
+          one (Some other) is_apart = (λ e. is_apart.0 (e ∙ same-name), λ e. is_apart.1 (e ∙ sym same-id))
 
       right : IsRight bytes s stands file known fresh seat own
       right =

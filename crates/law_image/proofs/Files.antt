@@ -60,15 +60,15 @@ module _ {X : Type 0} (p : X → Bool) (xs : List X) where
 
 -- ---- what holds of each file holds of each row
 
+put-back-by : (P : PlacedFile → Type 0) (x f : PlacedFile) (files : List PlacedFile) → (All P (put_file x files) → P x × All P files) → (b : Bool) → All P (if b then x ∷ f ∷ files else f ∷ put_file x files) → P x × All P (f ∷ files)
+put-back-by P x f files rest true all = (All-head P x (f ∷ files) all, All-tail P x (f ∷ files) all)
+put-back-by P x f files rest false all =
+    let more = rest (All-tail P f (put_file x files) all) in
+    (more.0, All-cons P f files (All-head P f (put_file x files) all) more.1)
+
 put-back : (P : PlacedFile → Type 0) (x : PlacedFile) (files : List PlacedFile) → All P (put_file x files) → P x × All P files
 put-back P x [] all = (All-head P x [] all, All-nil P)
-put-back P x (f ∷ files) all = by (nat_lt x.id f.id) all
-  where
-    by : (b : Bool) → All P (if b then x ∷ f ∷ files else f ∷ put_file x files) → P x × All P (f ∷ files)
-    by true all = (All-head P x (f ∷ files) all, All-tail P x (f ∷ files) all)
-    by false all =
-        let more = put-back P x files (All-tail P f (put_file x files) all) in
-        (more.0, All-cons P f files (All-head P f (put_file x files) all) more.1)
+put-back P x (f ∷ files) all = put-back-by P x f files (λ a. put-back P x files a) (nat_lt x.id f.id) all
 
 rows-back : (P : PlacedFile → Type 0) (rows : List (Option PlacedFile)) (files : List PlacedFile) → All P (with_rows files rows) → All P files × All (OfRow P) rows
 unfolding with_rows
@@ -170,14 +170,15 @@ pub name-of : (bytes : List ℕ) (f : PlacedFile) → (file_at bytes f).name ≡
 unfolding file_at
 name-of bytes f = refl
 
+none-named-by : (bytes name : List ℕ) (f : PlacedFile) (files : List PlacedFile) → (find_name name (map (file_at bytes) files) ≡ None → All (λ g. g.name ≢ name) files) → (b : Bool) → same_bytes (file_at bytes f).name name ≡ b
+    → (if b then Some (file_at bytes f) else find_name name (map (file_at bytes) files)) ≡ None → All (λ g. g.name ≢ name) (f ∷ files)
+none-named-by bytes name f files rest true is h = absurd (cc)
+none-named-by bytes name f files rest false is h =
+    All-cons (λ g. g.name ≢ name) f files (other-name f.name name (sym (ap (λ (n : List ℕ). same_bytes n name) (name-of bytes f)) ∙ is)) (rest h)
+
 none-named : (bytes name : List ℕ) (files : List PlacedFile) → find_name name (map (file_at bytes) files) ≡ None → All (λ f. f.name ≢ name) files
 none-named bytes name [] h = All-nil (λ f. f.name ≢ name)
-none-named bytes name (f ∷ files) h = by (same_bytes (file_at bytes f).name name) refl h
-  where
-    by : (b : Bool) → same_bytes (file_at bytes f).name name ≡ b → (if b then Some (file_at bytes f) else find_name name (map (file_at bytes) files)) ≡ None → All (λ g. g.name ≢ name) (f ∷ files)
-    by true is h = absurd (cc)
-    by false is h =
-        All-cons (λ g. g.name ≢ name) f files (other-name f.name name (sym (ap (λ (n : List ℕ). same_bytes n name) (name-of bytes f)) ∙ is)) (none-named bytes name files h)
+none-named bytes name (f ∷ files) h = none-named-by bytes name f files (λ r. none-named bytes name files r) (same_bytes (file_at bytes f).name name) refl h
 
 pub unnamed-files : (bytes : List ℕ) (s : Standing) (name : List ℕ) → find_name name (kept_at bytes s).files ≡ None → All (λ f. f.name ≢ name) (files_in s)
 unnamed-files bytes s name h =

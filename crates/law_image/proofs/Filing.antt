@@ -23,7 +23,7 @@ use Rattle.nq_image.proofs.Retaining.{kept-files, new-kept, same-kept}
 use Rattle.nq_model.specs.Change.{with_file}
 use Rattle.nq_model.specs.Kept.{File, Kept, blocks_in_all, blocks_of, resized, with_files}
 use Rattle.law_image.specs.Changing.{HasZeros}
-use Rattle.law_image.proofs.Free.{zeros-held}
+use Rattle.law_image.proofs.Zeroing.{zeros-held}
 use Rattle.law_image.proofs.Seats.{IsNew, distinct-take}
 
 -- ---- how many blocks there are
@@ -218,7 +218,7 @@ module _ (bytes : List ℕ) (s : Standing) (stands : Stands bytes s) (file : Pla
     -- ---- what the image becomes
 
     pub record IsFiled (new : List ℕ) : Type 0 where
-      pub stands : Stands new (with_placed s file.slot (Some file))
+      pub stood : Stands new (with_placed s file.slot (Some file))
       pub kept : kept_at new (with_placed s file.slot (Some file)) ≡ with_files (kept_at bytes s) (with_file (row_for file) (kept_at bytes s).files)
       pub no_shorter : length bytes ≤ length new
 
@@ -226,7 +226,7 @@ module _ (bytes : List ℕ) (s : Standing) (stands : Stands bytes s) (file : Pla
     new-filed can is last =
         let w = file-written bytes s stands file can blocks-held in
         record {
-          stands = file-stands s file bytes (with_file_written s file bytes) stands can w;
+          stood = file-stands s file bytes (with_file_written s file bytes) stands can w;
           kept = new-file-kept s file bytes (with_file_written s file bytes) stands can is last (has-bodies-then can) w;
           no_shorter = w.no_shorter;
         }
@@ -235,7 +235,7 @@ module _ (bytes : List ℕ) (s : Standing) (stands : Stands bytes s) (file : Pla
     same-filed can was is same =
         let w = file-written bytes s stands file can blocks-held in
         record {
-          stands = file-stands s file bytes (with_file_written s file bytes) stands can w;
+          stood = file-stands s file bytes (with_file_written s file bytes) stands can w;
           kept = same-file-kept s was file bytes (with_file_written s file bytes) stands can is same (has-bodies-then can) w.bodies;
           no_shorter = w.no_shorter;
         }
@@ -254,7 +254,7 @@ module _ (bytes : List ℕ) (s : Standing) (stands : Stands bytes s) (file : Pla
         let own_are : row_blocks (row_at s file.slot) ≡ file.blocks = ap row_blocks is ∙ sym same_blocks in
         let own = All-same Same file.blocks (row_blocks (row_at s file.slot)) (sym own_are) parts.0 in
         record {
-          stands = row-stands s was file bytes new stands can is (sym same) same_blocks agree;
+          stood = row-stands s was file bytes new stands can is (sym same) same_blocks agree;
           kept = same-file-kept s was file bytes new stands can is same (map-same (body_in new) (body_in bytes) file.blocks own ∙ has-bodies) parts.1;
           no_shorter = agree.blocks.no_shorter;
         }

@@ -33,7 +33,7 @@ use Rattle.nq_plan.proofs.Sizes.{length-heads, length-host}
 use Rattle.nq_plan.specs.Finding.{blocks_of, file_in, has_id, row_of, slot_of}
 use Rattle.nq_plan.specs.Held.{HeldTables, IsHeldOf}
 use Rattle.nq_plan.specs.Placing.{IsPlaced, IsPlacedFor, free_blocks}
-use Rattle.nq_plan.specs.Ranges.{blocks_then, body_range, body_ranges, file_ranges, heads_ranges, host_ranges, placed_ranges, range, ranges_of, removal_ranges, removed_ranges, row_range, whole_ranges}
+use Rattle.nq_plan.specs.Ranges.{blocks_then, body_range, body_ranges, file_ranges, heads_ranges, host_ranges, id_range, placed_ranges, range, ranges_of, removal_ranges, removed_ranges, row_range, table_range, whole_ranges}
 use Rattle.nq_plan.specs.declared.Placed.{Placed}
 use Rattle.nq_redo.specs.Batch.{AreAllowed, IsFit, body_of, spelled}
 use Rattle.nq_redo.specs.Ranges.{Range}
@@ -41,7 +41,7 @@ use Rattle.nq_redo.specs.Record.{is_misplaced}
 use Rattle.law_image.specs.Changing.{CanBeWritten, HasZeros, new_blocks}
 use Rattle.law_image.proofs.Files.{PassesAt, position-some}
 use Rattle.law_image.proofs.Filing.{of-row}
-use Rattle.law_image.proofs.Free.{zeros-held}
+use Rattle.law_image.proofs.Zeroing.{zeros-held}
 use Rattle.law_image.proofs.Seats.{IsNew, free-are-new, new-blocks-are, once-of}
 
 -- ---- a range that lies where the record's ranges may lie
@@ -158,7 +158,7 @@ module _ (bytes : List ℕ) (held : HeldTables) (is_held : IsHeldOf bytes held) 
   row-alone : (row : FileRow) (placed : Placed) → IsPlaced held row placed → IsRowRight row → IsPart (length bytes) 3 4232 (row_range placed.file.slot row ∷ [])
   row-alone row placed is right =
       let n = length-row row.name row.blocks row.rev right.0 right.1 right.2 in
-      record { count = omega arith; room = omega (arith, n); laid = All-cons (IsLaid (length bytes)) _ [] (row-part placed.file.slot (row_bytes row.name row.blocks row.rev) is.within n) (All-nil (IsLaid (length bytes))) }
+      record { count = omega arith; room = omega (arith, n); laid = All-cons (IsLaid (length bytes)) (row_range placed.file.slot row) [] (row-part placed.file.slot (row_bytes row.name row.blocks row.rev) is.within n) (All-nil (IsLaid (length bytes))) }
 
   file-whole : (row : FileRow) (placed : Placed) → IsPlaced held row placed → IsRowRight row → IsPart (length bytes) 3 4232 (whole_ranges s.tables row placed.file)
   file-whole row placed is right =
@@ -173,8 +173,9 @@ module _ (bytes : List ℕ) (held : HeldTables) (is_held : IsHeldOf bytes held) 
       record {
         count = omega arith;
         room = omega (arith, n, i, t);
-        laid = All-cons Laid _ _ (row-part slot (row_bytes row.name row.blocks row.rev) is.within n)
-            (All-cons Laid _ _ (id-part slot row.id is.within) (All-cons Laid _ [] (table-part slot placed.file.blocks is.within short) (All-nil Laid)));
+        laid = All-cons Laid (row_range slot row) (id_range s.tables slot row.id ∷ table_range s.tables slot placed.file.blocks ∷ []) (row-part slot (row_bytes row.name row.blocks row.rev) is.within n)
+            (All-cons Laid (id_range s.tables slot row.id) (table_range s.tables slot placed.file.blocks ∷ []) (id-part slot row.id is.within)
+            (All-cons Laid (table_range s.tables slot placed.file.blocks) [] (table-part slot placed.file.blocks is.within short) (All-nil Laid)));
       }
 
   by-known : (row : FileRow) (placed : Placed) (known : Option FileRow) → IsPlaced held row placed → IsRowRight row → IsPart (length bytes) 3 4232 (file_ranges s.tables known row placed.file)
@@ -253,7 +254,7 @@ module _ (bytes : List ℕ) (held : HeldTables) (is_held : IsHeldOf bytes held) 
       let n = length-zeros 96 in
       let i : length (to_be_bytes w32 0) ≡ 4 = refl in
       let Laid : Range → Type 0 = IsLaid (length bytes) in
-      record { count = omega arith; room = omega (arith, n, i); laid = All-cons Laid _ _ (row-part slot (zeros_of 96) lt n) (All-cons Laid _ [] (id-part slot 0 lt) (All-nil Laid)) }
+      record { count = omega arith; room = omega (arith, n, i); laid = All-cons Laid (range (2112 + 96 * slot) (zeros_of 96)) (id_range s.tables slot 0 ∷ []) (row-part slot (zeros_of 96) lt n) (All-cons Laid (id_range s.tables slot 0) [] (id-part slot 0 lt) (All-nil Laid)) }
 
   removed-part : (removed : Option ℕ) → IsPart (length bytes) 2 124 (removed_ranges s removed)
   removed-part None = no-part (length bytes) 2 124

@@ -1,4 +1,4 @@
-pub mod Free
+pub mod Zeroing
 pub mod Files
 pub mod Seats
 pub mod Filing

@@ -42,8 +42,8 @@ blank-over : (bytes : List ℕ) → 40960 ≤ length bytes → blank bytes ≡ o
 unfolding blanked
 blank-over bytes long = written-over 28672 (replicate 12288 0) bytes (omega (arith, long))
 
-record-long : length (replicate 12288 0) ≡ 12288
-record-long = length-replicate 12288 0
+record-long : length {A = ℕ} (replicate 12288 0) ≡ 12288
+record-long = length-replicate {A = ℕ} 12288 0
 
 pub blank-agrees : (bytes : List ℕ) (s : Standing) → Stands bytes s → Agree s bytes (blank bytes)
 blank-agrees bytes s stands =

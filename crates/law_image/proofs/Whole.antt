@@ -302,7 +302,7 @@ module _ (bytes : List ℕ) (held : HeldTables) (change : Change) (is_held : IsH
       ∙ ap (marks_with (no_marks 16641)) (sym after)
 
   not-kept : (o : Option File) → o ≡ None → IsSome o → ⊥
-  not-kept None none some = absurd some
+  not-kept None none some = absurd (cc)
   not-kept (Some f) none some = absurd (cc)
 
   removed-one : (id : ℕ) (old : List ℕ) → Stands old s2 → kept_at old s2 ≡ k2 → IsSome (find_file id k0.files) → (o : Option ℕ) → slot_of id s0.rows ≡ o

@@ -17,7 +17,7 @@ use Rattle.nq_image.proofs.ReadBack.{length-zeros}
 use Rattle.nq_redo.specs.Ranges.{Range, applied}
 use Rattle.nq_plan.specs.Ranges.{id_range, range, removal_ranges, whole_ranges}
 use Rattle.law_image.specs.Changing.{HasZeros}
-use Rattle.law_image.proofs.Free.{zeros-held}
+use Rattle.law_image.proofs.Zeroing.{zeros-held}
 
 -- what is written within a disk, or at its end, is overwritten there
 pub written-over : (place : ℕ) (part bytes : List ℕ) → place ≤ length bytes → written place part bytes ≡ overwritten place part bytes

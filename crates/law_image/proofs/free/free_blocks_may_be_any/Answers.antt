@@ -1,4 +1,4 @@
-use Rattle.law_image.proofs.Free.{all-zeros, torn-agrees, written-agrees, zeroed-agrees}
+use Rattle.law_image.proofs.Zeroing.{all-zeros, torn-agrees, written-agrees, zeroed-agrees}
 use Rattle.law_image.proofs.free.free_blocks_may_be_any.Goals as goal
 
 pub returns-clause-written : goal.returns-clause-written

@@ -85,6 +85,9 @@ whole-body bytes block long =
 pub zeros-held : (bytes : List ℕ) (block : ℕ) → HasZeros bytes block → IsHeld (length bytes) block
 zeros-held bytes block has = whole-body bytes block (ap length has ∙ zeros-length)
 
+back : (p k : ℕ) → p + k - p ≡ k
+back p k = omega arith
+
 -- a body that was written stands in its block
 pub body-there : (bytes : List ℕ) (block : ℕ) (part : List ℕ) → length part ≡ 4096 → body_in (written (block_place block) part bytes) block ≡ part
 body-there bytes block part long =
@@ -100,9 +103,6 @@ body-there bytes block part long =
         at-piece (block_place block) 4096 k (written (block_place block) part bytes) lt
         ∙ written-within (block_place block) part bytes (block_place block + k) (omega arith) (omega (arith, lt, long))
         ∙ ap (λ (i : ℕ). get_or part i 0) (back (block_place block) k)
-
-    back : (p k : ℕ) → p + k - p ≡ k
-    back p k = omega arith
 
 -- a block that is held keeps its body where another one is written
 pub body-beside : (bytes : List ℕ) (a b : ℕ) (part : List ℕ) → length part ≡ 4096 → a ≢ b → IsHeld (length bytes) a → body_in (written (block_place b) part bytes) a ≡ body_in bytes a
