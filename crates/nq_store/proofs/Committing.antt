@@ -22,7 +22,7 @@ use Rattle.law_image.specs.Changing.{CanBeWritten, IsWritten, new_blocks, zeroed
 use Rattle.nq_store.specs.Storing.{IsKeptOn, IsReady, IsSound, LeavesKept, OpensWhole, StandsStill, content_while, kept_on, kept_told}
 use Rattle.nq_image.proofs.Agreeing.{agree-kept, agree-stands}
 use Rattle.law_image.proofs.Fitting.{change-fits}
-use Rattle.law_image.proofs.Free.{all-zeros, zeroed-agrees}
+use Rattle.law_image.proofs.Zeroing.{all-zeros, zeroed-agrees}
 use Rattle.law_image.proofs.Opening.{change-settled, change-stands, closed-stands}
 use Rattle.law_image.proofs.Seats.{new-are-free}
 use Rattle.nq_store.proofs.Keeping.{held-kept, known, stands-kept}

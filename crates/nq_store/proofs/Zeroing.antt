@@ -16,7 +16,7 @@ use Rattle.nq_redo.specs.Whole.{IsClosed}
 use Rattle.law_image.specs.Changing.{zeroed}
 use Rattle.nq_store.specs.Storing.{StandsStill}
 use Rattle.nq_image.proofs.Agreeing.{agree-stands}
-use Rattle.law_image.proofs.Free.{agree-on, torn-agrees}
+use Rattle.law_image.proofs.Zeroing.{agree-on, torn-agrees}
 
 pub through : (P : List ℕ → Type 0) (A B : Type 0) (image : List ℕ) → A ⊎ B → (A → P image) → (B → P image) → P image
 through P A B image (inl a) f g = f a
