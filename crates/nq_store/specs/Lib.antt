@@ -2,3 +2,4 @@ pub mod Storing
 pub mod Telling
 pub mod Opening
 pub mod Laws
+pub mod Migrating

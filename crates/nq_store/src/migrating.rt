@@ -1,8 +1,10 @@
 //! An image of version 1 becomes one of version 2.
 
 ghost use Rattle.std.specs.Prelude.{◌≡◌, ◌≤◌, ◌<◌, ◌+◌, ℕ, All, IfOk, length, slice_index, sum_by};
+ghost use Rattle.std.specs.Option.{ForSome};
 ghost use Rattle.nq_image.specs.Rows.{blocks_of as blocks_at};
 ghost use Rattle.nq_format.specs.Standing.{image_area};
+ghost use Rattle.nq_store.specs.Migrating.{IsOld, LeavesSameKept, Migrates};
 ghost use Rattle.nq_store.specs.Opening.{CountsFault, FailsNot};
 
 use crate::fault::Fault;
@@ -180,11 +182,14 @@ fn finish<D: Disk>(redo: &mut Redo<D>, batch: &Batch) -> Result<(), Fault>
     Ok(())
 }
 
-/// Makes an image of version 1 one of version 2 that stands for the same.
+/// Makes an image of version 1 one of version 2 that stands for the same. Whenever a stop comes, what it leaves stands for the same
+/// kept state, in one version or the other.
 pub(crate) fn migrate<D: Disk>(redo: &mut Redo<D>, alloc: Global, head: &[u8]) -> Result<(), Fault>
     requires area { redo.old.area ≡ image_area }
     requires size { length head.now ≡ 28672 }
     ensures area { redo.new.area ≡ image_area }
+    ensures migrates { ForSome (D.told redo.old.disk) (λ bytes. IsOld head.now (D.may_leave redo.old.disk) bytes → Migrates result bytes (D.told redo.new.disk) (D.may_leave redo.new.disk)) }
+    ensures leaves { ForSome (D.told redo.old.disk) (λ bytes. IsOld head.now (D.may_leave redo.old.disk) bytes → LeavesSameKept bytes (D.leaves redo.old.disk redo.new.disk)) }
     ensures cause { CountsFault result (D.faults redo.old.disk) (D.faults redo.new.disk) }
     ensures follows { D.follows redo.old.disk redo.new.disk }
 {
