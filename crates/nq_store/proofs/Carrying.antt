@@ -3,12 +3,29 @@ use Rattle.std.proofs.Common.{◌≡◌, ◌⊎◌, ◌≤◌, ℕ, Bool, true, 
 use Rattle.std.specs.Option.{ForSome}
 use Rattle.nq_base.specs.declared.Change.{Change}
 use Rattle.nq_io.specs.Faults.{Rose}
-use Rattle.nq_keeper.specs.Keeping.{Commits, LeavesTwo, Reads, told_after}
+use Rattle.nq_keeper.specs.Keeping.{Commits, LeavesOne, LeavesTwo, Reads, told_after}
 use Rattle.nq_keeper.specs.declared.keeper.KeepFault.{KeepFault}
 use Rattle.nq_keeper.specs.declared.keeper.KeepFault.TheVariants.{Failed, Memory}
 use Rattle.nq_model.specs.Kept.{Kept}
-use Rattle.nq_store.specs.Storing.{CountsKeep, GoesOn, LeavesKept, StoredStore, content_of, content_while, counted, faults_of, kept_told}
+use Rattle.nq_plan.specs.Held.{HeldTables}
+use Rattle.nq_store.specs.Storing.{CountsKeep, GoesOn, IsSound, LeavesKept, StoredStore, content_of, content_while, counted, faults_of, kept_told}
 use Rattle.nq_store.proofs.Keeping.{rose-counted}
+
+-- a store of these fields
+abbrev pub stored : {D : Type 0} → D → HeldTables → Bool → ℕ → StoredStore D
+stored disk tables ended refused = record { disk = disk; tables = tables; ended = ended; refused = refused }
+
+pub tables-in : {D : Type 0} (view store : StoredStore D) → view ≡ store → store.tables ≡ view.tables
+tables-in {D} view store is = ap (λ (s : StoredStore D). s.tables) (sym is)
+
+pub sound-in : {D : Type 0} (told : D → Option (List ℕ)) (may : D → List ℕ → Type 0) (view store : StoredStore D) → view ≡ store → IsSound (told view.disk) (may view.disk) view.tables view.ended → IsSound (told store.disk) (may store.disk) store.tables store.ended
+sound-in {D} told may view store is sound = subst (λ (s : StoredStore D). IsSound (told s.disk) (may s.disk) s.tables s.ended) is sound
+
+pub leaves-in : {D : Type 0} (told : D → Option (List ℕ)) (leaves : D → D → List ℕ → Type 0) (view store : StoredStore D) (now : D) → view ≡ store → LeavesOne (content_of told view) (LeavesKept (leaves view.disk now)) → LeavesOne (content_of told store) (LeavesKept (leaves store.disk now))
+leaves-in {D} told leaves view store now is left = subst (λ (s : StoredStore D). LeavesOne (content_of told s) (LeavesKept (leaves s.disk now))) is left
+
+pub told-at : {D : Type 0} (told : D → Option (List ℕ)) (P : List ℕ → Type 0) (view store : StoredStore D) → view ≡ store → ForSome (told view.disk) P → ForSome (told store.disk) P
+told-at {D} told P view store is for = subst (λ (s : StoredStore D). ForSome (told s.disk) P) is for
 
 module _ {D : Type 0} (view store : StoredStore D) (is : view ≡ store) (goes : store.ended ≡ false) where
   pub goes-in : view.ended ≡ false
