@@ -1,8 +1,10 @@
 use Rattle.std.proofs.Common.{◌≡◌, true, false, refl, sym, ap, subst, ◌∙◌}
+use Rattle.std.specs.Option.{ForSome}
 use Rattle.nq_model.specs.Change.{Fits, IsChangeWithin}
 use Rattle.nq_plan.specs.Held.{HeldTables}
 use Rattle.nq_plan.specs.Placing.{IsPlacedFor}
 use Rattle.nq_plan.specs.Ranges.{ranges_of}
+use Rattle.nq_store.specs.Storing.{IsKeptOn}
 use Rattle.nq_store.proofs.Carrying.{asked-in, commits-failed, commits-ok, follows-so, goes-in, leaves-so, stored, tables-in}
 use Rattle.nq_store.proofs.Committing.{leaves-then, settles-as, sound-then, told-then, whole-as}
 use Rattle.nq_store.proofs.Zeroing.{zeros-are}
@@ -28,7 +30,11 @@ invariant_of-self g c =
     let may = g.D.Disk.may_leave inside.redo.disk in
     let disk = c.carry_out-written.new.redo.disk in
     let settles = settles-as inside.tables change placed may is_placed told sound fits own c.fresh_blocks.result.now c.args.plan.batch c.fresh_blocks.ensures are (g.D.Disk.told disk) (g.D.Disk.may_leave disk) c.in-Ok.ensures.settled in
-    (c.carry_out-written.ensures.area, λ goes. sound-then inside.tables change placed may is_placed told sound fits own (g.D.Disk.told disk) (g.D.Disk.may_leave disk) c.carry_out-written.ensures.silent settles)
+    (
+      c.carry_out-written.ensures.area,
+      λ goes. subst (λ (t : HeldTables). ForSome (g.D.Disk.told disk) (IsKeptOn t (g.D.Disk.may_leave disk))) (sym c.settle.ensures)
+          (sound-then inside.tables change placed may is_placed told sound fits own (g.D.Disk.told disk) (g.D.Disk.may_leave disk) c.carry_out-written.ensures.silent settles),
+    )
 
 pub returns-in-Ok-clause-commits : goal.returns-in-Ok-clause-commits
 returns-in-Ok-clause-commits g c =
