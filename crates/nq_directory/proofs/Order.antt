@@ -1,19 +1,20 @@
 -- Names in order, and where each stands.
-use Rattle.std.proofs.Common.{◌≡◌, ◌⊎◌, ℕ, ◌+◌, ◌≤◌, ◌<◌, Bool, true, false, List, [], ◌∷◌, Option, Some, None, if◌then◌else◌, suc, zero, get_or, length, refl, sym, ap, ◌∙◌, inl, inr, arith, Ordering}
+use Rattle.std.proofs.Common.{◌≡◌, ◌⊎◌, ℕ, ◌+◌, ◌≤◌, ◌<◌, Bool, true, false, List, [], ◌∷◌, Option, Some, None, if◌then◌else◌, suc, zero, get_or, drop, drop-cons, length, refl, sym, ap, ◌∙◌, inl, inr, arith, Ordering, Less, Equal, Greater}
 use Rattle.std.specs.List.{find, prefix_len, insert, slice_get}
 use Rattle.std.specs.List.Sorted.{IsPartitionedBy, IsPartitionPoint}
 use Rattle.std.specs.Fn.{Called, ComputesKey}
 use Rattle.std.specs.Cmp.Lexicographic.{slice_cmp, same_text, texts_ties}
-use Rattle.std.specs.Ordering.{Less, Equal, Greater, is_lt, is_eq, nat_cmp, ordering_reverse}
+use Rattle.std.specs.Ordering.{is_lt, is_eq, nat_cmp, ordering_reverse}
 use Rattle.std.specs.Cmp.{IsTotalOrder}
 use Rattle.std.proofs.lemmas.Cmp.{nat_list_cmp_total, tied_itself}
+use Rattle.std.proofs.lemmas.List.{drop_all}
 use Rattle.std.proofs.lemmas.List.Sorted.{IsPartitionPoint-from_clause}
 use Rattle.std.proofs.lemmas.List.Sums.{prefix_len_is}
 use denote.Param.Members.{Mut}
 use denote.Ref.{Bor}
 use Rattle.nq_model.specs.Profile.{same_bytes}
 use Rattle.nq_directory.specs.declared.names.FileName.{FileName}
-use Rattle.nq_directory.specs.Names.{file_of, named, name_before, is_before, is_named, put_name, NoneBefore, AreInOrder}
+use Rattle.nq_directory.specs.Names.{file_of, named, name_before, is_before, is_named, put_name, put_names, NoneBefore, AreInOrder}
 use Rattle.nq_directory.proofs.Called.{same-name, same-self}
 
 pub decided : (b : Bool) → (b ≡ true) ⊎ (b ≡ false)
@@ -179,7 +180,7 @@ none-put : (n : List ℕ) (e : FileName) (xs : List FileName) → name_before e.
 none-put n e [] h o = (h, tt)
 none-put n e (x ∷ xs) h o = elim (decided (name_before x.name e.name)) [
   | inl k ↦ rw k (o.0, none-put n e xs h o.1)
-  | inr k ↦ rw k (h, o.0, o.1)
+  | inr k ↦ rw k (h, o)
 ]
 
 none-of-all : (e x : FileName) (xs : List FileName) → name_before x.name e.name ≡ false → NoneBefore x.name xs → NoneBefore e.name xs
@@ -197,5 +198,16 @@ pub put-in-order : (e : FileName) (xs : List FileName) → AreInOrder xs → Are
 put-in-order e [] o = (tt, tt)
 put-in-order e (x ∷ xs) o = elim (decided (name_before x.name e.name)) [
   | inl h ↦ rw h (none-put x.name e xs (not-before-both x.name e.name h) o.0, put-in-order e xs o.1)
-  | inr h ↦ rw h ((h, none-of-all e x xs h o.0), o.0, o.1)
+  | inr h ↦ rw h ((h, none-of-all e x xs h o.0), o)
 ]
+
+-- ---- names that are put in one after another
+
+pub put-next : (more : List FileName) (i : ℕ) (e : FileName) (names : List FileName) → i < length more → e ≡ get_or more i e → put_names (drop i more) names ≡ put_names (drop (i + 1) more) (put_name e names)
+put-next more i e names lt is =
+    let next : suc i ≡ i + 1 = omega arith in
+    ap (λ l. put_names l names) (drop-cons more i e lt ∙ ap (λ x. x ∷ drop (suc i) more) (sym is))
+    ∙ ap (λ n. put_names (drop n more) (put_name e names)) next
+
+pub put-none : (more : List FileName) (i : ℕ) (names : List FileName) → length more ≤ i → put_names (drop i more) names ≡ names
+put-none more i names le = ap (λ l. put_names l names) (drop_all i more le)

@@ -64,9 +64,23 @@ fn insert_at(names: &mut Vec<FileName>, place: usize, entry: &FileName)
     requires place { place ≤ vec_len names.old }
     requires room { vec_len names.old < vec_capacity names.old }
     ensures items { names.new.items ≡ insert names.old.items place entry.now }
+    ensures len { vec_len names.new ≡ vec_len names.old + 1 }
     ensures capacity { vec_capacity names.old ≤ vec_capacity names.new }
 {
     names.insert(place, *entry).unwrap();
+}
+
+/// Puts an entry in its place, which is known, where there is room.
+fn put_at(names: &mut Vec<FileName>, place: usize, entry: &FileName)
+    requires order { AreInOrder names.old.items }
+    requires place { place ≡ prefix_len (is_before entry.now.name) names.old.items }
+    requires room { vec_len names.old < vec_capacity names.old }
+    ensures items { names.new.items ≡ put_name entry.now names.old.items }
+    ensures order { AreInOrder names.new.items }
+    ensures len { vec_len names.new ≡ vec_len names.old + 1 }
+    ensures capacity { vec_capacity names.old ≤ vec_capacity names.new }
+{
+    insert_at(names, place, entry);
 }
 
 /// Puts an entry in its place, where there is room.
@@ -75,10 +89,11 @@ fn add(names: &mut Vec<FileName>, entry: &FileName)
     requires room { vec_len names.old < vec_capacity names.old }
     ensures items { names.new.items ≡ put_name entry.now names.old.items }
     ensures order { AreInOrder names.new.items }
+    ensures len { vec_len names.new ≡ vec_len names.old + 1 }
     ensures capacity { vec_capacity names.old ≤ vec_capacity names.new }
 {
     let place = place_of(names.as_slice(), &entry.name);
-    insert_at(names, place, entry);
+    put_at(names, place, entry);
 }
 
 /// Puts entries in their places, where there is room for them. It takes no memory.

@@ -198,7 +198,7 @@ fn entries(reader: &mut Reader, count: u32, names: &mut Vec<FileName>) -> Result
     requires room { count ≤ vec_capacity names.old }
     ensures { Gives (λ done. (names.new.items, reader.new)) result (entries_at [] count reader.old) }
 {
-    for _place in 0..count {
+    for place in 0..count {
         let entry = entry(reader)?;
         names.push(entry).unwrap();
     }

@@ -1,0 +1,146 @@
+//! READDIRLOOK while the server serves.
+
+ghost use Rattle.std.specs.Prelude.{◌≡◌, ◌++◌, [], None, Some, length, IfOk, OnErr, OnOk};
+ghost use Rattle.nq_name_server.specs.Serving.{for_asker, lists_for, reads_dir};
+
+use crate::notifying::notice_bytes;
+use crate::server::{MOST_DIRECTORIES, NameServer};
+use nq_base::{Access, Asked, FileId, Grant, Mode, NoMemory, Party, Question, Rev, RowKey, Want};
+use nq_directory::FileName;
+use nq_grant::ask;
+use nq_listing::{BegunPage, ReadDir, later_bytes};
+use nq_wire::Outbox;
+use std::alloc::Global;
+
+/// The replies that a READDIRLOOK may get, for which all memory is taken.
+#[derive(Drop)]
+struct Replies {
+    page: BegunPage,
+    later: Vec<u8>,
+}
+
+impl NameServer {
+    /// Answers a READDIRLOOK of an attached incarnation while the server serves. `names` are at most 32 files of the directory behind
+    /// the id that it names, by id, and `more` says whether the list goes on behind them. The reply has them and the lease, or says
+    /// that the client is to ask again later; where the client's own lease on the directory is to be given up, a DIREVICTED stands
+    /// before it.
+    ///
+    /// # Errors
+    ///
+    /// `NoMemory` where memory is wanting; then nothing is changed.
+    pub fn read_dir(
+        &mut self,
+        alloc: Global,
+        request: &ReadDir,
+        names: &[FileName],
+        more: bool,
+        out: &mut Outbox,
+    ) -> Result<(), NoMemory> {
+        let host = request.who.host;
+        let inc = request.who.inc.0;
+        let page = BegunPage::new(alloc, request.xid, inc, names, more)?;
+        let later = later_bytes(alloc, request.xid, inc)?;
+        out.reserve(2)?;
+        let Some(number) = self.number_for(request) else {
+            out.push(Party::Client(host), page.end(&None)).unwrap();
+            return Ok(());
+        };
+        self.read_numbered(alloc, request, number, Replies { page, later }, out)
+    }
+
+    /// The number of the directory of a request, or the next one; None where all are taken.
+    fn number_for(&self, request: &ReadDir) -> Option<FileId> {
+        match self.number_of(&request.prefix) {
+            Some(number) => Some(number),
+            None if self.directories.len() < MOST_DIRECTORIES => {
+                Some(FileId(self.directories.len() as u32))
+            }
+            None => None,
+        }
+    }
+
+    /// Answers a READDIRLOOK of the directory with this number, which may be a new one.
+    fn read_numbered(
+        &mut self,
+        alloc: Global,
+        request: &ReadDir,
+        number: FileId,
+        replies: Replies,
+        out: &mut Outbox,
+    ) -> Result<(), NoMemory> {
+        let warning = self.own_notice(alloc, request, number)?;
+        self.enter(request, number);
+        self.drop_older(request, number);
+        let asked = ask(
+            &mut self.table,
+            &Question {
+                who: request.who,
+                file: number,
+                access: Access::Read,
+                want: Some(Want {
+                    mode: Mode::Reading,
+                    term: request.term,
+                }),
+                longest: self.longest,
+                time: self.time,
+                rev: Rev(0),
+                blocks: 0,
+            },
+        );
+        let to = Party::Client(request.who.host);
+        match asked {
+            Asked::TryLater(_) => {
+                if let Some(warning) = warning {
+                    self.notice = self.notice.wrapping_add(1);
+                    out.push(to, warning).unwrap();
+                }
+                out.push(to, replies.later).unwrap();
+            }
+            Asked::Granted(grant) => out.push(to, replies.page.end(&Some(grant))).unwrap(),
+            Asked::Free | Asked::NoLease => out.push(to, replies.page.end(&None)).unwrap(),
+        }
+        Ok(())
+    }
+
+    /// The DIREVICTED to the asker itself, where its own row on the directory is to be given up.
+    fn own_notice(
+        &self,
+        alloc: Global,
+        request: &ReadDir,
+        number: FileId,
+    ) -> Result<Option<Vec<u8>>, NoMemory> {
+        let key = RowKey {
+            file: number,
+            host: request.who.host,
+        };
+        match self.table.row(key) {
+            Some(row) if row.who.inc == request.who.inc && row.evicting => Ok(Some(notice_bytes(
+                alloc,
+                &request.prefix,
+                self.notice,
+                &row,
+            )?)),
+            _ => Ok(None),
+        }
+    }
+
+    /// A directory without a number gets this one.
+    fn enter(&mut self, request: &ReadDir, number: FileId) {
+        if number.0 as usize == self.directories.len() {
+            self.directories.push(request.prefix).unwrap();
+        }
+    }
+
+    /// Drops the asker's row on a directory, where it is of another incarnation.
+    fn drop_older(&mut self, request: &ReadDir, number: FileId) {
+        let key = RowKey {
+            file: number,
+            host: request.who.host,
+        };
+        if let Some(row) = self.table.row(key)
+            && row.who.inc != request.who.inc
+        {
+            self.table.drop_row(key);
+        }
+    }
+}
