@@ -1,5 +1,6 @@
 -- Names, as they are compared.
-use Rattle.std.proofs.Common.{◌≡◌, ◌≢◌, ℕ, Bool, true, false, ◌&&◌, ◌==◌, List, [], ◌∷◌, refl, ap, ◌∙◌}
+use Rattle.std.proofs.Common.{◌≡◌, ◌≢◌, ℕ, Bool, true, false, ◌&&◌, ◌==◌, List, [], ◌∷◌, refl, sym, ap, ◌∙◌}
+use Rattle.std.specs.Prelude.{◌↔◌, IsTrue}
 use Rattle.nq_model.specs.Profile.{same_bytes}
 use Rattle.nq_model.proofs.Finding.{same-number, number-same}
 
@@ -30,3 +31,8 @@ pub same_names : (a b : List ℕ) → a ≡ b → same_bytes a b ≡ true
 same_names a b e = ap (λ x. same_bytes x b) e ∙ same-self b
 
 pub ruleset named = (same_names, other_name)
+
+-- a test of two names is the test of their bytes
+pub tested : (b : Bool) (a c : List ℕ) → (IsTrue b ↔ (a ≡ c)) → b ≡ same_bytes a c
+tested true a c h = sym (same_names a c (h.0 refl))
+tested false a c h = sym (other_name a c (λ e. let on : false ≡ true = h.1 e in absurd (cc)))

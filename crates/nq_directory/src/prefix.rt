@@ -2,6 +2,7 @@
 
 ghost use Rattle.std.specs.Prelude.{◌≡◌, ◌≤◌, ◌-◌, ◌++◌, ◌↔◌, length, replicate, take, IsSome, IfSome, IsTrue};
 ghost use Rattle.nq_directory.specs.Prefix.{IsPrefix, directory};
+ghost use Rattle.nq_model.specs.Profile.{same_bytes};
 
 use nq_base::Name;
 use std::marker::Model;
@@ -56,9 +57,17 @@ impl Prefix {
 
     /// Whether the two prefixes are one.
     pub fn is(&self, other: &Prefix) -> bool
-        ensures { IsTrue result ↔ (self.now ≡ other.now) }
+        ensures same { IsTrue result ↔ (self.now ≡ other.now) }
+        ensures test { result ≡ same_bytes self.now other.now }
     {
-        self.as_bytes() == other.as_bytes()
+        self.has(other.as_bytes())
+    }
+
+    /// Whether these are the bytes.
+    fn has(&self, bytes: &[u8]) -> bool
+        ensures { IsTrue result ↔ (self.now ≡ bytes.now) }
+    {
+        self.as_bytes() == bytes
     }
 }
 

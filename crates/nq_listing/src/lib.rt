@@ -18,6 +18,4 @@ pub use messages::{
     READ_DIR_PROCEDURE, ReadDir, Told,
 };
 pub use reading::{read_dir_evicted, read_dir_vacated, read_read_dir, read_told};
-pub use writing::{
-    BegunPage, dir_evicted_bytes, dir_vacated_bytes, later_bytes, read_dir_bytes,
-};
+pub use writing::{BegunPage, dir_evicted_bytes, dir_vacated_bytes, later_bytes, read_dir_bytes};

@@ -12,8 +12,8 @@ use crate::messages::{
     READ_DIR_PROCEDURE, ReadDir, Told,
 };
 use nq_base::{FileId, NoMemory};
-use nq_directory::{FileName, Prefix};
 use nq_datagrams::{PROGRAM, RPC_VERSION, VERSION};
+use nq_directory::{FileName, Prefix};
 use nq_rpc::{LentCall, LentMessage, LentOutcome, LentReply, decode_in_place};
 use nq_wire::Garbage;
 use nq_wire::parts::{name, optional_grant, tag, who};

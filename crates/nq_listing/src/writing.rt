@@ -9,12 +9,11 @@ ghost use Rattle.nq_wire.specs.Parts.{grant_bytes, optional, IsGrant};
 ghost use Rattle.nq_xdr.specs.Item.{opaque};
 
 use crate::messages::{
-    DIR_EVICTED_PROCEDURE, DIR_VACATED_PROCEDURE, DirTag, LATER_STATUS,
-    READ_DIR_PROCEDURE, ReadDir,
+    DIR_EVICTED_PROCEDURE, DIR_VACATED_PROCEDURE, DirTag, LATER_STATUS, READ_DIR_PROCEDURE, ReadDir,
 };
 use nq_base::{Grant, NoMemory};
-use nq_directory::{FileName, Prefix};
 use nq_datagrams::{PROGRAM, VERSION};
+use nq_directory::{FileName, Prefix};
 use nq_rpc::{Head, begin_call, begin_reply};
 use nq_wire::parts::{put_name, put_optional_grant, put_tag, put_who};
 use nq_xdr::Writer;

@@ -147,3 +147,33 @@ heard_as n (Some r) bytes term now = heard_by n r bytes (told_in r.xid n.who.inc
 -- what a host makes of bytes from the server
 abbrev pub heard : Names → (bytes : List ℕ) → (term now : ℕ) → Asks
 heard n bytes term now = heard_as n n.asked bytes term now
+
+-- ---- the same in the order of the code, which takes all memory first
+
+-- what bytes tell as the reply to the request under way
+abbrev pub answer_in : Names → Option Request → (bytes : List ℕ) → Option Answer
+answer_in n None bytes = None
+answer_in n (Some r) bytes = told_in r.xid n.who.inc bytes
+
+-- the READDIRLOOK for the page behind these names, where the list goes on behind them
+abbrev pub next_bytes : Names → Request → List FileName → (more : Bool) → (term : ℕ) → Option (List ℕ)
+next_bytes n r names true term = Some (read_dir_bytes (request_of n r.part.prefix (last_id r.after names) term))
+next_bytes n r names false term = None
+
+-- a list that has grown by these names: the next page is asked for by these bytes, or the list is whole
+abbrev pub gone_on : Names → Request → List FileName → Option (List ℕ) → (now : ℕ) → Asks
+gone_on n r names (Some bytes) now = record {
+  names = record n {
+    next = number_after n.next;
+    asked = Some (record { xid = n.next; after = last_id r.after names; sent = now; part = r.part });
+  };
+  sends = Some bytes;
+}
+gone_on n r names None now = silent (record n { lists = n.lists ++ r.part ∷ []; asked = None })
+
+-- a page that came with a lease
+abbrev pub page_taken : Names → Request → List FileName → Grant → Option (List ℕ) → (now : ℕ) → Asks
+page_taken n r names g next now =
+    if goes_on r.part (Some g)
+    then gone_on n (record r { part = with_page r.part r.sent g names }) names next now
+    else silent (record n { asked = None })

@@ -1,13 +1,14 @@
 //! What a host makes of datagrams.
 
-ghost use Rattle.std.specs.Prelude.{◌≡◌, ◌<◌, ◌^◌, None, Some, option_map, IfOk, IfSome, OnErr};
-ghost use Rattle.nq_listing.specs.Lent.{answer_of, answers_of, listing_of};
-ghost use Rattle.nq_listing.specs.Reading.{told_in};
-ghost use Rattle.nq_name_cache.specs.Asking.{evicted, heard, last_id, lease_by, is_later, noticed, takes_page, told, vacated_of};
-ghost use Rattle.nq_name_cache.specs.Names.{list_of, Request};
+ghost use Rattle.std.specs.Prelude.{◌≡◌, ◌<◌, ◌≤◌, ◌^◌, ◌+◌, [], ◌∷◌, ◌++◌, true, false, None, Some, option_map, vec_len, vec_capacity, IfOk, IfSome, OnErr};
+ghost use Rattle.nq_listing.specs.Lent.{answer_of, answers_of};
+ghost use Rattle.nq_listing.specs.Messages.{read_dir_bytes};
+ghost use Rattle.nq_listing.specs.Reading.{dir_evicted_in};
+ghost use Rattle.nq_name_cache.specs.Asking.{answer_in, evicted, gone_on, heard, is_later, last_id, lease_by, next_bytes, noticed, page_taken, told};
+ghost use Rattle.nq_name_cache.specs.Names.{Request, list_of};
 
 use crate::cache::{Asked, NameCache};
-use crate::listed::list_of;
+use crate::listed::{Listed, list_of};
 use nq_base::{FileId, Grant, NoMemory, Ticks};
 use nq_directory::FileName;
 use nq_listing::{
@@ -62,11 +63,13 @@ impl NameCache {
         ensures told { IfOk result (λ o. (r : Request) → self.old.asked ≡ Some r → record { names = self.new; sends = option_map (λ v. v.items) o } ≡ told self.old r (answer_of told) term now) }
         ensures refused { OnErr result (self.new ≡ self.old) }
     {
-        if let Told::Page(Page {
-            names,
-            more,
-            grant: Some(grant),
-        }) = told
+        if let Told::Page(
+            Page {
+                names,
+                more,
+                grant: Some(grant),
+            },
+        ) = told
         {
             let next = self.next_request(alloc, &names, more, term)?;
             self.take_page(&names, &grant, next, now)
@@ -84,6 +87,7 @@ impl NameCache {
         more: bool,
         term: u32,
     ) -> Result<Option<Vec<u8>>, NoMemory>
+        ensures { IfOk result (λ o. (r : Request) → self.now.asked ≡ Some r → option_map (λ v. v.items) o ≡ next_bytes self.now r names.now more term) }
     {
         match &self.asked {
             Some(asked) if more => {
@@ -104,6 +108,8 @@ impl NameCache {
         now: Ticks,
     ) -> Result<Option<Vec<u8>>, NoMemory>
         requires { now < 2 ^ 62 }
+        ensures taken { IfOk result (λ o. (r : Request) → self.old.asked ≡ Some r → record { names = self.new; sends = option_map (λ v. v.items) o } ≡ page_taken self.old r names.now grant.now (option_map (λ v. v.items) next) now) }
+        ensures refused { OnErr result (self.new ≡ self.old) }
     {
         self.lists.reserve(1)?;
         let Some(asked) = &mut self.asked else {
@@ -114,13 +120,6 @@ impl NameCache {
             self.asked = None;
             return Ok(None);
         }
-        self.go_on(names, next, now)
-    }
-
-    /// Goes on with a list that has grown by these names: asks for the next page, or keeps the list, which is whole.
-    fn go_on(&mut self, names: &[FileName], next: Option<Vec<u8>>, now: Ticks) -> Result<Option<Vec<u8>>, NoMemory>
-        requires { now < 2 ^ 62 }
-    {
         let Some(Asked { after, part, .. }) = self.asked.take() else {
             return Ok(None);
         };
@@ -130,7 +129,7 @@ impl NameCache {
                 Ok(Some(bytes))
             }
             None => {
-                self.lists.push(part).unwrap();
+                keep(&mut self.lists, part);
                 Ok(None)
             }
         }
@@ -189,4 +188,12 @@ fn last_id(after: FileId, names: &[FileName]) -> FileId
         Some(entry) => entry.file,
         None => after,
     }
+}
+
+/// Keeps a list that is whole, where there is room.
+fn keep(lists: &mut Vec<Listed>, part: Listed)
+    requires { vec_len lists.old + 1 ≤ vec_capacity lists.old }
+    ensures { lists.new.items ≡ lists.old.items ++ part ∷ [] }
+{
+    lists.push(part).unwrap();
 }

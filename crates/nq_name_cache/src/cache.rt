@@ -1,9 +1,9 @@
 //! The lists of a host.
 
-ghost use Rattle.std.specs.Prelude.{◌≡◌, ◌<◌, ◌^◌, [], None, Some, option_map, IfOk, OnErr};
+ghost use Rattle.std.specs.Prelude.{◌≡◌, ◌<◌, ◌^◌, [], None, Some, if◌then◌else◌, IfOk, OnErr};
 ghost use Rattle.nq_directory.specs.Prefix.{directory};
-ghost use Rattle.nq_name_cache.specs.Asking.{asks_behind, cleared, with_room};
-ghost use Rattle.nq_name_cache.specs.Names.{before_call, finds, forgets, forgets_all, new_names, number_after, other_lists, other_request};
+ghost use Rattle.nq_name_cache.specs.Asking.{asks_behind, cleared, request_of};
+ghost use Rattle.nq_name_cache.specs.Names.{before_call, empty_list, finds, forgets, forgets_all, new_names, number_after, other_request};
 
 use crate::found::Found;
 use crate::listed::{Listed, forget, list_of};

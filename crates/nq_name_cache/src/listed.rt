@@ -1,7 +1,8 @@
 //! Lists of directories.
 
-ghost use Rattle.std.specs.Prelude.{◌≡◌, ◌<◌, ◌↔◌, ◌^◌, true, Some, option_copied, if◌then◌else◌, IfOk, IsTrue, OnErr};
+ghost use Rattle.std.specs.Prelude.{◌≡◌, ◌<◌, ◌^◌, true, Some, option_copied, if◌then◌else◌, IfOk, OnErr};
 ghost use Rattle.nq_directory.specs.Names.{named};
+ghost use Rattle.nq_model.specs.Profile.{same_bytes};
 ghost use Rattle.nq_name_cache.specs.Asking.{goes_on, is_later, with_page};
 ghost use Rattle.nq_name_cache.specs.Names.{empty_list, found_as, list_of, other_lists, runs};
 
@@ -54,7 +55,7 @@ impl Listed {
 
     /// Whether it is the list of a directory.
     pub(crate) fn is_of(&self, prefix: &Prefix) -> bool
-        ensures { IsTrue result ↔ (self.now.prefix ≡ prefix.now) }
+        ensures { result ≡ same_bytes self.now.prefix prefix.now }
     {
         self.prefix.is(prefix)
     }

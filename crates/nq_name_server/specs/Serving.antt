@@ -111,10 +111,10 @@ for_asker table who number = with_rows table (own_again who number (find_row num
 abbrev pub asks_table : Served → ReadDir → (number : ℕ) → Leaf → Table → Serves
 asks_table s r number leaf table =
     leased s r
-      (ask table (lists_for s r number)).table
-      leaf
-      (evicting (find_row number r.who.host table.rows))
-      (ask table (lists_for s r number)).asked
+    (ask table (lists_for s r number)).table
+    leaf
+    (evicting (find_row number r.who.host table.rows))
+    (ask table (lists_for s r number)).asked
 
 -- a directory that has a number
 abbrev pub reads_numbered : Served → ReadDir → Leaf → (number : ℕ) → Serves

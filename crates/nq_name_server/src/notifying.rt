@@ -92,7 +92,15 @@ impl NameServer {
         out: &mut Outbox,
     ) -> Result<u32, NoMemory> {
         let len = out.len();
-        match tell_all(alloc, self.table.rows_of(number), who, prefix, number, self.notice, out) {
+        match tell_all(
+            alloc,
+            self.table.rows_of(number),
+            who,
+            prefix,
+            number,
+            self.notice,
+            out,
+        ) {
             Ok(notice) => Ok(notice),
             Err(fault) => {
                 out.cut(len);

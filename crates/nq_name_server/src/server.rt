@@ -51,12 +51,7 @@ impl NameServer {
     /// # Errors
     ///
     /// Only want of memory.
-    pub fn new(
-        alloc: Global,
-        boot: u32,
-        longest: u32,
-        time: Ticks,
-    ) -> Result<NameServer, NoMemory>
+    pub fn new(alloc: Global, boot: u32, longest: u32, time: Ticks) -> Result<NameServer, NoMemory>
         requires long { 5 ≤ longest }
         requires short { longest ≤ 600 }
         requires early { time < 2 ^ 62 }

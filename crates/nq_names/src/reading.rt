@@ -109,9 +109,11 @@ impl<K: Keeper> NameWorld<K> {
         self.around.sender = Party::Server;
         let alloc = self.alloc;
         let around = &mut self.around;
-        Ok(around
-            .server
-            .hold_up(alloc, changes.who, &changes.prefix, &mut around.due)?)
+        Ok(
+            around
+                .server
+                .hold_up(alloc, changes.who, &changes.prefix, &mut around.due)?,
+        )
     }
 
     /// Whose request a datagram is that changes a directory: a CREATE, or a REMOVE of a file that is kept.

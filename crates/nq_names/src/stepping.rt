@@ -63,7 +63,8 @@ impl<K: Keeper> NameWorld<K> {
             NameEvent::Plain(Event::Deliver(number)) if *number >= self.around.sent() => {
                 Stepped::NoPacket
             }
-            NameEvent::Plain(Event::ServerTick) if !self.world.lawful_server_tick() => Stepped::Done,
+            NameEvent::Plain(Event::ServerTick) if !self.world.lawful_server_tick() =>
+                Stepped::Done,
             _ => self.test_room(),
         }
     }

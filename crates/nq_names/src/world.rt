@@ -50,11 +50,7 @@ impl<K: Keeper> NameWorld<K> {
     /// # Errors
     ///
     /// Only want of memory; the keeper is handed back.
-    pub fn new(
-        alloc: Global,
-        world: World<K>,
-        hosts: u32,
-    ) -> Result<NameWorld<K>, NewFault<K>> {
+    pub fn new(alloc: Global, world: World<K>, hosts: u32) -> Result<NameWorld<K>, NewFault<K>> {
         match around(alloc, &world, hosts) {
             Ok(around) => Ok(NameWorld {
                 alloc,

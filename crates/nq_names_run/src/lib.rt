@@ -7,5 +7,7 @@
 #![tactic(auto)]
 
 mod event;
+mod laws;
 
 pub use event::NameEvent;
+pub use laws::{lists_change_nothing, runs_are_inner};

@@ -1,4 +1,4 @@
-use Rattle.std.proofs.Common.{rules, ◌≡◌, ◌∙◌, ◌+◌, sym, ap, arith, drop}
+use Rattle.std.proofs.Common.{◌∙◌, ◌+◌, sym, ap, arith, drop}
 use Rattle.nq_directory.specs.Names.{put_names}
 use Rattle.nq_directory.proofs.Order.{put-next, put-none}
 use Rattle.nq_directory.proofs.names.add_all.Goals as goal

@@ -1,4 +1,4 @@
-use Rattle.std.proofs.Common.{rules, ◌≡◌, ◌∙◌, sym, None, Some}
+use Rattle.std.proofs.Common.{◌∙◌, sym, None, Some}
 use Rattle.nq_directory.proofs.Order.{found-at}
 use Rattle.nq_directory.proofs.names.file_named.Goals as goal
 

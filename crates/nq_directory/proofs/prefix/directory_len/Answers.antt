@@ -1,7 +1,6 @@
-use Rattle.std.proofs.Common.{rules, ◌≡◌, ◌∙◌, arith}
+use Rattle.std.proofs.Common.{◌∙◌, arith}
 use Rattle.nq_directory.proofs.Dots.{shorter, ends, empty}
 use Rattle.nq_directory.proofs.prefix.directory_len.Goals as goal
-
 
 pub loop-end-preserved : goal.loop-end-preserved
 loop-end-preserved c = record {
