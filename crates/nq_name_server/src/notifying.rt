@@ -1,9 +1,9 @@
 //! Requests that change a directory, and notices to those who read it.
 
-ghost use Rattle.std.specs.Prelude.{◌≡◌, ◌<◌, ◌^◌, ◌+◌, ◌++◌, None, Some, true, false, length, map, IfOk, OnErr, OnOk};
+ghost use Rattle.std.specs.Prelude.{◌≡◌, ◌<◌, ◌^◌, IfOk, OnErr};
 ghost use Rattle.nq_listing.specs.Messages.{dir_evicted_bytes};
-ghost use Rattle.nq_name_server.specs.Sending.{Grows, sent};
-ghost use Rattle.nq_name_server.specs.Serving.{holds_up, notice_after, notices, readers};
+ghost use Rattle.nq_name_server.specs.Sending.{IsHeld, IsUntouched};
+ghost use Rattle.nq_name_server.specs.Serving.{holds_up};
 
 use crate::server::NameServer;
 use nq_base::{Access, FileId, NoMemory, Party, Question, Rev, Row, Who};
@@ -53,7 +53,7 @@ impl NameServer {
         ensures held { IfOk result (λ held. IsHeld held (holds_up self.old who prefix.now) self.old self.new out.old out.new) }
         ensures drawn { self.new.table.drawn ≡ self.old.table.drawn }
         ensures first { out.new.first ≡ out.old.first }
-        ensures refused { OnErr result ((self.new ≡ self.old) × (out.new.datagrams ≡ out.old.datagrams)) }
+        ensures refused { OnErr result (IsUntouched self.old self.new out.old out.new) }
     {
         let Some(number) = self.number_of(prefix) else {
             return Ok(false);

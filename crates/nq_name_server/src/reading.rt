@@ -1,7 +1,9 @@
 //! READDIRLOOK while the server serves.
 
-ghost use Rattle.std.specs.Prelude.{◌≡◌, ◌++◌, [], None, Some, length, IfOk, OnErr, OnOk};
-ghost use Rattle.nq_name_server.specs.Serving.{for_asker, lists_for, reads_dir};
+ghost use Rattle.std.specs.Prelude.{◌≡◌, ◌<◌, ◌≤◌, ◌+◌, ◌^◌, length, OnErr, OnOk};
+ghost use Rattle.nq_listing.specs.Messages.{most_names};
+ghost use Rattle.nq_name_server.specs.Sending.{IsServed, IsUntouched};
+ghost use Rattle.nq_name_server.specs.Serving.{reads_dir};
 
 use crate::notifying::notice_bytes;
 use crate::server::{MOST_DIRECTORIES, NameServer};
@@ -35,7 +37,14 @@ impl NameServer {
         names: &[FileName],
         more: bool,
         out: &mut Outbox,
-    ) -> Result<(), NoMemory> {
+    ) -> Result<(), NoMemory>
+        requires few { length names.now ≤ most_names }
+        requires drawn { self.old.table.drawn < 2 ^ 62 }
+        ensures read { OnOk result (IsServed (reads_dir self.old request.now (record { names = names.now; more = more })) self.new out.old out.new) }
+        ensures drawn { self.new.table.drawn ≤ self.old.table.drawn + 1 }
+        ensures first { out.new.first ≡ out.old.first }
+        ensures refused { OnErr result (IsUntouched self.old self.new out.old out.new) }
+    {
         let host = request.who.host;
         let inc = request.who.inc.0;
         let page = BegunPage::new(alloc, request.xid, inc, names, more)?;

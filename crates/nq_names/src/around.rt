@@ -1,13 +1,12 @@
 //! What stands around an inner world.
 
-ghost use Rattle.std.specs.Prelude.{◌≡◌, length};
-
 use nq_base::{Host, NoMemory, Party};
 use nq_name_cache::NameCache;
 use nq_name_server::NameServer;
 use nq_net::Packets;
 use nq_wire::Outbox;
 use std::alloc::Global;
+use std::marker::Model;
 
 /// A packet that travels, as it is taken in.
 #[derive(Drop)]
@@ -37,6 +36,24 @@ pub(crate) struct Around {
     flushed: usize,
     /// How many packets of the inner world have gone out.
     gone: u64,
+}
+
+impl Model for Around {
+    ghost use Rattle.std.specs.Prelude.{◌≡◌, ◌≤◌, drop, length};
+    ghost use Rattle.nq_names.specs.Around.{AroundOver, travelling};
+
+    ghost Value = { AroundOver };
+
+    ghost view = { λ a. record {
+      served = a.server;
+      sides = a.sides.items;
+      sent = travelling a.packets.datagrams a.inner.items;
+      sender = a.sender;
+      due = drop a.flushed a.due.datagrams;
+      gone = a.gone;
+    } };
+
+    ghost invariant = { λ a. (length a.packets.datagrams ≡ length a.inner.items) × (a.flushed ≤ length a.due.datagrams) };
 }
 
 impl Around {

@@ -1,5 +1,11 @@
 //! Stepping a world with leased directories.
 
+ghost use Rattle.std.specs.Prelude.{◌≡◌, List, length};
+ghost use Rattle.nq_model.specs.World.{Head};
+ghost use Rattle.nq_names.specs.Playing.{CanComeOutside, PlaysOutside, StepsOutside};
+ghost use Rattle.nq_names_run.specs.declared.NameEvent.{NameEvent};
+ghost use Rattle.nq_world.specs.Playing.{CountsFaults, HasSettings};
+
 use crate::around::Travelling;
 use crate::copying::copied;
 use crate::world::NameWorld;
@@ -34,7 +40,14 @@ impl<K: Keeper> NameWorld<K> {
     ///
     /// After every answer but `Done` the world plays the run that it played before. `Fault` exactly where the keeper counted a fault,
     /// which it may also do where the server's side reads what is kept; `Memory` where memory was refused.
-    pub fn step(&mut self, event: &NameEvent) -> Stepped {
+    pub fn step(&mut self, event: &NameEvent) -> Stepped
+        requires { CanComeOutside (length self.old.inner.clients) self.old.inner.skew.window event.now }
+        ensures steps { (head : Head) (events : List NameEvent) → PlaysOutside head events self.old (K.content self.old.inner.server.keeper)
+            → StepsOutside head events event.now result self.new (K.content self.old.inner.server.keeper) (K.content self.new.inner.server.keeper) }
+        ensures faults { CountsFaults result (K.faults self.old.inner.server.keeper) (K.faults self.new.inner.server.keeper) }
+        ensures follows { K.follows self.old.inner.server.keeper self.new.inner.server.keeper }
+        ensures settings { HasSettings (length self.old.inner.clients) self.old.inner.skew.window self.old.inner.term self.new.inner }
+    {
         match self.settle() {
             Ok(()) => self.step_settled(event),
             Err(NoMemory::Memory) => Stepped::Memory,

@@ -1,6 +1,14 @@
 //! The world with leased directories.
 
-ghost use Rattle.std.specs.Prelude.{◌≡◌, ◌<◌, length};
+ghost use Rattle.std.specs.Prelude.{◌≡◌, ◌<◌, [], List, Option, length, map, reverse, IfErr, IfOk};
+ghost use Rattle.nq_base.specs.Plain.{plain};
+ghost use Rattle.nq_model.specs.Kept.{Kept};
+ghost use Rattle.nq_model.specs.World.{Head};
+ghost use Rattle.nq_names.specs.Playing.{PlaysOutside};
+ghost use Rattle.nq_names_run.specs.declared.NameEvent.{NameEvent};
+ghost use Rattle.nq_names_run.specs.Outside.{found, outside_run};
+ghost use Rattle.nq_world.specs.Playing.{Plays};
+ghost use Rattle.nq_world.specs.declared.NewFault.{NewFault};
 
 use crate::around::Around;
 use nq_base::{Host, Journal, Name, NoMemory, Party};
@@ -11,6 +19,7 @@ use nq_net::Packets;
 use nq_script::Schedule;
 use nq_world::{NewFault, World};
 use std::alloc::Global;
+use std::marker::Model;
 
 /// A world with leased directories: the inner world, the leases at its server, the names that each host keeps, and the packets that
 /// travel. It ends with `into_keeper`.
@@ -20,6 +29,14 @@ pub struct NameWorld<K> {
     pub(crate) around: Around,
     pub(crate) ran: Schedule,
     pub(crate) events: u32,
+}
+
+impl<K> Model for NameWorld<K> {
+    ghost use Rattle.nq_names.specs.Playing.{NamesOver};
+
+    ghost Value = { NamesOver K };
+
+    ghost view = { λ w. record { inner = w.world; around = w.around; ran = w.ran; events = w.events } };
 }
 
 /// What the hosts of a world, of which there are so many, keep of names at first: nothing.
@@ -50,7 +67,12 @@ impl<K: Keeper> NameWorld<K> {
     /// # Errors
     ///
     /// Only want of memory; the keeper is handed back.
-    pub fn new(alloc: Global, world: World<K>, hosts: u32) -> Result<NameWorld<K>, NewFault<K>> {
+    pub fn new(alloc: Global, world: World<K>, hosts: u32) -> Result<NameWorld<K>, NewFault<K>>
+        requires { length world.clients ≡ hosts }
+        ensures plays { IfOk result (λ w. (head : Head) (told : Option Kept) → Plays head [] world told → PlaysOutside head [] w told) }
+        ensures inner { IfOk result (λ w. w.inner ≡ world) }
+        ensures refused { IfErr result (λ fault. fault ≡ NewFault.Memory world.server.keeper) }
+    {
         match around(alloc, &world, hosts) {
             Ok(around) => Ok(NameWorld {
                 alloc,
@@ -63,8 +85,12 @@ impl<K: Keeper> NameWorld<K> {
         }
     }
 
-    /// What a host that is there knows of a name: what the server keeps under it at this moment, or nothing.
-    pub fn find(&self, host: Host, name: &Name) -> Found {
+    /// What a host that is there knows of a name.
+    pub fn find(&self, host: Host, name: &Name) -> Found
+        requires { host < length self.now.inner.clients }
+        ensures { (head : Head) (events : List NameEvent) (told : Option Kept) → PlaysOutside head events self.now told
+            → result ≡ found (outside_run head events) host name.now }
+    {
         match self.around.sides.get(host.0 as usize) {
             Some(side) => side.find(name, self.world.time(Party::Client(host))),
             None => Found::Unknown,
@@ -76,28 +102,42 @@ impl<K: Keeper> NameWorld<K> {
     /// # Errors
     ///
     /// `NoMemory` where memory is wanting; the world plays the same run then.
-    pub fn sent(&mut self) -> Result<u64, NoMemory> {
+    pub fn sent(&mut self) -> Result<u64, NoMemory>
+        ensures same { (head : Head) (events : List NameEvent) (told : Option Kept) → PlaysOutside head events self.old told → PlaysOutside head events self.new told }
+        ensures packets { IfOk result (λ packets. (head : Head) (events : List NameEvent) (told : Option Kept) → PlaysOutside head events self.old told → packets ≡ length (outside_run head events).sent) }
+        ensures inner { self.new.inner ≡ self.old.inner }
+    {
         self.settle()?;
         Ok(self.around.sent())
     }
 
-    /// The packets that travel and have gone out.
-    pub fn packets(&self) -> &Packets {
+    /// The packets that travel and have gone out: all of them once [`sent`](NameWorld::sent) was called.
+    pub fn packets(&self) -> &Packets
+        ensures { map (λ d. (d.sender, d.to, d.bytes)) result.now.datagrams ≡ map (λ p. (p.sender, p.to, p.bytes)) self.now.around.sent }
+    {
         self.around.packets()
     }
 
     /// The events of the inner world that were run, the oldest first.
-    pub fn ran(&self) -> &Schedule {
+    pub fn ran(&self) -> &Schedule
+        ensures { (head : Head) (events : List NameEvent) (told : Option Kept) → PlaysOutside head events self.now told
+            → reverse result.now ≡ (outside_run head events).ran }
+    {
         &self.ran
     }
 
     /// The journal of the inner world.
-    pub fn journal(&self) -> &Journal {
+    pub fn journal(&self) -> &Journal
+        ensures { (head : Head) (events : List NameEvent) (told : Option Kept) → PlaysOutside head events self.now told
+            → map plain result.now.entries ≡ reverse (outside_run head events).world.journal }
+    {
         self.world.journal()
     }
 
     /// Ends the world.
-    pub fn into_keeper(self) -> K {
+    pub fn into_keeper(self) -> K
+        ensures { result ≡ self.inner.server.keeper }
+    {
         let NameWorld {
             alloc: _,
             world,
