@@ -2,6 +2,7 @@
 use Rattle.std.specs.Prelude.{ℕ, ◌+◌, ◌%◌, Bool, not, ◌&&◌, ◌==◌, List, [], ◌∷◌, ◌++◌, Option, Some, None, find, filter, length, nat_lt, if◌then◌else◌}
 use Rattle.nq_base.specs.declared.Call.{Call}
 use Rattle.nq_base.specs.declared.Who.{Who}
+use Rattle.nq_client_leases.specs.Leases.{passes}
 use Rattle.nq_directory.specs.declared.FileName.{FileName}
 use Rattle.nq_directory.specs.Names.{named}
 use Rattle.nq_directory.specs.Prefix.{directory}
@@ -55,11 +56,6 @@ number_after n = (n + 1) % xid_end
 abbrev pub list_of : (prefix : List ℕ) → List DirList → Option DirList
 list_of prefix lists = find (λ l. same_bytes l.prefix prefix) lists
 
--- whether a lease is held that runs
-abbrev pub runs : (now : ℕ) → Option Lease → Bool
-runs now None = false
-runs now (Some lease) = is_live now lease
-
 -- the file of a name, or that no file has it
 abbrev pub found_as : Option ℕ → Found
 found_as None = Found.Absent
@@ -68,7 +64,7 @@ found_as (Some file) = Found.File file
 -- what a list says of a name: nothing where its lease does not run
 abbrev pub found_in : (name : List ℕ) → (now : ℕ) → Option DirList → Found
 found_in name now None = Found.Unknown
-found_in name now (Some l) = if runs now l.lease then found_as (named name l.names) else Found.Unknown
+found_in name now (Some l) = if passes (is_live now) l.lease then found_as (named name l.names) else Found.Unknown
 
 -- what a host knows of a name
 abbrev pub finds : Names → (name : List ℕ) → (now : ℕ) → Found

@@ -1,14 +1,18 @@
 //! Lists of directories.
 
-ghost use Rattle.std.specs.Prelude.{◌≡◌, ◌<◌, ◌^◌, true, Some, option_copied, if◌then◌else◌, IfOk, OnErr};
+ghost use Rattle.std.specs.Prelude.{◌≡◌, ◌<◌, ◌^◌, ◌&&◌, not, true, Some, option_copied, if◌then◌else◌, IfOk, OnErr};
 ghost use Rattle.nq_directory.specs.Names.{named};
+ghost use Rattle.nq_client_leases.specs.Leases.{passes};
+ghost use Rattle.nq_client_leases.specs.Takes.{is_broken};
+ghost use Rattle.nq_model.specs.Client.{is_live};
 ghost use Rattle.nq_model.specs.Profile.{same_bytes};
-ghost use Rattle.nq_name_cache.specs.Asking.{goes_on, is_later, with_page};
-ghost use Rattle.nq_name_cache.specs.Names.{empty_list, found_as, list_of, other_lists, runs};
+ghost use Rattle.nq_model.specs.Table.{tag_below};
+ghost use Rattle.nq_name_cache.specs.Asking.{goes_on, is_later, is_reading, with_page};
+ghost use Rattle.nq_name_cache.specs.Names.{empty_list, found_as, list_of, other_lists};
 
 use crate::found::Found;
 use nq_base::{FileId, Grant, Mode, Name, NoMemory, Tag, Ticks};
-use nq_client_leases::{Held, Taken};
+use nq_client_leases::{Held, Take, Taken};
 use nq_directory::{FileName, Prefix, add_all, file_named};
 use std::alloc::Global;
 use std::marker::Model;
@@ -62,7 +66,7 @@ impl Listed {
 
     /// What the list says of a name. It takes no memory.
     pub(crate) fn find(&self, name: &Name, now: Ticks) -> Found
-        ensures { result ≡ (if runs now self.now.lease then found_as (named name.now self.now.names) else Found.Unknown) }
+        ensures { result ≡ (if passes (is_live now) self.now.lease then found_as (named name.now self.now.names) else Found.Unknown) }
     {
         if !self.held.live(now) {
             return Found::Unknown;
@@ -77,9 +81,11 @@ impl Listed {
     pub(crate) fn is_later(&self, tag: &Tag) -> bool
         ensures { result ≡ is_later tag.now self.now.lease }
     {
-        match self.held.lease() {
-            Some(lease) => *tag < lease.tag,
-            None => false,
+        match &self.held {
+            Held::Nothing => false,
+            Held::NonCaching(lease) | Held::Reading(lease) | Held::Writing(lease) => {
+                is_below(tag, &lease.tag)
+            }
         }
     }
 
@@ -89,6 +95,7 @@ impl Listed {
     /// # Errors
     ///
     /// `NoMemory` where memory is wanting; the list is as before then.
+    #[tactic(auto, using(crate::proofs::Pages::broken_breaks))]
     pub(crate) fn grow(
         &mut self,
         grant: &Grant,
@@ -103,13 +110,27 @@ impl Listed {
         self.names.reserve(names.len())?;
         let held = mem::replace(&mut self.held, Held::Nothing);
         let Taken { held, how } = held.take(FileId(0), grant, sent);
-        if how.is_broken() || grant.mode != Mode::Reading {
+        if !is_on(how, grant.mode) {
             return Ok(false);
         }
         self.held = held;
         add_all(&mut self.names, names);
         Ok(true)
     }
+}
+
+/// Whether a tag was drawn before another.
+fn is_below(tag: &Tag, other: &Tag) -> bool
+    ensures { result ≡ tag_below tag.now other.now }
+{
+    tag < other
+}
+
+/// Whether a lease of this kind, which follows so on what was held, goes on with a list.
+fn is_on(how: Take, mode: Mode) -> bool
+    ensures { result ≡ (is_reading mode && not (is_broken how)) }
+{
+    matches!(mode, Mode::Reading) && !how.is_broken()
 }
 
 /// The list of a directory, if it is there.
