@@ -1,2 +1,2 @@
 mod Again
-mod Entries
+pub mod Entries

@@ -193,6 +193,7 @@ fn entry(reader: &mut Reader) -> Result<FileName, Garbage>
 }
 
 /// So many files with their names.
+#[tactic(auto, using(crate::proofs::Entries::reading))]
 fn entries(reader: &mut Reader, count: u32, names: &mut Vec<FileName>) -> Result<(), Garbage>
     requires empty { names.old.items ≡ [] }
     requires room { count ≤ vec_capacity names.old }

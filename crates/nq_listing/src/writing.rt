@@ -198,6 +198,7 @@ fn put_entry(entry: &FileName, out: &mut Writer) -> Result<(), NoMemory>
 }
 
 /// Writes files with their names.
+#[tactic(auto, using(crate::proofs::Entries::writing))]
 fn put_entries(names: &[FileName], out: &mut Writer) -> Result<(), NoMemory>
     ensures written { OnOk result (out.new.bytes ≡ out.old.bytes ++ entries_bytes names.now) }
 {

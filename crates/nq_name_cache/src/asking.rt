@@ -24,6 +24,7 @@ impl NameCache {
     /// # Errors
     ///
     /// `NoMemory` where memory is wanting; nothing is changed then.
+    #[tactic(auto, using(crate::proofs::Heard::hearing))]
     pub fn heard(
         &mut self,
         alloc: Global,
@@ -52,6 +53,7 @@ impl NameCache {
     }
 
     /// Takes in the reply to the request under way.
+    #[tactic(auto, using(crate::proofs::Heard::page_same))]
     fn take(
         &mut self,
         alloc: Global,

@@ -191,3 +191,17 @@ vacates s t = gives_up s t (number_of t.prefix s.directories)
 -- the clock shows this time: reading leases that are over end
 abbrev pub ticks : Served → (time : ℕ) → Served
 ticks s time = record s { table = with_rows s.table (end_reading time s.table.rows); time = time }
+
+-- ---- the same in the order of the code
+
+-- the number of a directory, or the next one, if one is left
+abbrev pub number_or_next : Served → Option ℕ → Option ℕ
+number_or_next s (Some number) = Some number
+number_or_next s None = if nat_lt (length s.directories) most_directories then Some (length s.directories) else None
+
+abbrev pub number_for : Served → (prefix : List ℕ) → Option ℕ
+number_for s prefix = number_or_next s (number_of prefix s.directories)
+
+-- the directories, where this number is the next one
+abbrev pub entered : (number : ℕ) → (prefix : List ℕ) → List (List ℕ) → List (List ℕ)
+entered number prefix directories = if number == length directories then directories ++ prefix ∷ [] else directories

@@ -3,7 +3,9 @@
 ghost use Rattle.std.specs.Prelude.{◌≡◌, ◌<◌, ◌≤◌, ◌+◌, ◌^◌, length, OnErr, OnOk};
 ghost use Rattle.nq_listing.specs.Messages.{most_names};
 ghost use Rattle.nq_name_server.specs.Sending.{IsServed, IsUntouched};
-ghost use Rattle.nq_name_server.specs.Serving.{reads_dir};
+ghost use Rattle.nq_model.specs.Ask.{ask};
+ghost use Rattle.nq_name_server.specs.Served.{most_directories};
+ghost use Rattle.nq_name_server.specs.Serving.{entered, for_asker, lists_for, number_for, reads_dir};
 
 use crate::notifying::notice_bytes;
 use crate::server::{MOST_DIRECTORIES, NameServer};
@@ -58,7 +60,9 @@ impl NameServer {
     }
 
     /// The number of the directory of a request, or the next one; None where all are taken.
-    fn number_for(&self, request: &ReadDir) -> Option<FileId> {
+    fn number_for(&self, request: &ReadDir) -> Option<FileId>
+        ensures { result ≡ number_for self.now request.now.prefix }
+    {
         match self.number_of(&request.prefix) {
             Some(number) => Some(number),
             None if self.directories.len() < MOST_DIRECTORIES => {
@@ -80,22 +84,7 @@ impl NameServer {
         let warning = self.own_notice(alloc, request, number)?;
         self.enter(request, number);
         self.drop_older(request, number);
-        let asked = ask(
-            &mut self.table,
-            &Question {
-                who: request.who,
-                file: number,
-                access: Access::Read,
-                want: Some(Want {
-                    mode: Mode::Reading,
-                    term: request.term,
-                }),
-                longest: self.longest,
-                time: self.time,
-                rev: Rev(0),
-                blocks: 0,
-            },
-        );
+        let asked = self.ask_for(request, number);
         let to = Party::Client(request.who.host);
         match asked {
             Asked::TryLater(_) => {
@@ -109,6 +98,28 @@ impl NameServer {
             Asked::Free | Asked::NoLease => out.push(to, replies.page.end(&None)).unwrap(),
         }
         Ok(())
+    }
+
+    /// Asks the lease table for a reading lease on a directory.
+    fn ask_for(&mut self, request: &ReadDir, number: FileId) -> Asked
+        requires { self.old.table.drawn < 2 ^ 62 }
+        ensures table { self.new ≡ record self.old { table = (ask self.old.table (lists_for self.old request.now number)).table } }
+        ensures asked { result ≡ (ask self.old.table (lists_for self.old request.now number)).asked }
+    {
+        let question = Question {
+            who: request.who,
+            file: number,
+            access: Access::Read,
+            want: Some(Want {
+                mode: Mode::Reading,
+                term: request.term,
+            }),
+            longest: self.longest,
+            time: self.time,
+            rev: Rev(0),
+            blocks: 0,
+        };
+        ask(&mut self.table, &question)
     }
 
     /// The DIREVICTED to the asker itself, where its own row on the directory is to be given up.
@@ -134,14 +145,19 @@ impl NameServer {
     }
 
     /// A directory without a number gets this one.
-    fn enter(&mut self, request: &ReadDir, number: FileId) {
+    fn enter(&mut self, request: &ReadDir, number: FileId)
+        requires { number ≡ length self.old.directories → number < most_directories }
+        ensures { self.new ≡ record self.old { directories = entered number request.now.prefix self.old.directories } }
+    {
         if number.0 as usize == self.directories.len() {
             self.directories.push(request.prefix).unwrap();
         }
     }
 
     /// Drops the asker's row on a directory, where it is of another incarnation.
-    fn drop_older(&mut self, request: &ReadDir, number: FileId) {
+    fn drop_older(&mut self, request: &ReadDir, number: FileId)
+        ensures { self.new ≡ record self.old { table = for_asker self.old.table request.now.who number } }
+    {
         let key = RowKey {
             file: number,
             host: request.who.host,
