@@ -130,7 +130,8 @@ fn is_below(tag: &Tag, other: &Tag) -> bool
 fn is_on(how: Take, mode: Mode) -> bool
     ensures { result ≡ (is_reading mode && not (is_broken how)) }
 {
-    matches!(mode, Mode::Reading) && !how.is_broken()
+    let broken = how.is_broken();
+    matches!(mode, Mode::Reading) && !broken
 }
 
 /// The list of a directory, if it is there.
