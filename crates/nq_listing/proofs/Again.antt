@@ -1,6 +1,7 @@
 -- What is written for a message is read again.
 use Rattle.std.proofs.Common.{◌≡◌, ◌<◌, ◌≤◌, ℕ, ◌+◌, ◌^◌, true, false, nat_lt, List, [], ◌∷◌, ◌++◌, length, Some, Ok, All, IfSome, refl, sym, ap, ◌∙◌, arith, append_assoc, append-nil, zero, suc}
 use Rattle.std.proofs.lemmas.Bool.{eq-eqb}
+use Rattle.std.proofs.lemmas.List.Elements.{All-head, All-tail}
 use Rattle.std.proofs.lemmas.Bool.Decides.{nat_tests}
 use Rattle.nq_directory.specs.declared.FileName.{FileName}
 use Rattle.nq_rpc.specs.Message.{spelling, call_with, reply_with, null}
@@ -56,9 +57,10 @@ entries-again : (done es : List FileName) (rest : List ℕ) → All IsEntry es �
 entries-again done [] rest fits = ap (λ l. Ok (l, rest)) (sym (append-nil done))
 entries-again done (e ∷ es) rest fits =
     let parts = append_assoc (entry_bytes e) (entries_bytes es) rest in
-    let first = entry-again e (entries_bytes es ++ rest) fits.0 in
+    let first = entry-again e (entries_bytes es ++ rest) (All-head IsEntry e es fits) in
+    let others = All-tail IsEntry e es fits in
     ap (entries_at done (suc (length es))) parts
-    ∙ rw first (entries-again (done ++ e ∷ []) es rest fits.1 ∙ ap (λ l. Ok (l, rest)) (append_assoc done (e ∷ []) es))
+    ∙ rw first (entries-again (done ++ e ∷ []) es rest others ∙ ap (λ l. Ok (l, rest)) (append_assoc done (e ∷ []) es))
 
 count-again : (n : ℕ) (rest : List ℕ) → n ≤ most_names → count_at (word n ++ rest) ≡ Ok (n, rest)
 unfolding count_at

@@ -5,7 +5,7 @@ ghost use Rattle.nq_base.specs.Name.{IsName};
 ghost use Rattle.nq_listing.specs.Messages.{answer_bytes, dir_evicted, dir_evicted_bytes, dir_tag_arguments, dir_vacated_bytes, entries_bytes, entry_bytes, front_bytes, head_of, most_names, page, read_dir_arguments, read_dir_bytes, wait, IsDirTag, IsEntry, IsReadDir};
 ghost use Rattle.nq_directory.specs.Prefix.{IsPrefix};
 ghost use Rattle.nq_rpc.specs.Message.{call_with, null, reply_with, spelling};
-ghost use Rattle.nq_wire.specs.Parts.{grant_bytes, optional, IsGrant};
+ghost use Rattle.nq_wire.specs.Parts.{grant_bytes, optional, IsGrant, IsTag, IsWho};
 ghost use Rattle.nq_xdr.specs.Item.{opaque};
 
 use crate::messages::{
@@ -180,7 +180,9 @@ fn put_prefix(prefix: &Prefix, out: &mut Writer) -> Result<(), NoMemory>
 #[tactic(auto, unfolding(crate::specs::Messages::dir_tag_arguments))]
 fn put_dir_tag(said: &DirTag, out: &mut Writer) -> Result<(), NoMemory>
     ensures written { OnOk result (out.new.bytes ≡ out.old.bytes ++ dir_tag_arguments said.now) }
-    ensures fits { OnOk result (IsDirTag said.now) }
+    ensures who { OnOk result (IsWho said.now.who) }
+    ensures prefix { OnOk result (IsPrefix said.now.prefix) }
+    ensures tag { OnOk result (IsTag said.now.tag) }
 {
     put_who(&said.who, out)?;
     put_prefix(&said.prefix, out)?;
