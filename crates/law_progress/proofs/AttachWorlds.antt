@@ -30,7 +30,8 @@ use Rattle.walk_server.proofs.Rows.{same-number, number-same}
 use Rattle.walk_server.proofs.ServerMoves.{tick-moves}
 use Rattle.walk_server.proofs.Tests.{is-below, is-not-below}
 use Rattle.law_progress.specs.AttachedSoon.{CanBeKept, IsAttached, AttachedOnceDelivered, AttachedInRecovery}
-use Rattle.law_progress.specs.CalmRound.{calmed, calm_round, calm_rounds, most_deliveries}
+use Rattle.law_progress.specs.CalmRound.{calm_round, calm_rounds, most_deliveries}
+use Rattle.law_deliveries.specs.DeliveryEnds.{calmed}
 use Rattle.law_progress.specs.CalmRoundsAreLawful.{IsLawful}
 use Rattle.law_progress.specs.DeliveryEnds.{IsDelivered}
 use Rattle.law_progress.specs.QuietDeliveries.{recovers}

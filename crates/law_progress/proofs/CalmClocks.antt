@@ -7,7 +7,8 @@ use Rattle.nq_model.specs.Lines.{Play, play, play_flow, flow_first, play_hosts}
 use Rattle.nq_model.specs.Skew.{server_ticks, ticks_of, is_tick_of}
 use Rattle.nq_model.specs.World.{Head, run}
 use Rattle.walk_leases.proofs.WorldClocks.{Clocked, run-clocked}
-use Rattle.law_progress.specs.CalmRound.{calmed, calm_round, calm_rounds, most_deliveries}
+use Rattle.law_progress.specs.CalmRound.{calm_round, calm_rounds, most_deliveries}
+use Rattle.law_deliveries.specs.DeliveryEnds.{calmed}
 use Rattle.law_progress.specs.CalmRoundsAreLawful.{IsLawful}
 use Rattle.law_progress.specs.ClocksTickOnce.{ClocksTickOnce}
 use Rattle.law_progress.proofs.CalmIsLawful.{flows, round, calm-is-lawful}

@@ -8,7 +8,8 @@ use Rattle.nq_model.specs.Skew.{is_server_tick, IsWithinSkew}
 use Rattle.nq_model.specs.World.{Head, step}
 use Rattle.walk_run.proofs.NoCrash.{one-first}
 use Rattle.walk_server.proofs.Rows.{same-number}
-use Rattle.law_progress.specs.CalmRound.{calmed, calm_round, calm_rounds, most_deliveries}
+use Rattle.law_progress.specs.CalmRound.{calm_round, calm_rounds, most_deliveries}
+use Rattle.law_deliveries.specs.DeliveryEnds.{calmed}
 use Rattle.law_progress.specs.CalmRoundsAreLawful.{IsLawful, CalmRoundsAreLawful}
 use Rattle.law_calm.proofs.ClientCount.{client-count}
 use Rattle.law_progress.proofs.Skewed.{MayTick, quiet-within, own-may, later-may, ticked-within}

@@ -11,7 +11,8 @@ use Rattle.nq_model.specs.Lines.{Play, play, play_flow, flow_first, without, add
 use Rattle.nq_model.specs.Message.{Message, Packet, datagram_of}
 use Rattle.nq_model.specs.ServerStep.{receive}
 use Rattle.nq_model.specs.World.{Head, World, after_hearing, sending_host, deliver, deliver_to, deliver_to_client, step}
-use Rattle.law_progress.specs.CalmRound.{calmed, calm_rounds}
+use Rattle.law_progress.specs.CalmRound.{calm_rounds}
+use Rattle.law_deliveries.specs.DeliveryEnds.{calmed}
 use Rattle.law_calm.specs.SendsAgain.{is_cancelled}
 use Rattle.law_progress.specs.CancelledDeliveries.{cancels_ticket, cancels_client, cancels_at, cancels_by, one_if, first_cancels, cancelled_in, DeliveryEndsButForCancels}
 use Rattle.law_calm.proofs.Efforts.{total, weight}

@@ -33,7 +33,8 @@ use Rattle.law_progress.proofs.ServerWeights.{packets_weight, Dear}
 use Rattle.law_progress.proofs.SparedSteps.{found-all, delivered-spared}
 use Rattle.nq_promises.specs.Bounds.{KeepsBounds}
 use Rattle.nq_model.specs.Skew.{IsWithinSkew}
-use Rattle.law_progress.specs.CalmRound.{AreUnderWay, calmed, calm_round, calm_rounds, most_deliveries}
+use Rattle.law_progress.specs.CalmRound.{calm_round, calm_rounds, most_deliveries}
+use Rattle.law_deliveries.specs.DeliveryEnds.{AreUnderWay, calmed}
 use Rattle.law_calm.specs.Spared.{IsSpared}
 use Rattle.law_progress.specs.QuietDeliveries.{recovers, RecoveringDeliveryEnds, SparedDeliveryEnds}
 use Rattle.law_progress.proofs.Bounds.{within-bound}

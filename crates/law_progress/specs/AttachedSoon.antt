@@ -5,7 +5,8 @@ use Rattle.nq_model.specs.Client.{Client}
 use Rattle.nq_model.specs.Lines.{Play}
 use Rattle.nq_model.specs.Profile.{inc_end}
 use Rattle.nq_model.specs.World.{Head, run}
-use Rattle.law_progress.specs.CalmRound.{AreUnderWay, calmed, calm_round, calm_rounds}
+use Rattle.law_progress.specs.CalmRound.{calm_round, calm_rounds}
+use Rattle.law_deliveries.specs.DeliveryEnds.{AreUnderWay, calmed}
 use Rattle.law_progress.specs.CalmRoundsAreLawful.{IsLawful}
 use Rattle.law_progress.specs.DeliveryEnds.{IsDelivered}
 use Rattle.law_progress.specs.QuietDeliveries.{recovers}

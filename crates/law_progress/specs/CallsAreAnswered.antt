@@ -7,7 +7,8 @@ use Rattle.nq_model.specs.Profile.{skew, write_slack, patience}
 use Rattle.nq_model.specs.Skew.{IsWithinSkew}
 use Rattle.nq_model.specs.Stepped.{most_events}
 use Rattle.nq_model.specs.World.{Head, run}
-use Rattle.law_progress.specs.CalmRound.{AreUnderWay, calmed, calm_rounds}
+use Rattle.law_progress.specs.CalmRound.{calm_rounds}
+use Rattle.law_deliveries.specs.DeliveryEnds.{AreUnderWay, calmed}
 
 -- a recovery by the longest term of all boots, with skew and write slack; then two pauses, and one round more. Some schedules need
 -- all of these rounds

@@ -5,7 +5,8 @@ use Rattle.nq_promises.specs.Bounds.{KeepsBounds}
 use Rattle.nq_model.specs.Lines.{Play}
 use Rattle.nq_model.specs.Skew.{IsWithinSkew}
 use Rattle.nq_model.specs.World.{Head, run}
-use Rattle.law_progress.specs.CalmRound.{calmed, calm_rounds}
+use Rattle.law_progress.specs.CalmRound.{calm_rounds}
+use Rattle.law_deliveries.specs.DeliveryEnds.{calmed}
 
 -- a play stands where its events lead, and they keep to the bounds and are within skew
 pub record IsLawful (most : ℕ) (head : Head) (p : Play) : Type 0 where

@@ -3,7 +3,8 @@ use Rattle.std.specs.Prelude.{◌≡◌, ℕ, ◌+◌, Some, List, slice_get}
 use Rattle.nq_promises.specs.Bounds.{InEveryRun}
 use Rattle.nq_model.specs.Client.{Client}
 use Rattle.nq_model.specs.World.{World, run}
-use Rattle.law_progress.specs.CalmRound.{calmed, calm_rounds}
+use Rattle.law_progress.specs.CalmRound.{calm_rounds}
+use Rattle.law_deliveries.specs.DeliveryEnds.{calmed}
 
 -- so many ticks lie between two worlds, by each clock
 pub record IsLater (count : ℕ) (before after : World) : Type 0 where

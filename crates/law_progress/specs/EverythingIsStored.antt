@@ -8,7 +8,8 @@ use Rattle.nq_model.specs.Lines.{play}
 use Rattle.nq_model.specs.Skew.{IsWithinSkew}
 use Rattle.nq_model.specs.Stepped.{most_events}
 use Rattle.nq_model.specs.World.{Head, run}
-use Rattle.law_progress.specs.CalmRound.{AreUnderWay, calmed, calm_rounds}
+use Rattle.law_progress.specs.CalmRound.{calm_rounds}
+use Rattle.law_deliveries.specs.DeliveryEnds.{AreUnderWay, calmed}
 use Rattle.law_progress.specs.CallsAreAnswered.{IsAnswered, rounds_enough}
 
 -- a client has no delayed writes, neither in its list nor under way

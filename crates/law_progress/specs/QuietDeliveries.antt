@@ -4,7 +4,8 @@ use Rattle.nq_promises.specs.Bounds.{InEveryRun}
 use Rattle.nq_model.specs.Server.{Phase, serving, recovering}
 use Rattle.nq_model.specs.World.{run}
 use Rattle.law_calm.specs.Spared.{IsSpared}
-use Rattle.law_progress.specs.CalmRound.{AreUnderWay, calmed, calm_rounds}
+use Rattle.law_progress.specs.CalmRound.{calm_rounds}
+use Rattle.law_deliveries.specs.DeliveryEnds.{AreUnderWay, calmed}
 use Rattle.law_progress.specs.DeliveryEnds.{IsDelivered}
 
 -- whether the server recovers

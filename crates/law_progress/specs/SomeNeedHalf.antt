@@ -6,7 +6,8 @@ use Rattle.nq_base.specs.declared.Event.{Event}
 use Rattle.nq_model.specs.Client.{Client}
 use Rattle.nq_model.specs.Skew.{is_within_skew}
 use Rattle.nq_model.specs.World.{Head}
-use Rattle.law_progress.specs.CalmRound.{calmed, calm_rounds}
+use Rattle.law_progress.specs.CalmRound.{calm_rounds}
+use Rattle.law_deliveries.specs.DeliveryEnds.{calmed}
 use Rattle.law_progress.specs.CallsAreAnswered.{rounds_enough}
 
 -- three hosts, terms of 6 ticks, and a file of one block
