@@ -1,0 +1,4 @@
+pub mod Numbers
+pub mod LastTable
+pub mod LikeWorlds
+pub mod TornRuns
