@@ -1,5 +1,5 @@
 -- No answer rests on the table with which the last boot served.
-use Rattle.std.proofs.Common.{◌≡◌, ℕ, ◌+◌, ◌==◌, ◌&&◌, Bool, true, false, List, [], Option, Some, None, nat_lt, if◌then◌else◌, refl, sym, subst, ap, ◌∙◌}
+use Rattle.std.proofs.Common.{◌≡◌, ℕ, ◌+◌, ◌==◌, ◌&&◌, Bool, true, false, List, Option, Some, None, nat_lt, if◌then◌else◌, refl, sym, subst, ap, ◌∙◌}
 use Rattle.std.specs.Prelude.{nat_le}
 use Rattle.nq_base.specs.declared.HostRow.{HostRow}
 use Rattle.nq_base.specs.declared.PushBase.{PushBase}
@@ -13,10 +13,10 @@ use Rattle.nq_base.specs.declared.Verdict.TheVariants.{Stale, Invalid, Fenced, T
 use Rattle.nq_base.specs.declared.Who.{Who}
 use Rattle.nq_model.specs.Decide.{Decision, decided_once, decides, wrote, stores_recovering, decide_push_recovering, decide_write_recovering, decide, commits, commits_within, row_after, verdict_reply}
 use Rattle.nq_model.specs.Kept.{File, Kept, blocks_of, find_file, can_be_kept, host_row}
-use Rattle.nq_model.specs.Message.{Message, RpcError, Reason, Datagram, too_long, no_message, no_call, other_rpc, other_program, other_version, unknown_procedure, garbage_vacated, garbage, request, asker, error, rpc_mismatch, program_unavailable, program_mismatch, procedure_unavailable, garbage_arguments, was_too_long, was_no_message, was_no_call, wrong_host, old_incarnation, out_of_bounds, no_reply_owed}
+use Rattle.nq_model.specs.Message.{Message, Reason, Datagram, too_long, no_message, no_call, other_rpc, other_program, other_version, unknown_procedure, garbage_vacated, garbage, request, asker, error, rpc_mismatch, program_unavailable, program_mismatch, procedure_unavailable, garbage_arguments, was_too_long, was_no_message, was_no_call, wrong_host, old_incarnation, out_of_bounds, no_reply_owed}
 use Rattle.nq_model.specs.Profile.{most_hosts, skew, write_slack}
 use Rattle.nq_model.specs.Server.{Phase, serving, recovering, Server, ServerStep, quiet, drops, says, replies, refuses, keeping, keeping_with, with_table}
-use Rattle.nq_model.specs.ServerStep.{attaches, attach_later, attach, vacates, row_of_attach, perform, not_attached, is_attach, admit, answer_request, receive, at_time, opens, tick, boot, boot_phase, crash}
+use Rattle.nq_model.specs.ServerStep.{attaches, attach_later, attach, vacates, row_of_attach, perform, not_attached, is_attach, admit, answer_request, receive, at_time, opens, tick, boot}
 use Rattle.nq_model.specs.Table.{Table}
 use Rattle.law_torn.specs.TornRuns.{phase_without, without_last}
 

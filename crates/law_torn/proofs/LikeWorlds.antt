@@ -1,5 +1,5 @@
 -- A torn world and the world of its schedule stay alike, whatever comes.
-use Rattle.std.proofs.Common.{◌≡◌, ◌<◌, ◌≤◌, ◌⊎◌, ◌+◌, ◌-◌, ◌||◌, ◌&&◌, ℕ, Bool, true, false, List, [], ◌∷◌, ◌++◌, Option, Some, None, length, map, nat_lt, if◌then◌else◌, refl, sym, subst, ap, ◌∙◌, arith, inl, inr, append-nil}
+use Rattle.std.proofs.Common.{◌≡◌, ◌<◌, ◌≤◌, ◌⊎◌, ◌+◌, ◌-◌, ◌||◌, ◌&&◌, ℕ, Bool, true, false, List, [], ◌∷◌, ◌++◌, Option, Some, None, length, map, nat_lt, refl, sym, subst, ap, ◌∙◌, arith, inl, inr, append-nil}
 use Rattle.std.specs.Prelude.{nat_le, replicate, slice_get, slice_set}
 use Rattle.std.proofs.lemmas.List.{length-append, length-replicate}
 use Rattle.std.proofs.lemmas.Bool.{or_parts}
@@ -12,12 +12,12 @@ use Rattle.nq_model.specs.ClientStep.{client_call, client_tick, restart}
 use Rattle.nq_model.specs.Hear.{hear}
 use Rattle.nq_model.specs.Kept.{Kept}
 use Rattle.nq_model.specs.Message.{Message, Packet, datagram_of}
-use Rattle.nq_model.specs.Server.{Server, ServerStep, last_in, taken}
+use Rattle.nq_model.specs.Server.{ServerStep, last_in, taken}
 use Rattle.nq_model.specs.ServerStep.{receive, tick, boot, booted, crash}
 use Rattle.nq_model.specs.World.{World, from_host, after_server, after_client, at_client, after_hearing, sending_host, deliver_to_client, deliver_to, deliver, step}
 use Rattle.law_torn.proofs.LastTable.{Alike, receives-alike, ticks-alike, boots-alike}
 use Rattle.law_torn.proofs.Numbers.{get-longer, get-more, get-beside, get-stands}
-use Rattle.law_torn.specs.TornRuns.{Span, TornWorld, is_within, is_unsent, no_packet, brings_unsent, boots_over, unheard, numbers_made, without_last, IsWorldOf}
+use Rattle.law_torn.specs.TornRuns.{Span, is_within, is_unsent, no_packet, brings_unsent, boots_over, unheard, numbers_made, without_last, IsWorldOf}
 
 -- a world is torn from another: the packets of these numbers were never sent in it
 abbrev pub Like : List Span → (u v : World) → Type 0

@@ -1,8 +1,8 @@
 -- A torn run is the run of its schedule.
-use Rattle.std.proofs.Common.{◌≡◌, ℕ, Bool, true, false, List, [], ◌∷◌, ◌++◌, if◌then◌else◌, refl, sym, subst}
+use Rattle.std.proofs.Common.{◌≡◌, Bool, true, false, List, [], ◌∷◌, ◌++◌, if◌then◌else◌, refl, sym, subst}
 use Rattle.nq_base.specs.declared.Event.{Event}
-use Rattle.nq_model.specs.World.{Head, World, start, step, run}
-use Rattle.law_torn.proofs.LikeWorlds.{Like, Goes, stays, steps-alike, boots-like, unheard-like}
+use Rattle.nq_model.specs.World.{Head, World, step, run}
+use Rattle.law_torn.proofs.LikeWorlds.{Goes, stays, steps-alike, boots-like, unheard-like}
 use Rattle.law_torn.specs.TornRuns.{Happening, whole, torn_before, torn_after, Span, TornWorld, brings_unsent, comes, unheard, numbers_made, torn_off, torn_step, torn_run, event_of, events_of, schedule, IsWorldOf, TornRunsAreRuns}
 
 -- the world of a schedule after an event of the torn run
