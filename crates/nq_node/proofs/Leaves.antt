@@ -57,28 +57,16 @@ module _ {K : Type 0} (content : K → Option Kept) (faults : K → ℕ) where
       (tick_due at.server.beside.time s.reading) at s.ticks kept told
   stages-tell (Err why) is same clock clock' link link' at after s kept told = absurd (cc)
 
+  neither : (turn other : Turn) → turn ≡ other → (turn ≡ Turn.Took) ⊎ (turn ≡ Turn.Quiet) → (other ≡ Turn.Took → ⊥) → (other ≡ Turn.Quiet → ⊥) → ⊥
+  neither turn other same (inl took) not_took not_quiet = not_took (sym same ∙ took)
+  neither turn other same (inr quiet) not_took not_quiet = not_quiet (sym same ∙ quiet)
+
   moved-of : (turn : Turn) → (turn ≡ Turn.Took) ⊎ (turn ≡ Turn.Quiet) → (ended : Result Bool Halt) → turn ≡ turn_of ended → (moved : Bool) × (ended ≡ Ok moved)
   moved-of turn one (Ok moved) same = (moved, refl)
-  moved-of turn one (Err Halt.Link) same = absurd (other one)
-    where
-      other : (turn ≡ Turn.Took) ⊎ (turn ≡ Turn.Quiet) → ⊥
-      other (inl e) = cc
-      other (inr e) = cc
-  moved-of turn one (Err Halt.Keep) same = absurd (other one)
-    where
-      other : (turn ≡ Turn.Took) ⊎ (turn ≡ Turn.Quiet) → ⊥
-      other (inl e) = cc
-      other (inr e) = cc
-  moved-of turn one (Err Halt.Memory) same = absurd (other one)
-    where
-      other : (turn ≡ Turn.Took) ⊎ (turn ≡ Turn.Quiet) → ⊥
-      other (inl e) = cc
-      other (inr e) = cc
-  moved-of turn one (Err Halt.Spent) same = absurd (other one)
-    where
-      other : (turn ≡ Turn.Took) ⊎ (turn ≡ Turn.Quiet) → ⊥
-      other (inl e) = cc
-      other (inr e) = cc
+  moved-of turn one (Err Halt.Link) same = absurd (neither turn Turn.Link same one (λ e. cc) (λ e. cc))
+  moved-of turn one (Err Halt.Keep) same = absurd (neither turn Turn.Keep same one (λ e. cc) (λ e. cc))
+  moved-of turn one (Err Halt.Memory) same = absurd (neither turn Turn.Memory same one (λ e. cc) (λ e. cc))
+  moved-of turn one (Err Halt.Spent) same = absurd (neither turn Turn.Spent same one (λ e. cc) (λ e. cc))
 
   -- a keeper that told before a turn that went on tells after it
   pub turn_tells : (turn : Turn) → (turn ≡ Turn.Took) ⊎ (turn ≡ Turn.Quiet) → (next next' : ℕ) (clock clock' : ClockTold) (link link' : LinkTold)
@@ -144,7 +132,7 @@ module _ {K : Type 0} (content : K → Option Kept) (faults : K → ℕ) (follow
   stopped_leaves why reading clock clock' link at after read takes left = record {
     stages = record { reading = reading; read = read; goes = Err why; between = after; ticks = takes; rest = (refl, refl, refl) };
     left = λ kept told first found before l. only (leaves first at.server.keeper found) (IsLeftAt content
-    (tick_due at.server.beside.time reading) at found) (left kept told first found before l);
+        (tick_due at.server.beside.time reading) at found) (left kept told first found before l);
   }
     where
       only : (L I : Type 0) → L ⊎ I → L ⊎ (I ⊎ ⊥)
@@ -153,7 +141,7 @@ module _ {K : Type 0} (content : K → Option Kept) (faults : K → ℕ) (follow
 
   -- the turn went on after its tick
   pub went_on_leaves : (ended : Result Bool Halt) (ticked : Bool) (reading : ℕ) (clock clock' : ClockTold) (link link' : LinkTold)
-  (at between after : Moment K)
+      (at between after : Moment K)
       → ReadsOnce reading clock clock' → Takes content faults (tick_due at.server.beside.time reading) (Ok tt) at between
       → ticked ≡ nat_lt at.server.beside.time reading
       → LeavesOnly content follows leaves at.server.keeper between.server.keeper (IsLeftAt content (tick_due at.server.beside.time reading) at)
