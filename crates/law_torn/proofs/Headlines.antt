@@ -157,7 +157,8 @@ first-begins : (head : Head) (longest : ℕ) → boot (first_kept head) longest 
 unfolding start boot
 first-begins head longest = refl
 
-first-follows : (head : Head) (longest : ℕ) → without_last (boot (start head).server.kept longest 0 None) ≡ without_last (step (start head) (Event.Crash longest)).server
+first-follows : (head : Head) (longest : ℕ)
+    → without_last (boot (start head).server.kept longest 0 None) ≡ without_last (step (start head) (Event.Crash longest)).server
 unfolding start after_server crash boot
 first-follows head longest = sym (boots-alike (start head).server.kept longest 0 (last_in (start head).server.phase (start head).server.table))
 

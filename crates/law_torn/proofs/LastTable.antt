@@ -96,7 +96,8 @@ module _ (s : Server) (until heard : ℕ) (last : Option Table) where
       (attach_later b who xid)
       (if nat_lt who.inc line.inc then drops b old_incarnation else replies b who.host xid (Answer.Attach who.inc))
       (begun-later who xid)
-      (if-alike (nat_lt who.inc line.inc) (drops a old_incarnation) (replies a who.host xid (Answer.Attach who.inc)) (drops b old_incarnation) (replies b who.host xid (Answer.Attach who.inc))
+      (if-alike (nat_lt who.inc line.inc) (drops a old_incarnation) (replies a who.host xid (Answer.Attach who.inc)) (drops b old_incarnation)
+      (replies b who.host xid (Answer.Attach who.inc))
       (dropped old_incarnation) (replied who.host xid (Answer.Attach who.inc)))
 
   vacated : (who : Who) (file : ℕ) (tag : Tag) → Alike (vacates a who file tag) (vacates b who file tag)
@@ -126,11 +127,13 @@ module _ (s : Server) (until heard : ℕ) (last : Option Table) where
       (if base.boot == s.kept.opened && base.base == f.rev then stores_recovering b until None who f block first final body else decides b Fenced)
       (declined Invalid)
       (if-agree (base.boot == s.kept.opened && base.base == f.rev)
-      (stores_recovering a until last who f block first final body) (decides a Fenced) (stores_recovering b until None who f block first final body) (decides b Fenced)
+      (stores_recovering a until last who f block first final body) (decides a Fenced) (stores_recovering b until None who f block first final body)
+      (decides b Fenced)
       (stored who f block first final body) (declined Fenced))
 
   written : (who : Who) (file block first final : ℕ) (push : Option PushBase) (body : List ℕ)
-      → Agree (decide_write_recovering a until last who file block first final push body) (decide_write_recovering b until None who file block first final push body)
+      → Agree (decide_write_recovering a until last who file block first final push body)
+      (decide_write_recovering b until None who file block first final push body)
   written who file block first final None body = declined TryLater
   written who file block first final (Some base) body = pushed who (find_file file s.kept.files) block first final base body
 
@@ -155,7 +158,8 @@ module _ (s : Server) (until heard : ℕ) (last : Option Table) where
       (if nat_lt seq line.seq then refuses b who xid Refusal.Old else commits_within b who seq xid r (decide b who r))
       (replied who.host xid (verdict_reply who.inc line.verdict line.value r))
       (if-alike (nat_lt seq line.seq)
-      (refuses a who xid Refusal.Old) (commits_within a who seq xid r (decide a who r)) (refuses b who xid Refusal.Old) (commits_within b who seq xid r (decide b who r))
+      (refuses a who xid Refusal.Old) (commits_within a who seq xid r (decide a who r)) (refuses b who xid Refusal.Old)
+      (commits_within b who seq xid r (decide b who r))
       (refused who xid Refusal.Old) (within who seq xid r (decide a who r) (decide b who r) (decided who r)))
 
   -- ---- requests
@@ -183,9 +187,11 @@ module _ (s : Server) (until heard : ℕ) (last : Option Table) where
       if-alike
       (is_attach r)
       (attach a who xid line)
-      (if nat_lt who.inc line.inc then drops a old_incarnation else (if nat_lt line.inc who.inc then not_attached a who xid r else perform a who xid next line r))
+      (if nat_lt who.inc line.inc then drops a old_incarnation else (if nat_lt line.inc who.inc then not_attached a who xid r
+      else perform a who xid next line r))
       (attach b who xid line)
-      (if nat_lt who.inc line.inc then drops b old_incarnation else (if nat_lt line.inc who.inc then not_attached b who xid r else perform b who xid next line r))
+      (if nat_lt who.inc line.inc then drops b old_incarnation else (if nat_lt line.inc who.inc then not_attached b who xid r
+      else perform b who xid next line r))
       (attached who xid line)
       (if-alike
       (nat_lt who.inc line.inc)
@@ -219,12 +225,14 @@ module _ (s : Server) (until heard : ℕ) (last : Option Table) where
   ticked : (now : ℕ) → Alike (tick a now) (tick b now)
   unfolding opens quiet at_time
   ticked now =
-      if-alike (nat_le until now) (opens (at_time a now) until heard) (quiet (at_time a now)) (opens (at_time b now) until heard) (quiet (at_time b now)) refl refl
+      if-alike (nat_le until now) (opens (at_time a now) until heard) (quiet (at_time a now)) (opens (at_time b now) until heard) (quiet
+      (at_time b now)) refl refl
 
 -- ---- any server, beside the one without the table
 
 by-phase : (f : Server → ServerStep)
-    → ((s : Server) (until heard : ℕ) (last : Option Table) → Alike (f (record s { phase = recovering until heard last })) (f (record s { phase = recovering until heard None })))
+    → ((s : Server) (until heard : ℕ) (last : Option Table)
+    → Alike (f (record s { phase = recovering until heard last })) (f (record s { phase = recovering until heard None })))
     → (s : Server) → Alike (f s) (f (without_last s))
 by-phase f recovers s = at s.phase refl
   where
@@ -235,11 +243,13 @@ by-phase f recovers s = at s.phase refl
 
 -- two servers that are alike do the same
 both : (f : Server → ServerStep)
-    → ((s : Server) (until heard : ℕ) (last : Option Table) → Alike (f (record s { phase = recovering until heard last })) (f (record s { phase = recovering until heard None })))
+    → ((s : Server) (until heard : ℕ) (last : Option Table)
+    → Alike (f (record s { phase = recovering until heard last })) (f (record s { phase = recovering until heard None })))
     → (s t : Server) → without_last s ≡ without_last t → Alike (f s) (f t)
 both f recovers s t same = by-phase f recovers s ∙ ap (λ z. step_without (f z)) same ∙ sym (by-phase f recovers t)
 
-pub receives-alike : (sender next : ℕ) (d : Datagram) (s t : Server) → without_last s ≡ without_last t → Alike (receive s sender next d) (receive t sender next d)
+pub receives-alike : (sender next : ℕ) (d : Datagram) (s t : Server) → without_last s ≡ without_last t
+    → Alike (receive s sender next d) (receive t sender next d)
 receives-alike sender next d s t same = both (λ z. receive z sender next d) (λ z until heard last. received z until heard last sender next d) s t same
 
 pub ticks-alike : (s t : Server) → without_last s ≡ without_last t → Alike (tick s (s.now + 1)) (tick t (t.now + 1))

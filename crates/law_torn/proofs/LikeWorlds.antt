@@ -81,7 +81,8 @@ of-host unsent u v host f l =
     subst (λ cs. Goes unsent u v (at_client u host f (slice_get u.clients host)) (at_client v host f (slice_get cs host))) l.clients
     (at-client unsent u v host f (slice_get u.clients host) l)
 
-heard : (unsent : List Span) (u v : World) (host : ℕ) (o : Option ClientStep) → Like unsent u v → Goes unsent u v (after_hearing u host o) (after_hearing v host o)
+heard : (unsent : List Span) (u v : World) (host : ℕ) (o : Option ClientStep) → Like unsent u v
+    → Goes unsent u v (after_hearing u host o) (after_hearing v host o)
 heard unsent u v host None l = stays unsent u v l
 heard unsent u v host (Some t) l = acted unsent u v host t l
 
@@ -93,12 +94,15 @@ told unsent u v k host m (Some c) l = heard unsent u v host (hear c k m) l
 came-to : (unsent : List Span) (u v : World) (k : ℕ) (p : Packet) (to : Party) → Like unsent u v → Goes unsent u v (deliver_to u k p to) (deliver_to v k p to)
 came-to unsent u v k p Party.Server l =
     subst
-    (λ n. Goes unsent u v (after_server u (receive u.server (sending_host p.sender) (length u.packets) (datagram_of p.message))) (after_server v (receive v.server (sending_host p.sender) n (datagram_of p.message))))
+    (λ n. Goes unsent u v (after_server u (receive u.server (sending_host p.sender) (length u.packets) (datagram_of p.message))) (after_server v
+    (receive v.server (sending_host p.sender) n (datagram_of p.message))))
     l.as_many
-    (served unsent u v (receive u.server (sending_host p.sender) (length u.packets) (datagram_of p.message)) (receive v.server (sending_host p.sender) (length u.packets) (datagram_of p.message)) l
+    (served unsent u v (receive u.server (sending_host p.sender) (length u.packets) (datagram_of p.message)) (receive v.server
+    (sending_host p.sender) (length u.packets) (datagram_of p.message)) l
     (receives-alike (sending_host p.sender) (length u.packets) (datagram_of p.message) u.server v.server l.server))
 came-to unsent u v k p (Party.Client host) l =
-    subst (λ cs. Goes unsent u v (deliver_to_client u k host p.message (slice_get u.clients host)) (deliver_to_client v k host p.message (slice_get cs host))) l.clients
+    subst (λ cs. Goes unsent u v (deliver_to_client u k host p.message (slice_get u.clients host)) (deliver_to_client v k host p.message
+    (slice_get cs host))) l.clients
     (told unsent u v k host p.message (slice_get u.clients host) l)
 
 delivered : (unsent : List Span) (u v : World) (k : ℕ) (o : Option Packet) → Like unsent u v → Goes unsent u v (deliver u k o) (deliver v k o)
@@ -199,7 +203,8 @@ unheard-like unsent u v u_after v_after l g =
             → (k < length u.packets) ⊎ (length u.packets + length (replicate (length u_after.packets - length u.packets) no_packet) ≤ k)
         place (inl below) = inl below
         place (inr past) =
-            inr (subst (λ z. length u.packets + z ≤ k) (sym (length-replicate (length u_after.packets - length u.packets) no_packet ∙ n)) (subst (λ z. z ≤ k) all past))
+            inr (subst (λ z. length u.packets + z ≤ k) (sym (length-replicate (length u_after.packets - length u.packets) no_packet ∙ n)) (subst
+            (λ z. z ≤ k) all past))
 
     stands : (k : ℕ) → (is_within k (numbers_made u u_after) ≡ true) ⊎ (is_unsent k unsent ≡ true) → length u_after.packets - length u.packets ≡ length g.more
         → length u_after.packets ≡ length u.packets + length g.more

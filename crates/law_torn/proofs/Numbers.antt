@@ -10,7 +10,8 @@ get-longer (z ∷ xs) ys zero x e = e
 get-longer (z ∷ xs) ys (suc k) x e = get-longer xs ys k x e
 
 -- the same is sent behind as many
-pub get-more : {A : Type 0} (xs ys zs : List A) (k : ℕ) → length xs ≡ length ys → slice_get xs k ≡ slice_get ys k → slice_get (xs ++ zs) k ≡ slice_get (ys ++ zs) k
+pub get-more : {A : Type 0} (xs ys zs : List A) (k : ℕ) → length xs ≡ length ys → slice_get xs k ≡ slice_get ys k
+    → slice_get (xs ++ zs) k ≡ slice_get (ys ++ zs) k
 get-more [] [] zs k as_many e = refl
 get-more [] (y ∷ ys) zs k as_many e = absurd (omega arith)
 get-more (x ∷ xs) [] zs k as_many e = absurd (omega arith)

@@ -40,7 +40,8 @@ rounds =
 
 abbrev waiting : List Happening
 waiting =
-    whole Event.ServerTick ∷ whole (Event.ClientTick 0) ∷ whole Event.ServerTick ∷ whole (Event.ClientTick 0) ∷ whole Event.ServerTick ∷ whole (Event.ClientTick 0) ∷ []
+    whole Event.ServerTick ∷ whole (Event.ClientTick 0) ∷ whole Event.ServerTick ∷ whole (Event.ClientTick 0) ∷ whole Event.ServerTick ∷ whole
+    (Event.ClientTick 0) ∷ []
 
 -- then it comes, and its reply. Where the first push was torn after its commit, the number of its reply is taken
 abbrev after-before : List Happening
@@ -90,7 +91,8 @@ within-before = refl
 within-after : is_within_skew 1 60 events-after ≡ true
 within-after = refl
 
-fair : (happened : List Happening) (events : List Event) → schedule one-host happened ≡ events → All (BootsWithin 60) events → is_within_skew 1 60 events ≡ true
+fair : (happened : List Happening) (events : List Event) → schedule one-host happened ≡ events → All (BootsWithin 60) events
+    → is_within_skew 1 60 events ≡ true
     → IsFair 60 one-host happened
 fair happened events is boots within = record {
   bounds = subst (λ z. KeepsBounds 60 one-host z) (sym is) (bounded events boots);
@@ -107,11 +109,13 @@ found-after : value_at 0 (find_file 1 (torn_run one-host (torn_after push 60 ∷
 unfolding filled zeros given-run boots_over unheard torn_off
 found-after = refl
 
-told-before : in_order (is_ok writer 2 ∷ is_store writer 1 0 1 ∷ is_crash 2 ∷ is_delayed_write writer 1 0 1 5 ∷ []) (torn_run one-host run-before).world.journal ≡ true
+told-before : in_order (is_ok writer 2 ∷ is_store writer 1 0 1 ∷ is_crash 2 ∷ is_delayed_write writer 1 0 1 5 ∷ [])
+    (torn_run one-host run-before).world.journal ≡ true
 unfolding filled zeros given-run boots_over unheard torn_off
 told-before = refl
 
-told-after : in_order (is_ok writer 2 ∷ is_crash 2 ∷ is_store writer 1 0 1 ∷ is_delayed_write writer 1 0 1 5 ∷ []) (torn_run one-host run-after).world.journal ≡ true
+told-after : in_order (is_ok writer 2 ∷ is_crash 2 ∷ is_store writer 1 0 1 ∷ is_delayed_write writer 1 0 1 5 ∷ [])
+    (torn_run one-host run-after).world.journal ≡ true
 unfolding filled zeros given-run boots_over unheard torn_off
 told-after = refl
 
