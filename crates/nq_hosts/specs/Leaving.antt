@@ -126,7 +126,7 @@ pub record LeavesRuns {K : Type 0} (content : K → Option Kept) (faults : K →
   pub order : ForSome (content keeper) (λ kept. RunsAreInOrder content faults follows leaves longest turns time keeper ended left clock clock' link link' runs)
 
 -- What was done when serving ended so. Where the keeper told what it kept when it was handed in, a stop at any moment until it was handed back
--- leaves that, or what was kept at a moment of the boot and the turns; and a stop behind a moment of them, nothing that was kept before it
+-- leaves that, or what was kept at a moment of the boot and the turns. A stop behind a turn loses nothing that was kept before it
 pub record LeavesServing {K : Type 0} (content : K → Option Kept) (faults : K → ℕ) (follows : K → K → Type 0) (leaves : K → K → Option Kept → Type 0) (longest turns : ℕ) (keeper : K) (ended : Result Unit Halt) (left : K) (clock clock' : ClockTold) (link link' : LinkTold) : Type 0 where
   pub serves : Serves content faults follows longest turns keeper ended left clock clock' link link'
   pub only : ForSome (content keeper) (λ kept. (found : Option Kept) → leaves keeper left found → IsLeftInRuns content faults follows longest turns serves.time keeper ended left serves.between clock' link link' serves.runs kept found)
