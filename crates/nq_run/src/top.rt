@@ -115,7 +115,7 @@ pub fn run<S: Source, K: Sink, P: Keeper + Drop, L: Link, C: Clock>(
         → StagesFor most_bytes result (S.left input.old) (S.left input.new) (K.held out.old) (K.held out.new)
         (S.faults input.old) (S.faults input.new) (K.faults out.old) (K.faults out.new) }
     ensures serves { (turns longest : ℕ) → command_of words.now ≡ Some (Command.Serve turns longest)
-        → ServesFor P.content P.faults P.follows result longest turns keeper (clock_told C.floor C.readings clock.old) (clock_told C.floor C.readings clock.new)
+        → ServesFor P.content P.faults P.follows P.leaves result longest turns keeper (clock_told C.floor C.readings clock.old) (clock_told C.floor C.readings clock.new)
         (link_told L.sent L.waiting L.faults L.receives link.old)
         (link_told L.sent L.waiting L.faults L.receives link.new)
         (K.held out.old) (K.held out.new) (K.faults out.old) (K.faults out.new) }
@@ -193,7 +193,7 @@ fn served<P: Keeper + Drop, L: Link, C: Clock, K: Sink>(
 ) -> u8
     requires long { 5 ≤ longest }
     requires short { longest ≤ 600 }
-    ensures { ServesFor P.content P.faults P.follows result longest turns keeper
+    ensures { ServesFor P.content P.faults P.follows P.leaves result longest turns keeper
         (clock_told C.floor C.readings clock.old) (clock_told C.floor C.readings clock.new)
         (link_told L.sent L.waiting L.faults L.receives link.old)
         (link_told L.sent L.waiting L.faults L.receives link.new)

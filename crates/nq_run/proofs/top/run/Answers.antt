@@ -53,14 +53,14 @@ unfolding most_bytes
 returns-in-Some-Staged-clause-stages g c = λ is. c.staged.ensures
 
 pub returns-in-Some-Serve-clause-usage : goal.returns-in-Some-Serve-clause-usage
-returns-in-Some-Serve-clause-usage g c = λ none. absurd (serve_usage _ _ _ _ _ _ _ _ _ _ _ _ _ _ _ c.served.ensures none)
+returns-in-Some-Serve-clause-usage g c = λ none. absurd (serve_usage _ _ _ _ _ _ _ _ _ _ _ _ _ _ _ _ c.served.ensures none)
 
 pub returns-in-Some-Serve-clause-nothing : goal.returns-in-Some-Serve-clause-nothing
-returns-in-Some-Serve-clause-nothing g c = λ none. absurd (serve_usage _ _ _ _ _ _ _ _ _ _ _ _ _ _ _ c.served.ensures none)
+returns-in-Some-Serve-clause-nothing g c = λ none. absurd (serve_usage _ _ _ _ _ _ _ _ _ _ _ _ _ _ _ _ c.served.ensures none)
 
 pub returns-in-Some-Serve-clause-serves : goal.returns-in-Some-Serve-clause-serves
 returns-in-Some-Serve-clause-serves g c = λ turns longest is.
-    serve_does g.P.Keeper.content g.P.Keeper.faults g.P.Keeper.follows (command_of c.args.words.now) c.served.result c.in-Some-Serve.longest
+    serve_does g.P.Keeper.content g.P.Keeper.faults g.P.Keeper.follows g.P.Keeper.leaves (command_of c.args.words.now) c.served.result c.in-Some-Serve.longest
     c.in-Some-Serve.turns longest turns c.args.keeper _ _ _ _ _ _ _ _ (sym c.command.ensures.says ∙ c.in-Some-Serve.is ∙ ap Some c.in-Some-Serve.field-0-is) is
     c.served.ensures
 
