@@ -1,0 +1,5 @@
+pub mod Storing
+pub mod Telling
+pub mod Opening
+pub mod Laws
+pub mod Migrating

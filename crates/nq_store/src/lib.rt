@@ -1,0 +1,13 @@
+//! What a server keeps, on a disk.
+#![tactic(auto)]
+
+mod fault;
+mod loading;
+mod migrating;
+mod opening;
+mod store;
+mod writing;
+
+pub use fault::OpenFault;
+pub use nq_format::format;
+pub use store::Store;

@@ -1,0 +1,69 @@
+//! Reads what is in an image of version 2 from a disk whose record is closed, but for the bodies.
+
+ghost use Rattle.std.specs.Prelude.{◌≡◌, ◌≤◌, IfOk, length};
+ghost use Rattle.nq_store.specs.Opening.{CountsFault};
+
+use crate::fault::Fault;
+use nq_disk::Disk;
+use nq_image::{Front, block_place, read_front};
+use nq_plan::Tables;
+use std::alloc::Global;
+
+/// How long the rows are.
+pub(crate) const ROWS_SIZE: usize = 28672;
+
+/// How long the tables are.
+const TABLES_SIZE: usize = 1_052_672;
+
+/// The bytes from a place on, so many or as many as there are.
+pub(crate) fn read_piece<D: Disk>(
+    disk: &mut D,
+    alloc: Global,
+    place: u64,
+    size: usize,
+) -> Result<Vec<u8>, Fault>
+    ensures cause { CountsFault result (D.faults disk.old) (D.faults disk.new) }
+    ensures follows { D.follows disk.old disk.new }
+{
+    let mut bytes = vec![in alloc; 0; size]?;
+    let count = disk.read(place, &mut bytes)?;
+    bytes.truncate(count);
+    Ok(bytes)
+}
+
+/// How long a disk is.
+pub(crate) fn size_of<D: Disk>(disk: &mut D) -> Result<u64, Fault>
+    ensures cause { CountsFault result (D.faults disk.old) (D.faults disk.new) }
+    ensures follows { D.follows disk.old disk.new }
+{
+    let size = disk.size()?;
+    Ok(size)
+}
+
+/// What is in an image of version 2 with these numbers.
+fn load_behind<D: Disk>(
+    disk: &mut D,
+    alloc: Global,
+    front: &Front,
+    head: &[u8],
+) -> Result<Tables, Fault>
+    requires near { front.now.tables ≤ 16384 }
+    requires size { length head.now ≡ 28672 }
+    ensures cause { CountsFault result (D.faults disk.old) (D.faults disk.new) }
+    ensures follows { D.follows disk.old disk.new }
+{
+    let window = read_piece(disk, alloc, block_place(front.tables), TABLES_SIZE)?;
+    let size = size_of(disk)?;
+    let tables = Tables::read(alloc, front, head, &window, size)?;
+    Ok(tables)
+}
+
+/// What is in an image of version 2, whose first bytes were read.
+pub(crate) fn load<D: Disk>(disk: &mut D, alloc: Global, head: &[u8]) -> Result<Tables, Fault>
+    requires { length head.now ≡ 28672 }
+    ensures cause { CountsFault result (D.faults disk.old) (D.faults disk.new) }
+    ensures follows { D.follows disk.old disk.new }
+{
+    let front = read_front(&head[..64])?;
+    load_behind(disk, alloc, &front, head)
+}
