@@ -7,3 +7,5 @@ mod Committing
 mod Asking
 mod Carrying
 mod Bodies
+mod Told
+mod Opened

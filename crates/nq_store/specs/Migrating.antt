@@ -23,6 +23,7 @@ pub record IsMigrated (bytes : List ℕ) (tells : Option (List ℕ)) (may_leave 
   pub told : tells ≡ Some now
   pub closed : IsClosed image_area now
   pub alone : Only now may_leave
+  pub named : begins_as_image now ≡ true
   pub two : slice_index now 7 ≡ 50
   pub same : stands_as now ≡ stands_as bytes
 

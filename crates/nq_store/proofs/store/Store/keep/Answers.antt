@@ -29,8 +29,7 @@ invariant_of-self g c =
     let told = g.D.Disk.told inside.redo.disk in
     let may = g.D.Disk.may_leave inside.redo.disk in
     let disk = c.carry_out-written.new.redo.disk in
-    let settles = settles-as inside.tables change placed may is_placed told sound fits own c.fresh_blocks.result.now c.args.plan.batch c.fresh_blocks.ensures are (g.D.Disk.told disk) (g.D.Disk.may_leave disk) c.in-Ok.ensures.settled in
-    (
+    let settles = settles-as inside.tables change placed may is_placed told sound fits own c.fresh_blocks.result.now c.args.plan.batch c.fresh_blocks.ensures are (g.D.Disk.told disk) (g.D.Disk.may_leave disk) c.in-Ok.ensures.settled in (
       c.carry_out-written.ensures.area,
       λ goes. subst (λ (t : HeldTables). ForSome (g.D.Disk.told disk) (IsKeptOn t (g.D.Disk.may_leave disk))) (sym c.settle.ensures)
           (sound-then inside.tables change placed may is_placed told sound fits own (g.D.Disk.told disk) (g.D.Disk.may_leave disk) c.carry_out-written.ensures.silent settles),
