@@ -1,5 +1,5 @@
 -- An image whose record is closed is read as it opens.
-use Rattle.std.proofs.Common.{◌≡◌, ◌⊎◌, ◌≤◌, ◌<◌, ◌+◌, ◌-◌, ◌&&◌, inl, inr, ℕ, Bool, true, false, List, [], ◌∷◌, Option, Some, None, Result, Ok, Err, drop, take, length, get_or, if◌then◌else◌, refl, sym, ap, subst, ◌∙◌, arith, length-drop}
+use Rattle.std.proofs.Common.{◌≡◌, ◌⊎◌, ◌≤◌, ◌<◌, ◌+◌, ◌-◌, ◌&&◌, inl, inr, ℕ, Bool, true, List, [], ◌∷◌, Option, Some, None, Result, Ok, Err, drop, take, length, get_or, if◌then◌else◌, sym, ap, subst, ◌∙◌, arith, length-drop}
 use Rattle.std.specs.Cmp.Lexicographic.{pointwise}
 use Rattle.std.specs.Prelude.{nat_eq, nat_le, slice_index_or}
 use Rattle.std.proofs.lemmas.List.{ext_get_or, get_or-drop}
@@ -9,7 +9,7 @@ use Rattle.nq_image.specs.Heads.{front_checks, front_of, version_of}
 use Rattle.nq_image.specs.Image.{FoundTwo, ◌>>=◌, image_two, no_marks, rows_in, tables_in}
 use Rattle.nq_image.specs.Kept.{opened, stands_for}
 use Rattle.nq_image.specs.Layout.{block_place, piece}
-use Rattle.nq_image.specs.Standing.{Stands, found_of, standing_in}
+use Rattle.nq_image.specs.Standing.{found_of, standing_in}
 use Rattle.nq_image.specs.Whole.{Found, has_image_name, image_in, in_version, in_versions, of_two}
 use Rattle.nq_image.specs.declared.Front.{Front}
 use Rattle.nq_image.specs.declared.ImageFault.{ImageFault}
@@ -20,9 +20,9 @@ use Rattle.nq_image.proofs.Finding.{read-stands}
 use Rattle.nq_image.proofs.Pieces.{piece-same}
 use Rattle.nq_plan.specs.Held.{HeldTables, IsHeldOf}
 use Rattle.nq_plan.specs.Reading.{ArePartsOf, HoldsIn, held_in}
-use Rattle.nq_redo.specs.Whole.{IsClosed, found}
+use Rattle.nq_redo.specs.Whole.{found}
 use Rattle.nq_redo.proofs.Opening.{blanked-outside, length-blanked, opened-closed}
-use Rattle.law_image.specs.Reading.{IsClosedTwo, ReadsImage}
+use Rattle.law_image.specs.Reading.{IsClosedImage, ReadsImage}
 use Rattle.law_image.proofs.Opening.{blank, unblank-agrees}
 
 -- ---- what is read is held
@@ -54,7 +54,7 @@ ends-same place one two long same =
     ext_get_or 0 (drop place one) (drop place two) (length-drop place one ∙ ap (λ (n : ℕ). n - place) long ∙ sym (length-drop place two))
     (λ k lt. get_or-drop place one k 0 ∙ same (place + k) (omega arith) ∙ sym (get_or-drop place two k 0))
 
-module _ (bytes : List ℕ) (is_so : IsClosedTwo bytes) where
+module _ (bytes : List ℕ) (is_so : IsClosedImage bytes) where
   abbrev pub blanked_bytes : List ℕ
   blanked_bytes = blank bytes
 
@@ -105,41 +105,48 @@ module _ (bytes : List ℕ) (is_so : IsClosedTwo bytes) where
       ap (λ (b : Bool). if b then settled_as (found image_area bytes) else None) is_so.named
       ∙ ap settled_as (opened-closed 28672 12288 68202496 bytes is_so.closed.shut)
 
-  version-is : version_of (slice_index_or blanked_bytes 7 0) ≡ Some Version.Two
-  unfolding version_of
-  version-is = ap version_of (same-byte 7 (inl (omega arith)) ∙ is_so.two)
+  version-same : version_of (slice_index_or blanked_bytes 7 0) ≡ version_of (slice_index_or bytes 7 0)
+  version-same = ap version_of (same-byte 7 (inl (omega arith)))
 
-  image-is : image_in blanked_bytes ≡ Some (in_version Version.Two blanked_bytes)
+  image-is : image_in blanked_bytes ≡ in_versions (version_of (slice_index_or bytes 7 0)) blanked_bytes
   unfolding image_in
   image-is =
       ap (λ (b : Bool). if b then in_versions (version_of (slice_index_or blanked_bytes 7 0)) blanked_bytes else None) begins-too
-      ∙ ap (λ (v : Option Version). in_versions v blanked_bytes) version-is
+      ∙ ap (λ (v : Option Version). in_versions v blanked_bytes) version-same
 
-  pub wrong-too : (place : ℕ) → image_two (no_marks 16641) blanked_bytes ≡ Err place → stands_as bytes ≡ Some (Err place)
+  pub no-version : version_of (slice_index_or bytes 7 0) ≡ None → stands_as bytes ≡ None
   unfolding opened
-  wrong-too place wrong =
-      let Then : Result FoundTwo ℕ → Result Found ℕ = λ r. r >>= λ f. Ok (of_two f) in
-      opens-so ∙ ap (stands_for blanked_bytes) (image-is ∙ ap (λ (r : Result FoundTwo ℕ). Some (Then r)) wrong)
+  no-version none = opens-so ∙ ap (stands_for blanked_bytes) (image-is ∙ ap (λ (v : Option Version). in_versions v blanked_bytes) none)
 
-  pub front-wrong : (place : ℕ) → tested (front_checks (piece 0 64 bytes)) (front_of (piece 0 64 bytes)) ≡ Err place → stands_as bytes ≡ Some (Err place)
-  front-wrong place wrong =
-      let Front_wrong : List ℕ → Type 0 = λ b. tested (front_checks b) (front_of b) ≡ Err place in
-      wrong-too place (front-stops blanked_bytes place (subst Front_wrong (sym (same-front 0 64 (omega arith))) wrong))
+  module _ (two : version_of (slice_index_or bytes 7 0) ≡ Some Version.Two) where
+    image-two : image_in blanked_bytes ≡ Some (in_version Version.Two blanked_bytes)
+    image-two = image-is ∙ ap (λ (v : Option Version). in_versions v blanked_bytes) two
 
-  held-here : (held : HeldTables) → HoldsIn blanked_bytes (Ok held) (image_two (no_marks 16641) blanked_bytes) → IsHeldOf bytes held
-  held-here held holds =
-      let read = holds.0 in
-      let Then : Result FoundTwo ℕ → Result Found ℕ = λ r. r >>= λ f. Ok (of_two f) in
-      let is = image-is ∙ ap (λ (r : Result FoundTwo ℕ). Some (Then r)) holds.1 in
-      let Held : HeldTables → Type 0 = λ h. IsHeldOf blanked_bytes h in
-      let there = subst Held (sym holds.2) (read-held blanked_bytes read is) in
-      record {
-        stands = agree-stands held.standing blanked_bytes bytes there.stands (unblank-agrees bytes held.standing long-here there.stands);
-        marks = there.marks;
-      }
+    pub wrong-too : (place : ℕ) → image_two (no_marks 16641) blanked_bytes ≡ Err place → stands_as bytes ≡ Some (Err place)
+    unfolding opened
+    wrong-too place wrong =
+        let Then : Result FoundTwo ℕ → Result Found ℕ = λ r. r >>= λ f. Ok (of_two f) in
+        opens-so ∙ ap (stands_for blanked_bytes) (image-two ∙ ap (λ (r : Result FoundTwo ℕ). Some (Then r)) wrong)
 
-  pub read-so : (result : Result HeldTables ImageFault) → HoldsIn blanked_bytes result (image_two (no_marks 16641) blanked_bytes) → ReadsImage bytes result
-  read-so (Ok held) holds = held-here held holds
-  read-so (Err (BadField place)) holds = wrong-too place holds
-  read-so (Err NotAnImage) holds = holds
-  read-so (Err Memory) holds = tt
+    pub front-wrong : (place : ℕ) → tested (front_checks (piece 0 64 bytes)) (front_of (piece 0 64 bytes)) ≡ Err place → stands_as bytes ≡ Some (Err place)
+    front-wrong place wrong =
+        let Front_wrong : List ℕ → Type 0 = λ b. tested (front_checks b) (front_of b) ≡ Err place in
+        wrong-too place (front-stops blanked_bytes place (subst Front_wrong (sym (same-front 0 64 (omega arith))) wrong))
+
+    held-here : (held : HeldTables) → HoldsIn blanked_bytes (Ok held) (image_two (no_marks 16641) blanked_bytes) → IsHeldOf bytes held
+    held-here held holds =
+        let read = holds.0 in
+        let Then : Result FoundTwo ℕ → Result Found ℕ = λ r. r >>= λ f. Ok (of_two f) in
+        let is = image-two ∙ ap (λ (r : Result FoundTwo ℕ). Some (Then r)) holds.1 in
+        let Held : HeldTables → Type 0 = λ h. IsHeldOf blanked_bytes h in
+        let there = subst Held (sym holds.2) (read-held blanked_bytes read is) in
+        record {
+          stands = agree-stands held.standing blanked_bytes bytes there.stands (unblank-agrees bytes held.standing long-here there.stands);
+          marks = there.marks;
+        }
+
+    pub read-so : (result : Result HeldTables ImageFault) → HoldsIn blanked_bytes result (image_two (no_marks 16641) blanked_bytes) → ReadsImage bytes result
+    read-so (Ok held) holds = held-here held holds
+    read-so (Err (BadField place)) holds = wrong-too place holds
+    read-so (Err NotAnImage) holds = holds
+    read-so (Err Memory) holds = tt
