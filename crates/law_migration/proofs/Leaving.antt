@@ -38,7 +38,7 @@ blank bytes = blanked 28672 12288 bytes
 
 -- ---- a blank record
 
-blank-rows : (bytes : List ℕ) → 40960 ≤ length bytes → piece 0 28672 (blank bytes) ≡ piece 0 28672 bytes
+pub blank-rows : (bytes : List ℕ) → 40960 ≤ length bytes → piece 0 28672 (blank bytes) ≡ piece 0 28672 bytes
 blank-rows bytes long =
     let same = length-blanked 28672 12288 0 bytes (omega (arith, long)) in
     piece-same 0 28672 (blank bytes) bytes (omega (arith, same, long)) (omega (arith, long)) (λ k lt. blanked-outside 28672 12288 0 bytes (0 + k) (inl (omega (arith, lt))))
@@ -50,14 +50,14 @@ blank-agrees end bytes long =
 
 -- ---- what a closed image of version 1 stands for
 
-both-begin : (bytes : List ℕ) → 40960 ≤ length bytes → has_image_name bytes ≡ true → begins_as_image bytes ≡ true
+pub both-begin : (bytes : List ℕ) → 40960 ≤ length bytes → has_image_name bytes ≡ true → begins_as_image bytes ≡ true
 both-begin bytes long name = and-two (nat_le 40960 (length bytes)) (has_image_name bytes) (ge-true (length bytes) (length bytes) 40960 refl long) name
 
-stands-found : (bytes opens : List ℕ) → begins_as_image bytes ≡ true → found_by image_area bytes ≡ Ok opens → stands_as bytes ≡ opened opens
+pub stands-found : (bytes opens : List ℕ) → begins_as_image bytes ≡ true → found_by image_area bytes ≡ Ok opens → stands_as bytes ≡ opened opens
 unfolding stands_as
 stands-found bytes opens begins is = ap (λ (b : Bool). if b then settled_as (found_by image_area bytes) else None) begins ∙ ap settled_as is
 
-closed-found : (bytes : List ℕ) → IsClosed image_area bytes → found_by image_area bytes ≡ Ok (blank bytes)
+pub closed-found : (bytes : List ℕ) → IsClosed image_area bytes → found_by image_area bytes ≡ Ok (blank bytes)
 closed-found bytes closed = opened-closed 28672 12288 68202496 bytes closed.shut
 
 pub stands-one : (found : FoundOne) (bytes : List ℕ) → image_in bytes ≡ Some (Ok (of_one found)) → IsClosed image_area bytes → stands_as bytes ≡ opened bytes
@@ -139,7 +139,7 @@ module _ (found : FoundOne) (old : List ℕ) (is : image_in old ≡ Some (Ok (of
   ready : IsPrepared found.rows.slots old (prepared found.rows.slots old)
   ready = prepared-is found.rows.slots old every (omega (arith, few-files found.rows.slots, every)) short reach
 
-  mid-long : 40960 ≤ length (prepared found.rows.slots old)
+  pub mid-long : 40960 ≤ length (prepared found.rows.slots old)
   mid-long = let whole = ready.whole in omega (arith, whole)
 
   size-of : length (numbers_then found) ≡ 21

@@ -7,3 +7,4 @@ pub mod Numbers
 pub mod Two
 pub mod Written
 pub mod Leaving
+pub mod Saying

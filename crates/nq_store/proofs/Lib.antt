@@ -7,3 +7,4 @@ mod Committing
 mod Asking
 mod Carrying
 mod Bodies
+pub mod Migrated

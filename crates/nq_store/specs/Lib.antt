@@ -3,3 +3,4 @@ pub mod Telling
 pub mod Opening
 pub mod Laws
 pub mod Migrating
+pub mod Examining
