@@ -5,3 +5,6 @@ pub mod Tables
 pub mod Ids
 pub mod Numbers
 pub mod Two
+pub mod Written
+pub mod Leaving
+pub mod Saying

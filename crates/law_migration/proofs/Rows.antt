@@ -1,14 +1,17 @@
 -- The rows of an image of version 1 are rows of version 2.
 use Rattle.std.proofs.Common.{◌≡◌, ◌≤◌, ◌+◌, ◌||◌, ℕ, zero, suc, Bool, true, false, List, [], ◌∷◌, ◌++◌, Option, Some, None, take, drop, if◌then◌else◌, refl, sym, ap, ◌∙◌, arith}
-use Rattle.std.specs.List.{list_any, sum_by}
+use Rattle.std.specs.List.{All, list_any, sum_by}
+use Rattle.std.specs.Prelude.{nat_le}
+use Rattle.std.proofs.lemmas.List.Elements.{All-cons, All-nil}
 use Rattle.std.proofs.lemmas.List.Folds.{list_any-append}
 use Rattle.std.proofs.lemmas.List.Sums.{sum_by-append, sum_by-cons}
 use Rattle.nq_image.specs.Check.{check}
-use Rattle.nq_image.specs.Layout.{are_zeros}
+use Rattle.nq_image.specs.Layout.{are_zeros, word_in}
 use Rattle.nq_image.specs.Rows.{blocks_of, is_shut, is_unused, least_not_zeros, row_checks, rows_checks, slot_of, slots_of, used_checks, used_slot}
 use Rattle.nq_image.specs.declared.Slot.{Slot}
 use Rattle.nq_image.specs.declared.Version.{Version}
 use Rattle.nq_image.proofs.Agreeing.{hold-behind, hold-front}
+use Rattle.nq_image.proofs.Holding.{each-three, test-le}
 use Rattle.nq_image.proofs.ReadBack.{Hold, hold-append}
 use Rattle.nq_image.proofs.Rowing.{AllNew, IsNewTo, rows-new}
 
@@ -104,3 +107,29 @@ rows-first (suc count) place over before rows is h =
 
 pub used-first : (count place : ℕ) (rows : List ℕ) → Hold (rows_checks Version.One count place [] rows) → AreFirst false (slots_of count rows)
 used-first count place rows h = rows-first count place false [] rows refl h
+
+-- ---- no file is too long
+
+row-short-by : (zeros : Bool) (place : ℕ) (before : List (Option Slot)) (row : List ℕ) → Hold (if zeros then [] else used_checks Version.Two place before row) → blocks_of (if zeros then None else Some (used_slot row)) ≤ 1024
+unfolding used_checks used_slot
+row-short-by true place before row h = omega arith
+row-short-by false place before row h =
+    let count = each-three (nat_le 1 (word_in 68 row)) (nat_le (word_in 68 row) 1024) (nat_le (sum_by blocks_of before + word_in 68 row) 16384) h.1.1.0 in
+    test-le (word_in 68 row) 1024 count.1
+
+row-short : (place : ℕ) (before : List (Option Slot)) (row : List ℕ) → Hold (row_checks Version.Two place before row) → blocks_of (slot_of row) ≤ 1024
+unfolding row_checks slot_of
+row-short place before row h = row-short-by (are_zeros row) place before row h
+
+rows-short : (count place : ℕ) (before : List (Option Slot)) (rows : List ℕ) → Hold (rows_checks Version.Two count place before rows) → All (λ slot. blocks_of slot ≤ 1024) (slots_of count rows)
+unfolding rows_checks slots_of
+rows-short zero place before rows h = All-nil (λ (slot : Option Slot). blocks_of slot ≤ 1024)
+rows-short (suc count) place before rows h =
+    let more = before ++ slot_of (take 96 rows) ∷ [] in
+    let front = row_checks Version.Two place before (take 96 rows) in
+    let behind = rows_checks Version.Two count (place + 96) more (drop 96 rows) in
+    All-cons (λ (slot : Option Slot). blocks_of slot ≤ 1024) (slot_of (take 96 rows)) (slots_of count (drop 96 rows))
+    (row-short place before (take 96 rows) (hold-front front behind h)) (rows-short count (place + 96) more (drop 96 rows) (hold-behind front behind h))
+
+pub short-rows : (count place : ℕ) (before : List (Option Slot)) (rows : List ℕ) → Hold (rows_checks Version.One count place before rows) → All (λ slot. blocks_of slot ≤ 1024) (slots_of count rows)
+short-rows count place before rows h = rows-short count place before rows (rows-two count place before rows h)

@@ -2,9 +2,11 @@
 //! whose proof stands in `proofs/`.
 #![tactic(auto)]
 
+mod head;
 mod migrated;
 mod stopping;
 
+pub use head::an_image_of_version_one_is_what_its_first_bytes_say;
 pub use migrated::{
     a_migrated_image_opens_the_same, an_image_of_version_one_is_its_rows_and_blocks,
 };

@@ -9,3 +9,4 @@ mod Carrying
 mod Bodies
 mod Told
 mod Opened
+pub mod Migrated

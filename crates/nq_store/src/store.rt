@@ -173,15 +173,9 @@ impl<D: Disk + Drop> Store<D> {
         ensures follows { GoesOn D.follows self.old self.new }
         ensures leaves { LeavesTwo change.now (content_of D.told self.old) (LeavesKept (D.leaves self.old.disk self.new.disk)) }
     {
-        let written = carry_out(
-            &mut self.redo,
-            fresh_blocks(&plan.placed),
-            &plan.batch,
-            &ZEROS,
-        );
-        match written {
+        let Plan { batch, placed } = plan;
+        match carry_out(&mut self.redo, fresh_blocks(&placed), &batch, &ZEROS) {
             Ok(()) => {
-                let Plan { batch: _, placed } = plan;
                 self.tables.settle(change, placed);
                 Ok(())
             }

@@ -1,8 +1,9 @@
-use Rattle.std.proofs.Common.{◌≡◌, ◌≤◌, ◌<◌, ◌-◌, ◌+◌, ℕ, get_or, length}
+use Rattle.std.proofs.Common.{◌≡◌, ◌+◌, ◌-◌, ◌++◌}
+use Rattle.nq_image.specs.Kept.{numbers_from}
 use Rattle.nq_store.proofs.migrating.numbers_from.Given as goal
 
-abbrev pub invariant-loop-number : goal.invariant-loop-number
-invariant-loop-number l = record {
-  size : length l.numbers.items ≡ l.number - l.first;
-  near : (k : ℕ) → get_or l.numbers.items k 0 < 16641;
+abbrev pub invariant-loop : goal.invariant-loop
+invariant-loop l = record {
+  at : l.number ≡ l.fn.first + l.counter;
+  same : l.numbers.items ++ numbers_from l.number (l.fn.count - l.counter) ≡ numbers_from l.fn.first l.fn.count;
 }

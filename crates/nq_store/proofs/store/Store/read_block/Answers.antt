@@ -29,8 +29,8 @@ returns-clause-leaves g c =
     leaves-in g.D.Disk.told g.D.Disk.leaves _ c.args.self.now c.read_body.new.disk c.self.view_is
     (leaves-same inside.ended (g.D.Disk.told inside.redo.disk) inside.tables (g.D.Disk.may_leave inside.redo.disk) (g.D.Disk.leaves inside.redo.disk c.read_body.new.disk) c.self.invariant.1 c.read_body.ensures.leaves)
 
-pub invariant_of-self-2 : goal.invariant_of-self-2
-invariant_of-self-2 g c =
+pub invariant_of-self : goal.invariant_of-self
+invariant_of-self g c =
     let inside = c.self.inside in (
       c.self.invariant.0,
       sound-still inside.ended (g.D.Disk.told inside.redo.disk) (g.D.Disk.told c.read_body.new.disk) inside.tables (g.D.Disk.may_leave inside.redo.disk) (g.D.Disk.may_leave c.read_body.new.disk) c.self.invariant.1 c.read_body.ensures.same

@@ -16,7 +16,7 @@ returns-then-has_ended-clause-store g c =
 pub returns-then-has_ended-clause-reads : goal.returns-then-has_ended-clause-reads
 returns-then-has_ended-clause-reads g c =
     let is : c.has_ended.result ≡ true = cc in
-    refused-reads c.args.self.now c.refuse.new.self (sym c.has_ended.ensures.ended ∙ is) c.refuse.ensures.counted g.row.X g.D.Disk.told g.D.Disk.faults
+    refused-reads c.args.self.now c.refuse.new.self (sym c.has_ended.ensures.ended ∙ is) c.refuse.ensures.counted _ g.D.Disk.told g.D.Disk.faults
 
 pub returns-then-has_ended-clause-follows : goal.returns-then-has_ended-clause-follows
 returns-then-has_ended-clause-follows g c =
