@@ -8,3 +8,5 @@ mod Asking
 mod Carrying
 mod Bodies
 pub mod Migrated
+mod Told
+mod Opened

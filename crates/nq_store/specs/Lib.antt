@@ -4,3 +4,4 @@ pub mod Opening
 pub mod Laws
 pub mod Migrating
 pub mod Examining
+pub mod Loading

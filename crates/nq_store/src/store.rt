@@ -7,7 +7,6 @@ ghost use Rattle.nq_keeper.specs.Keeping.{Commits, LeavesOne, LeavesTwo, NamesHo
 ghost use Rattle.nq_model.specs.Change.{Fits, HasBlock, IsChangeWithin, file_after, heads_of, row_of_found, space_of};
 ghost use Rattle.nq_model.specs.Kept.{find_file, find_name, fresh_row, host_row};
 ghost use Rattle.nq_model.specs.Profile.{most_hosts};
-ghost use Rattle.nq_image.specs.Bounds.{AreBytes};
 ghost use Rattle.nq_image.specs.Kept.{body_in};
 ghost use Rattle.nq_image.specs.Layout.{block_place as place_of_block};
 ghost use Rattle.nq_plan.specs.Finding.{row_behind, row_named, row_of};
@@ -65,7 +64,6 @@ impl<D: Disk + Drop> Store<D> {
     ///
     /// `NotAnImage` and `BadField` where the disk stands for no kept state, `Failed` only where the disk failed, and want of memory.
     pub fn open(alloc: Global, disk: D) -> Result<Store<D>, OpenFault<D>>
-        requires bytes { ForSome (D.told disk) AreBytes }
         ensures content { IfOk result (λ store. content_of D.told store ≡ kept_told (D.told disk)) }
         ensures wrong { SaysWrong result (D.told disk) }
         ensures fresh { IfOk result IsFresh }
