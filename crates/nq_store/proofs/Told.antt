@@ -1,12 +1,12 @@
 -- What the calls answer that open a store.
-use Rattle.std.proofs.Common.{◌≡◌, ◌≢◌, ◌⊎◌, ◌≤◌, ◌<◌, ◌+◌, ◌-◌, ◌&&◌, inl, inr, min, ℕ, Bool, true, false, List, [], ◌∷◌, Option, Some, None, Result, Ok, Err, take, drop, length, get_or, if◌then◌else◌, refl, sym, ap, subst, ◌∙◌, arith}
+use Rattle.std.proofs.Common.{◌≡◌, ◌≢◌, ◌⊎◌, ◌≤◌, ◌<◌, ◌+◌, ◌-◌, ◌&&◌, inl, inr, ⊎_elim, min, ℕ, Bool, true, false, List, [], ◌∷◌, Option, Some, None, Result, Ok, Err, take, drop, length, get_or, if◌then◌else◌, refl, sym, ap, subst, ◌∙◌, arith}
 use Rattle.std.specs.Option.{ForSome}
 use Rattle.std.specs.Prelude.{nat_le, slice_index}
 use Rattle.std.proofs.lemmas.Bool.{cases_lt}
 use Rattle.std.proofs.lemmas.Bool.Decides.{nat_tests}
 use Rattle.std.proofs.lemmas.List.{length-drop, take_all}
 use Rattle.nq_disk.specs.Bytes.{AreBytes}
-use Rattle.nq_disk.specs.Calling.{ReadsFront}
+use Rattle.nq_disk.specs.Calling.{LeavesNoMore, ReadsFront}
 use Rattle.nq_format.specs.Standing.{begins_as_image, image_area, settled_as, stands_as}
 use Rattle.nq_image.specs.Check.{tested}
 use Rattle.nq_image.specs.Heads.{front_checks, front_of, version_of}
@@ -20,19 +20,25 @@ use Rattle.nq_image.specs.declared.ImageFault.TheVariants as image
 use Rattle.nq_image.specs.declared.Version.{Version}
 use Rattle.nq_image.proofs.Gathering.{stands-opens}
 use Rattle.nq_image.proofs.Holding.{test-le}
-use Rattle.nq_image.proofs.Pieces.{at-piece, piece-of-first, piece-same}
+use Rattle.nq_image.proofs.Pieces.{at-piece, length-piece, piece-of-first, piece-same}
 use Rattle.nq_image.proofs.Within.{opened-within}
 use Rattle.nq_plan.specs.Held.{HeldTables, IsHeldOf}
 use Rattle.nq_plan.specs.Reading.{ArePartsOf, HoldsIn}
+use Rattle.nq_redo.specs.Opens.{Opens}
 use Rattle.nq_redo.specs.Whole.{IsClosed, Settled, found}
+use Rattle.nq_redo.specs.declared.Redo.{Redo}
+use Rattle.nq_redo.specs.declared.RedoOpen.{RedoOpen}
 use Rattle.nq_redo.proofs.Front.{front-stays}
 use Rattle.nq_redo.proofs.Opening.{blanked-outside, opened-closed}
 use Rattle.law_image.specs.Reading.{IsClosedImage, ReadsImage}
 use Rattle.law_image.proofs.Closed.{blanked_bytes, front-wrong, no-version, read-so, same-parts}
 use Rattle.law_image.proofs.Opening.{blank}
 use Rattle.nq_store.specs.Loading.{AreFrontOf, Gives, IsHeadOf, IsLoaded, IsShut, IsShutAs, Loads, OpensTables, is_name}
-use Rattle.nq_store.specs.Storing.{IsKeptOn, kept_of, kept_on, kept_told}
+use Rattle.nq_store.specs.Migrating.{IsMigrated, IsOld, Migrates}
+use Rattle.nq_store.specs.Opening.{SaysWrong, open_fault}
 use Rattle.nq_store.specs.Telling.{fault_of}
+use Rattle.nq_store.specs.declared.fault.OpenFault.{OpenFault}
+use Rattle.nq_store.specs.declared.fault.OpenFault.TheVariants as opening
 use Rattle.nq_store.specs.declared.fault.Fault.{Fault}
 use Rattle.nq_store.specs.declared.fault.Fault.TheVariants.{NotAnImage, BadField, Failed, Memory}
 
@@ -49,6 +55,14 @@ unfolding piece
 piece-read count place size disk buffer part reads long is =
     let number = reads.number in
     is ∙ reads.front ∙ take-most count size (drop place disk) (omega (arith, number, long, length-drop place disk))
+
+-- a stop within two calls leaves no more than one before them, where that is so of each
+pub no-more : {D : Type 0} (follows : D → D → Type 0) (may : D → List ℕ → Type 0) (leaves : D → D → List ℕ → Type 0)
+    → ((first last : D) (image : List ℕ) → follows first last → may first image ⊎ may last image → leaves first last image)
+    → ((first middle last : D) (image : List ℕ) → follows first middle → follows middle last → leaves first last image → leaves first middle image ⊎ leaves middle last image)
+    → (first middle last : D) → follows first middle → follows middle last → LeavesNoMore (may first) (leaves first middle) → LeavesNoMore (may middle) (leaves middle last) → LeavesNoMore (may first) (leaves first last)
+no-more follows may leaves ends parts first middle last one two before behind = λ image left.
+    ⊎_elim (λ l. before image l) (λ l. before image (ends first middle image one (inr (behind image l)))) (parts first middle last image one two left)
 
 -- ---- faults
 
@@ -106,6 +120,9 @@ opens-as (Err Memory) bytes now tells may same opens = tt
 
 -- ---- the first bytes
 
+pub head-long : (bytes head : List ℕ) → head ≡ piece 0 28672 bytes → 28672 ≤ length bytes → length head ≡ 28672
+head-long bytes head is long = ap length is ∙ length-piece 0 28672 bytes (omega (arith, long))
+
 pub closed-image : (may : List ℕ → Type 0) (bytes : List ℕ) → IsShut may bytes → IsClosedImage bytes
 closed-image may bytes shut = record { closed = shut.closed; named = shut.named }
 
@@ -162,6 +179,48 @@ pub not-begins : (bytes : List ℕ) (named : Bool) → named ≡ begins_as_image
 unfolding stands_as
 not-begins bytes named is not_so = ap (λ (b : Bool). if b then settled_as (found image_area bytes) else None) (sym is ∙ not_so)
 
+pub says-named : {X D : Type 0} (result : Result X (OpenFault D)) (o mid : Option (List ℕ)) → mid ≡ o → ForSome o (λ bytes. true ≡ begins_as_image bytes) → ForSome mid (λ bytes. begins_as_image bytes ≡ true → SaysWrong result mid) → SaysWrong result o
+says-named (Ok opened) o mid same named says = tt
+says-named (Err (opening.NotAnImage back)) o mid same named says = λ bytes is. says bytes (same ∙ is) (sym (named bytes is)) bytes (same ∙ is)
+says-named (Err (opening.BadField back place)) o mid same named says = λ bytes is. says bytes (same ∙ is) (sym (named bytes is)) bytes (same ∙ is)
+says-named (Err (opening.Failed back)) o mid same named says = tt
+says-named (Err (opening.Memory back)) o mid same named says = tt
+
+pub says-given : (X : Type 0) {Y D : Type 0} (fault : Fault) (disk : D) (result : OpenFault D) (o : Option (List ℕ)) (P : List ℕ → Y → Type 0) → result ≡ open_fault disk fault → ForSome o (λ bytes. Gives (Err fault) (P bytes)) → SaysWrong {X = X} (Err result) o
+says-given X {Y} {D} fault disk result o P is gives = subst (λ (f : OpenFault D). SaysWrong {X = X} (Err f) o) (sym is) (by fault gives)
+  where
+    by : (fault : Fault) → ForSome o (λ bytes. Gives (Err fault) (P bytes)) → SaysWrong {X = X} (Err (open_fault disk fault)) o
+    by NotAnImage gives = λ bytes at. absurd (gives bytes at)
+    by (BadField place) gives = λ bytes at. absurd (gives bytes at)
+    by Failed gives = tt
+    by Memory gives = tt
+
+-- ---- tables of an image of either version
+
+pub no-image : (may : List ℕ → Type 0) (bytes head : List ℕ) → IsShut may bytes → head ≡ piece 0 28672 bytes → version_of (slice_index head 7) ≡ None → stands_as bytes ≡ None
+no-image may bytes head shut is none = no-version bytes (closed-image may bytes shut) (ap version_of (sym (version-byte bytes head is)) ∙ none)
+
+pub new-head : (may : List ℕ → Type 0) (bytes head : List ℕ) → IsShut may bytes → head ≡ piece 0 28672 bytes → version_of (slice_index head 7) ≡ Some Version.Two → IsHeadOf bytes head
+new-head may bytes head shut is two = head-of may bytes head shut is (ap version_of (sym (version-byte bytes head is)) ∙ two)
+
+pub old-head : (may : List ℕ → Type 0) (bytes head : List ℕ) → IsShut may bytes → head ≡ piece 0 28672 bytes → version_of (slice_index head 7) ≡ Some Version.One → IsOld head may bytes
+old-head may bytes head shut is one = record {
+  closed = shut.closed;
+  alone = shut.alone;
+  named = shut.named;
+  front = is;
+  one = one-is (slice_index bytes 7) (ap version_of (sym (version-byte bytes head is)) ∙ one);
+}
+
+pub migrates-opens : (fault : Fault) (bytes : List ℕ) (tells : Option (List ℕ)) (may : List ℕ → Type 0) → Migrates (Err fault) bytes tells may → OpensTables (Err fault) bytes tells may
+migrates-opens NotAnImage bytes tells may migrates = absurd migrates
+migrates-opens (BadField place) bytes tells may migrates = migrates.0
+migrates-opens Failed bytes tells may migrates = tt
+migrates-opens Memory bytes tells may migrates = tt
+
+pub migrated-shut : (bytes : List ℕ) (tells : Option (List ℕ)) (may : List ℕ → Type 0) (migrated : IsMigrated bytes tells may) → IsShut may migrated.now
+migrated-shut bytes tells may migrated = record { closed = migrated.closed; alone = migrated.alone; named = migrated.named }
+
 -- ---- what an open of the record leaves
 
 stands-settled : (bytes : List ℕ) → begins_as_image bytes ≡ true → stands_as bytes ≡ settled_as (found image_area bytes)
@@ -170,6 +229,11 @@ stands-settled bytes begins = ap (λ (b : Bool). if b then settled_as (found ima
 
 pub wrong-record : (bytes : List ℕ) (place : ℕ) → begins_as_image bytes ≡ true → found image_area bytes ≡ Err place → stands_as bytes ≡ Some (Err place)
 wrong-record bytes place begins wrong = stands-settled bytes begins ∙ ap settled_as wrong
+
+pub wrong-opened : {D : Type 0} (result : Result (Redo D) (RedoOpen D)) (back : D) (place : ℕ) (bytes : List ℕ) (tells : Option (List ℕ)) (may : List ℕ → Type 0) → result ≡ Err (RedoOpen.BadField back place) → begins_as_image bytes ≡ true → Opens image_area result bytes tells may → stands_as bytes ≡ Some (Err place)
+wrong-opened {D} result back place bytes tells may is begins opens =
+    let there = subst (λ (r : Result (Redo D) (RedoOpen D)). Opens image_area r bytes tells may) is opens in
+    wrong-record bytes place begins there.0
 
 module _ (old now : List ℕ) (begins : begins_as_image old ≡ true) (closed : IsClosed image_area now) (opens : found image_area now ≡ found image_area old) where
   opens-blank : found image_area old ≡ Ok (blank now)

@@ -1,9 +1,10 @@
 //! A disk is opened as what a server keeps.
 
-ghost use Rattle.std.specs.Prelude.{◌≡◌, ◌≤◌, true, IfOk, length};
+ghost use Rattle.std.specs.Prelude.{◌≡◌, ◌≤◌, true, IfOk, length, slice_index};
 ghost use Rattle.std.specs.Option.{ForSome};
 ghost use Rattle.nq_disk.specs.Calling.{LeavesNoMore};
 ghost use Rattle.nq_format.specs.Standing.{begins_as_image, image_area};
+ghost use Rattle.nq_image.specs.Heads.{version_of as version_at};
 ghost use Rattle.nq_image.specs.Layout.{piece};
 ghost use Rattle.nq_store.specs.Loading.{Gives, IsHeadOf, IsShut, IsShutAs, OpensTables, is_name as is_image_name};
 ghost use Rattle.nq_store.specs.Migrating.{IsOld};
@@ -95,17 +96,19 @@ pub(crate) fn open_record<D: Disk>(disk: D, alloc: Global) -> Result<Redo<D>, Op
     }
 }
 
-/// The rows of an image: its first bytes, up to the record. What the disk does not give of them is zeros.
+/// The rows of an image: its first bytes, up to the record. Where the disk gives fewer it is no image.
 fn read_head<D: Disk>(disk: &mut D, alloc: Global) -> Result<Vec<u8>, Fault>
     ensures size { IfOk result (λ head. length head.items ≡ 28672) }
-    ensures told { ForSome (D.told disk.old) (λ bytes. Gives result (λ head. 28672 ≤ length bytes → head.items ≡ piece 0 28672 bytes)) }
+    ensures told { ForSome (D.told disk.old) (λ bytes. 28672 ≤ length bytes → Gives result (λ head. head.items ≡ piece 0 28672 bytes)) }
     ensures same { D.told disk.new ≡ D.told disk.old }
     ensures cause { CountsFault result (D.faults disk.old) (D.faults disk.new) }
     ensures follows { D.follows disk.old disk.new }
     ensures leaves { LeavesNoMore (D.may_leave disk.old) (D.leaves disk.old disk.new) }
 {
-    let mut head = read_piece(disk, alloc, 0, ROWS_SIZE)?;
-    head.resize(ROWS_SIZE, 0)?;
+    let head = read_piece(disk, alloc, 0, ROWS_SIZE)?;
+    if head.len() != ROWS_SIZE {
+        return Err(Fault::NotAnImage);
+    }
     Ok(head)
 }
 
@@ -142,6 +145,14 @@ fn load_old<D: Disk>(redo: &mut Redo<D>, alloc: Global, head: &[u8]) -> Result<T
     load_migrated(&mut redo.disk, alloc)
 }
 
+/// The version of an image, by its first bytes; None where they say none.
+fn version_in(head: &[u8]) -> Option<Version>
+    requires { length head.now ≡ 28672 }
+    ensures { result ≡ version_at (slice_index head.now 7) }
+{
+    version_of(head[7])
+}
+
 /// What is in the image of a disk whose record is closed, by its first bytes.
 fn load_any<D: Disk>(redo: &mut Redo<D>, alloc: Global, head: &[u8]) -> Result<Tables, Fault>
     requires area { redo.old.area ≡ image_area }
@@ -151,7 +162,7 @@ fn load_any<D: Disk>(redo: &mut Redo<D>, alloc: Global, head: &[u8]) -> Result<T
     ensures cause { CountsFault result (D.faults redo.old.disk) (D.faults redo.new.disk) }
     ensures follows { D.follows redo.old.disk redo.new.disk }
 {
-    match version_of(head[7]) {
+    match version_in(head) {
         None => Err(Fault::NotAnImage),
         Some(Version::Two) => load_new(&mut redo.disk, alloc, head),
         Some(Version::One) => load_old(redo, alloc, head),
