@@ -1,6 +1,6 @@
 //! An image of version 1 becomes one of version 2.
 
-ghost use Rattle.std.specs.Prelude.{◌≡◌, ◌≤◌, ◌<◌, ◌+◌, ◌⊎◌, ℕ, All, IfOk, OnOk, Some, Ok, length, sum_by};
+ghost use Rattle.std.specs.Prelude.{◌≡◌, ◌≤◌, ◌<◌, ◌+◌, ◌⊎◌, ◌^◌, IfOk, OnOk, Some, length};
 ghost use Rattle.std.specs.Option.{ForSome};
 ghost use Rattle.law_migration.specs.Migrated.{blocks_in as blocks_at_all, files_in as files_at, numbers_then};
 ghost use Rattle.law_migration.specs.Prepared.{SameBelow, change_of, prepared, tabled};

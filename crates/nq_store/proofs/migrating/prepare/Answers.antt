@@ -53,7 +53,7 @@ returns-clause-written g c = λ old told.
     let ids = c.deref.ensures.value ∙ c.in_ok-ids.ensures ∙ ap (λ (n : ℕ). table_of_blocks (numbers_from 0 n)) c.files_in.ensures.count in
     let tables = c.blocks_in-tables.ensures in
     c.in_ok-write_at.ensures.writes
-    ∙ ap (told_after c.block_place.result _) (c.in_ok-write_tables.ensures.written old told)
-    ∙ ap (λ (p : ℕ). Some (written p _ (tabled (block_place c.blocks_in-tables.result) 0 slots old))) c.block_place.ensures
-    ∙ ap (λ (n : ℕ). Some (written (block_place (n + 256)) _ (tabled (block_place n) 0 slots old))) tables
+    ∙ ap (told_after c.block_place.result c.deref.result.now) (c.in_ok-write_tables.ensures.written old told)
+    ∙ ap (λ (p : ℕ). Some (written p c.deref.result.now (tabled (block_place c.blocks_in-tables.result) 0 slots old))) c.block_place.ensures
+    ∙ ap (λ (n : ℕ). Some (written (block_place (n + 256)) c.deref.result.now (tabled (block_place n) 0 slots old))) tables
     ∙ ap (λ (b : List ℕ). Some (written (block_place (blocks_in slots + 256)) b (tabled (block_place (blocks_in slots)) 0 slots old))) ids
