@@ -7,6 +7,6 @@ mod Committing
 mod Asking
 mod Carrying
 mod Bodies
+pub mod Migrated
 mod Told
 mod Opened
-pub mod Migrated

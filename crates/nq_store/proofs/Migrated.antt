@@ -23,7 +23,8 @@ use Rattle.law_migration.specs.Prepared.{SameBelow, change_of, prepared, tabled}
 use Rattle.law_migration.proofs.Leaving.{as-before, below-closed, below-stands, fits, mid-long, then-begins, then-stands, then-two}
 use Rattle.law_migration.proofs.Parts.{parts-of-one}
 use Rattle.law_migration.proofs.Same.{reaches-end}
-use Rattle.nq_store.specs.Migrating.{CountsWriting, IsMigrated, IsOldImage, LeavesSameKept}
+use Rattle.nq_store.specs.Examining.{Examines}
+use Rattle.nq_store.specs.Migrating.{CountsWriting, IsMigrated, IsOldImage, LeavesSameKept, Migrates}
 use Rattle.nq_store.specs.Opening.{CountsFault}
 use Rattle.nq_store.specs.Storing.{kept_of, kept_on}
 use Rattle.nq_store.specs.declared.fault.Fault.{Fault}
@@ -121,3 +122,18 @@ module _ (found : FoundOne) (may : List ℕ → Type 0) (old : List ℕ) (is : I
         two = then-two found old is.image is.closed so.now (omega arith) so.opens so.closed;
         same = then-stands found old is.image is.closed so.now (omega arith) so.opens;
       }
+
+-- ---- what a migration answers
+
+pub migrates-so : (result : Result (Unit {0}) Fault) (bytes : List ℕ) (tells : Option (List ℕ)) (may : List ℕ → Type 0) (before now : ℕ) → OnOk result (IsMigrated bytes tells may) → CountsWriting result before now → Migrates result bytes tells may
+migrates-so (Ok done) bytes tells may before now known count = known
+migrates-so (Err NotAnImage) bytes tells may before now known count = absurd count
+migrates-so (Err (BadField place)) bytes tells may before now known count = absurd count
+migrates-so (Err Failed) bytes tells may before now known count = tt
+migrates-so (Err Memory) bytes tells may before now known count = tt
+
+pub wrong-so : (fault : Fault) (told : Result FoundOne ℕ) (bytes : List ℕ) (tells : Option (List ℕ)) (may : List ℕ → Type 0) → Examines (Err fault) told → ((place : ℕ) → told ≡ Err place → stands_as bytes ≡ Some (Err place)) → tells ≡ Some bytes → Migrates (Err fault) bytes tells may
+wrong-so NotAnImage told bytes tells may known wrong same = absurd known
+wrong-so (BadField place) told bytes tells may known wrong same = (wrong place known, same)
+wrong-so Failed told bytes tells may known wrong same = tt
+wrong-so Memory told bytes tells may known wrong same = tt

@@ -3,5 +3,5 @@ pub mod Telling
 pub mod Opening
 pub mod Laws
 pub mod Migrating
-pub mod Loading
 pub mod Examining
+pub mod Loading

@@ -4,6 +4,8 @@ use Rattle.nq_format.specs.Standing.{begins_as_image, image_area, stands_as}
 use Rattle.nq_image.specs.Image.{FoundOne}
 use Rattle.nq_image.specs.Layout.{piece}
 use Rattle.nq_image.specs.Whole.{image_in, of_one}
+use Rattle.nq_image.specs.declared.Boots.{Boots}
+use Rattle.nq_image.specs.declared.Slot.{Slot}
 use Rattle.nq_io.specs.Faults.{Rose}
 use Rattle.nq_redo.specs.Saying.{Each, Only}
 use Rattle.nq_redo.specs.Whole.{IsClosed}
@@ -18,6 +20,11 @@ pub record IsOld (head : List ℕ) (may_leave : List ℕ → Type 0) (bytes : Li
   pub named : begins_as_image bytes ≡ true
   pub front : head ≡ piece 0 28672 bytes
   pub one : slice_index bytes 7 ≡ 49
+
+-- what is found in an image are these numbers and these rows of files
+pub record IsFoundIn (boots : Boots) (slots : List (Option Slot)) (found : FoundOne) : Type 0 where
+  pub boots_are : found.boots ≡ boots
+  pub slots_are : found.rows.slots ≡ slots
 
 -- an image of version 1 where this stands, whose record is closed; a stop leaves nothing else
 pub record IsOldImage (found : FoundOne) (may_leave : List ℕ → Type 0) (bytes : List ℕ) : Type 0 where

@@ -14,6 +14,7 @@ ghost use Rattle.nq_store.specs.Examining.{Examines, IsSized, Tests};
 ghost use Rattle.nq_store.specs.Opening.{CountsFault};
 
 use crate::fault::Fault;
+use crate::loading::part;
 use nq_disk::Disk;
 use nq_image::{
     ImageFault, ImageOne, Rows, Slot, Version, read_boots, read_hosts, read_rows, whole_blocks,
@@ -69,13 +70,13 @@ fn read_all_rows(alloc: Global, head: &[u8]) -> Result<Rows, ImageFault>
 }
 
 /// The numbers and rows, by the first bytes of the image.
-#[tactic(auto, unfolding(law_migration::specs::Head::head_one, nq_image::specs::Layout::piece))]
+#[tactic(auto, unfolding(law_migration::specs::Head::head_one))]
 fn read_head(alloc: Global, head: &[u8]) -> Result<ImageOne, ImageFault>
     requires { length head.now ≡ 28672 }
     ensures told { Reads seen_one result (head_one head.now) }
     ensures sized { IfOk result (λ image. IsSized image.rows.slots.items) }
 {
-    let boots = read_boots(&head[..64])?;
+    let boots = read_boots(part(head, 0, 64))?;
     let rows = read_all_rows(alloc, head)?;
     Ok(ImageOne { boots, rows })
 }

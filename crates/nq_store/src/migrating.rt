@@ -1,6 +1,6 @@
 //! An image of version 1 becomes one of version 2.
 
-ghost use Rattle.std.specs.Prelude.{◌≡◌, ◌≤◌, ◌<◌, ◌+◌, ◌⊎◌, ℕ, All, IfOk, OnOk, Some, Ok, length, sum_by};
+ghost use Rattle.std.specs.Prelude.{◌≡◌, ◌≤◌, ◌<◌, ◌+◌, ◌⊎◌, ◌^◌, IfOk, OnOk, Some, length};
 ghost use Rattle.std.specs.Option.{ForSome};
 ghost use Rattle.law_migration.specs.Migrated.{blocks_in as blocks_at_all, files_in as files_at, numbers_then};
 ghost use Rattle.law_migration.specs.Prepared.{SameBelow, change_of, prepared, tabled};
@@ -9,20 +9,19 @@ ghost use Rattle.nq_image.specs.Image.{FoundOne};
 ghost use Rattle.nq_image.specs.Kept.{numbers_from as numbers_at};
 ghost use Rattle.nq_image.specs.Layout.{block_place as place_of_block};
 ghost use Rattle.nq_image.specs.Rows.{blocks_of as blocks_at};
-ghost use Rattle.nq_image.specs.Seen.{seen_one};
 ghost use Rattle.nq_image.specs.Writing.{table_of_blocks};
 ghost use Rattle.nq_redo.specs.Batch.{IsFit};
 ghost use Rattle.nq_redo.specs.Saying.{Each, Only};
 ghost use Rattle.nq_redo.specs.Whole.{IsClosed, OpensAfter, OpensAsOne, Settled, after};
 ghost use Rattle.nq_store.specs.Examining.{IsSized};
-ghost use Rattle.nq_store.specs.Migrating.{CountsWriting, IsMigrated, IsOld, IsOldImage, LeavesSameKept, Migrates};
+ghost use Rattle.nq_store.specs.Migrating.{CountsWriting, IsFoundIn, IsMigrated, IsOld, IsOldImage, LeavesSameKept, Migrates};
 ghost use Rattle.nq_store.specs.Opening.{CountsFault};
 
 use crate::examining::{blocks_in, blocks_of, examine, files_in};
 use crate::fault::Fault;
 use nq_base::Heads;
 use nq_disk::Disk;
-use nq_image::{Boots, ImageOne, Slot, block_place, spell_heads, spell_table};
+use nq_image::{Boots, Slot, block_place, spell_heads, spell_table};
 use nq_memory::NoMemory;
 use nq_redo::{Batch, Redo};
 use std::alloc::Global;
@@ -97,7 +96,8 @@ fn prepare<D: Disk>(disk: &mut D, alloc: Global, slots: &[Option<Slot>]) -> Resu
 #[tactic(auto, unfolding(nq_image::specs::Writing::heads_bytes))]
 fn spell_numbers(alloc: Global, boots: Boots, files: u32, tables: u32) -> Result<Vec<u8>, NoMemory>
     requires { files ≤ 256 }
-    ensures { IfOk result (λ bytes. (found : FoundOne) → found.boots ≡ boots → files_at found.rows.slots ≡ files → blocks_at_all found.rows.slots ≡ tables → bytes.items ≡ numbers_then found) }
+    ensures numbers { IfOk result (λ bytes. (found : FoundOne) → found.boots ≡ boots → files_at found.rows.slots ≡ files → blocks_at_all found.rows.slots ≡ tables → bytes.items ≡ numbers_then found) }
+    ensures size { IfOk result (λ bytes. length bytes.items ≡ 21) }
 {
     let heads = Heads {
         boot: boots.boot,
@@ -113,13 +113,14 @@ fn spell_numbers(alloc: Global, boots: Boots, files: u32, tables: u32) -> Result
     Ok(bytes)
 }
 
-/// The change that makes an image one of version 2.
-fn batch_of(alloc: Global, image: &ImageOne) -> Result<Batch, NoMemory>
-    requires { IsSized image.now.rows.slots.items }
-    ensures { IfOk result (λ batch. batch ≡ change_of (seen_one image.now)) }
+/// The change that makes an image with these numbers and rows one of version 2.
+fn batch_of(alloc: Global, boots: Boots, slots: &[Option<Slot>]) -> Result<Batch, NoMemory>
+    requires { IsSized slots.now }
+    ensures { IfOk result (λ batch. (found : FoundOne) → IsFoundIn boots slots.now found → batch ≡ change_of found) }
 {
-    let slots = &image.rows.slots;
-    let numbers = spell_numbers(alloc, image.boots, files_in(slots), blocks_in(slots))?;
+    let files = files_in(slots);
+    let tables = blocks_in(slots);
+    let numbers = spell_numbers(alloc, boots, files, tables)?;
     let mut batch = Batch::new(alloc)?;
     batch.add(7, &numbers)?;
     Ok(batch)
@@ -139,18 +140,23 @@ fn finish<D: Disk>(redo: &mut Redo<D>, batch: &Batch) -> Result<(), Fault>
     Ok(())
 }
 
-/// Makes an image of version 1 that was examined one of version 2.
-fn rewrite<D: Disk>(redo: &mut Redo<D>, alloc: Global, image: &ImageOne) -> Result<(), Fault>
+/// Makes an image of version 1 that was examined, with these numbers and rows, one of version 2.
+fn rewrite<D: Disk>(
+    redo: &mut Redo<D>,
+    alloc: Global,
+    boots: Boots,
+    slots: &[Option<Slot>],
+) -> Result<(), Fault>
     requires area { redo.old.area ≡ image_area }
-    requires sized { IsSized image.now.rows.slots.items }
+    requires sized { IsSized slots.now }
     ensures area { redo.new.area ≡ image_area }
-    ensures migrated { OnOk result (ForSome (D.told redo.old.disk) (λ old. IsOldImage (seen_one image.now) (D.may_leave redo.old.disk) old → IsMigrated old (D.told redo.new.disk) (D.may_leave redo.new.disk))) }
+    ensures migrated { OnOk result (ForSome (D.told redo.old.disk) (λ old. (found : FoundOne) → IsFoundIn boots slots.now found → IsOldImage found (D.may_leave redo.old.disk) old → IsMigrated old (D.told redo.new.disk) (D.may_leave redo.new.disk))) }
     ensures cause { CountsWriting result (D.faults redo.old.disk) (D.faults redo.new.disk) }
     ensures follows { D.follows redo.old.disk redo.new.disk }
-    ensures leaves { ForSome (D.told redo.old.disk) (λ old. IsOldImage (seen_one image.now) (D.may_leave redo.old.disk) old → LeavesSameKept old (D.leaves redo.old.disk redo.new.disk)) }
+    ensures leaves { ForSome (D.told redo.old.disk) (λ old. (found : FoundOne) → IsFoundIn boots slots.now found → IsOldImage found (D.may_leave redo.old.disk) old → LeavesSameKept old (D.leaves redo.old.disk redo.new.disk)) }
 {
-    let batch = batch_of(alloc, image)?;
-    prepare(&mut redo.disk, alloc, &image.rows.slots)?;
+    let batch = batch_of(alloc, boots, slots)?;
+    prepare(&mut redo.disk, alloc, slots)?;
     finish(redo, &batch)
 }
 
@@ -166,5 +172,5 @@ pub(crate) fn migrate<D: Disk>(redo: &mut Redo<D>, alloc: Global, head: &[u8]) -
     ensures follows { D.follows redo.old.disk redo.new.disk }
 {
     let image = examine(&mut redo.disk, alloc, head)?;
-    rewrite(redo, alloc, &image)
+    rewrite(redo, alloc, image.boots, &image.rows.slots)
 }
