@@ -9,7 +9,6 @@ use Rattle.nq_store.specs.Storing.{IsKeptOn, kept_of, kept_on, kept_told}
 use Rattle.nq_store.specs.declared.fault.Fault.{Fault}
 use Rattle.nq_store.specs.declared.fault.Fault.TheVariants.{NotAnImage, BadField, Failed, Memory}
 use Rattle.nq_store.specs.declared.fault.OpenFault.{OpenFault}
-use Rattle.nq_store.specs.declared.fault.OpenFault.TheVariants as opening
 use Rattle.nq_store.proofs.Told.{opens-as}
 
 kept-same : (now bytes : List ℕ) → stands_as now ≡ stands_as bytes → kept_on now ≡ kept_on bytes
@@ -38,14 +37,11 @@ sound-opened held (Some old) tells may silent opens = λ bytes is.
     let l = opens old refl in
     subst (IsKeptOn held may) (one-of l.now bytes (sym l.told ∙ is)) l.kept
 
-pub says-wrong : {X D : Type 0} (fault : Fault) (disk : D) (o tells : Option (List ℕ)) (may : List ℕ → Type 0) → ForSome o (λ bytes. OpensTables (Err fault) bytes tells may) → SaysWrong {X = X} (Err (open_fault disk fault)) o
-says-wrong NotAnImage disk o tells may opens = opens
-says-wrong (BadField place) disk o tells may opens = opens
-says-wrong Failed disk o tells may opens = tt
-says-wrong Memory disk o tells may opens = tt
-
-pub says-on : {X Y D : Type 0} (fault : OpenFault D) (o : Option (List ℕ)) → SaysWrong {X = X} (Err fault) o → SaysWrong {X = Y} (Err fault) o
-says-on (opening.NotAnImage back) o says = says
-says-on (opening.BadField back place) o says = says
-says-on (opening.Failed back) o says = tt
-says-on (opening.Memory back) o says = tt
+pub says-opened : (X : Type 0) {D : Type 0} (fault : Fault) (disk : D) (result : OpenFault D) (o tells : Option (List ℕ)) (may : List ℕ → Type 0) → result ≡ open_fault disk fault → ForSome o (λ bytes. OpensTables (Err fault) bytes tells may) → SaysWrong {X = X} (Err result) o
+says-opened X {D} fault disk result o tells may is opens = subst (λ (f : OpenFault D). SaysWrong {X = X} (Err f) o) (sym is) (by fault opens)
+  where
+    by : (fault : Fault) → ForSome o (λ bytes. OpensTables (Err fault) bytes tells may) → SaysWrong {X = X} (Err (open_fault disk fault)) o
+    by NotAnImage opens = opens
+    by (BadField place) opens = opens
+    by Failed opens = tt
+    by Memory opens = tt
