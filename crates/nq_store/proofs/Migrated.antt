@@ -7,26 +7,33 @@ use Rattle.std.proofs.lemmas.List.{at_drop_all, at_drop_more}
 use Rattle.std.proofs.lemmas.List.Sums.{sum_by-cons}
 use Rattle.nq_disk.specs.Bytes.{Torn, written}
 use Rattle.nq_format.specs.Standing.{begins_as_image, image_area, stands_as}
-use Rattle.nq_image.specs.Image.{FoundOne, ◌>>=◌, image_one}
+use Rattle.nq_image.specs.Image.{FoundOne, ◌>>=◌, image_one, reached}
 use Rattle.nq_image.specs.Kept.{numbers_from}
 use Rattle.nq_image.specs.Layout.{block_place, piece}
+use Rattle.nq_image.specs.Reading.{Reads}
 use Rattle.nq_image.specs.Rows.{blocks_of}
+use Rattle.nq_image.specs.Seen.{seen_one}
 use Rattle.nq_image.specs.Whole.{image_in, of_one}
 use Rattle.nq_image.specs.Writing.{table_of_blocks}
+use Rattle.nq_image.specs.declared.ImageFault.{ImageFault}
+use Rattle.nq_image.specs.declared.ImageFault.TheVariants as image
+use Rattle.nq_image.specs.declared.ImageOne.{ImageOne}
 use Rattle.nq_image.specs.declared.Slot.{Slot}
 use Rattle.nq_redo.specs.Batch.{IsFit}
 use Rattle.nq_redo.specs.Ranges.{Range}
 use Rattle.nq_redo.specs.Saying.{Each, Only}
 use Rattle.nq_redo.specs.Whole.{IsClosed, OpensAfter, OpensAsOne, Settled, after}
+use Rattle.law_migration.specs.Head.{if_reached}
 use Rattle.law_migration.specs.Migrated.{blocks_in}
 use Rattle.law_migration.specs.Prepared.{SameBelow, change_of, prepared, tabled}
 use Rattle.law_migration.proofs.Leaving.{as-before, below-closed, below-stands, fits, mid-long, then-begins, then-stands, then-two}
 use Rattle.law_migration.proofs.Parts.{parts-of-one}
 use Rattle.law_migration.proofs.Same.{reaches-end}
-use Rattle.nq_store.specs.Examining.{Examines}
+use Rattle.nq_store.specs.Examining.{Examines, Tests}
 use Rattle.nq_store.specs.Migrating.{CountsWriting, IsMigrated, IsOldImage, LeavesSameKept, Migrates}
 use Rattle.nq_store.specs.Opening.{CountsFault}
 use Rattle.nq_store.specs.Storing.{kept_of, kept_on}
+use Rattle.nq_store.specs.Telling.{fault_of}
 use Rattle.nq_store.specs.declared.fault.Fault.{Fault}
 use Rattle.nq_store.specs.declared.fault.Fault.TheVariants.{NotAnImage, BadField, Failed, Memory}
 
@@ -137,3 +144,22 @@ wrong-so NotAnImage told bytes tells may known wrong same = absurd known
 wrong-so (BadField place) told bytes tells may known wrong same = (wrong place known, same)
 wrong-so Failed told bytes tells may known wrong same = tt
 wrong-so Memory told bytes tells may known wrong same = tt
+
+-- ---- what is read of an image of version 1
+
+pub head-wrong : (wrong : ImageFault) (told whole : Result FoundOne ℕ) (size : ℕ) → Reads seen_one (Err wrong) told → whole ≡ (told >>= if_reached size) → Examines (Err (fault_of wrong)) whole
+head-wrong image.NotAnImage told whole size read is = absurd read
+head-wrong (image.BadField place) told whole size read is = is ∙ ap (λ (r : Result FoundOne ℕ). r >>= if_reached size) read
+head-wrong image.Memory told whole size read is = tt
+
+-- the answer of a test of the reach, where the rows were right
+pub reach-wrong : (fault : Fault) (read_as : ImageOne) (told whole : Result FoundOne ℕ) (size : ℕ) → Reads seen_one (Ok read_as) told → Tests (Err fault) (reached size (blocks_in read_as.rows.slots.items)) → whole ≡ (told >>= if_reached size) → Examines (Err fault) whole
+reach-wrong NotAnImage read_as told whole size read test is = absurd test
+reach-wrong (BadField place) read_as told whole size read test is =
+    is ∙ ap (λ (r : Result FoundOne ℕ). r >>= if_reached size) read ∙ ap (λ (r : Result Unit ℕ). r >>= λ holds. Ok (seen_one read_as)) test
+reach-wrong Failed read_as told whole size read test is = tt
+reach-wrong Memory read_as told whole size read test is = absurd test
+
+pub both-right : (read_as : ImageOne) (told whole : Result FoundOne ℕ) (size : ℕ) → Reads seen_one (Ok read_as) told → reached size (blocks_in read_as.rows.slots.items) ≡ Ok tt → whole ≡ (told >>= if_reached size) → whole ≡ Ok (seen_one read_as)
+both-right read_as told whole size read test is =
+    is ∙ ap (λ (r : Result FoundOne ℕ). r >>= if_reached size) read ∙ ap (λ (r : Result Unit ℕ). r >>= λ holds. Ok (seen_one read_as)) test
