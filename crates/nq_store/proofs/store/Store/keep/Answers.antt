@@ -85,3 +85,33 @@ returns-in-Ok-clause-follows g c =
     let view = stored inside.redo.disk inside.tables inside.ended inside.refused in
     let new = stored c.carry_out.new.redo.disk c.settle.new.self inside.ended inside.refused in
     follows-so view c.args.self.now c.self.view_is c.requires.goes_on new refl g.D.Disk.follows c.carry_out.ensures.follows
+
+pub returns-clause-commits : goal.returns-clause-commits
+returns-clause-commits g c =
+    let store = c.args.self.now in
+    let inside = c.self.inside in
+    let view = stored inside.redo.disk inside.tables inside.ended inside.refused in
+    let new = stored c.carry_out.new.redo.disk inside.tables true inside.refused in
+    commits-failed view store c.self.view_is c.requires.goes_on new refl c.args.change.now g.D.Disk.told g.D.Disk.faults refl c.in-Err-Failed.ensures.cause
+
+pub returns-clause-leaves : goal.returns-clause-leaves
+returns-clause-leaves g c =
+    let store = c.args.self.now in
+    let inside = c.self.inside in
+    let change = c.args.change.now in
+    let placed = c.args.plan.placed in
+    let view = stored inside.redo.disk inside.tables inside.ended inside.refused in
+    let same = tables-in view store c.self.view_is in
+    let is_placed = subst (λ (t : HeldTables). IsPlacedFor t change.file placed) same c.requires.placed in
+    let are = c.requires.ranges ∙ ap (λ (t : HeldTables). ranges_of t.standing change placed) same in
+    let sound = c.self.invariant.1 (goes-in view store c.self.view_is c.requires.goes_on) in
+    let fits = asked-in view store c.self.view_is c.requires.goes_on g.D.Disk.told (λ k. Fits k change) c.requires.fits in
+    let own = asked-in view store c.self.view_is c.requires.goes_on g.D.Disk.told (λ k. IsChangeWithin k change) c.requires.within in
+    let told = g.D.Disk.told inside.redo.disk in
+    let may = g.D.Disk.may_leave inside.redo.disk in
+    let disk = c.carry_out.new.redo.disk in
+    let new = stored disk inside.tables true inside.refused in
+    let leaves = g.D.Disk.leaves inside.redo.disk disk in
+    leaves-so view store c.self.view_is c.requires.goes_on new refl change g.D.Disk.told g.D.Disk.leaves
+    (leaves-then inside.tables change placed may is_placed told sound fits own leaves
+    (whole-as inside.tables change placed may is_placed told sound fits own c.fresh_blocks.result.now c.args.plan.batch c.fresh_blocks.ensures are leaves c.carry_out.ensures.whole))

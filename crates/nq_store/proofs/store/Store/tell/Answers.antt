@@ -1,4 +1,4 @@
-use Rattle.std.proofs.Common.{◌≡◌, true, false, refl, sym, ◌∙◌, inl}
+use Rattle.std.proofs.Common.{◌≡◌, ℕ, true, false, refl, sym, ◌∙◌, inl}
 use Rattle.nq_store.specs.Laws.{goes-itself}
 use Rattle.nq_store.proofs.Asking.{refused-answer, refused-follows, refused-leaves, refused-reads, refused-store, told-leaves, told-ok, told-store}
 use Rattle.nq_store.proofs.store.Store.tell.Goals as goal
@@ -16,7 +16,7 @@ returns-then-has_ended-clause-store g c =
 pub returns-then-has_ended-clause-reads : goal.returns-then-has_ended-clause-reads
 returns-then-has_ended-clause-reads g c =
     let is : c.has_ended.result ≡ true = cc in
-    refused-reads c.args.self.now c.refuse.new.self (sym c.has_ended.ensures.ended ∙ is) c.refuse.ensures.counted _ g.D.Disk.told g.D.Disk.faults
+    refused-reads c.args.self.now c.refuse.new.self (sym c.has_ended.ensures.ended ∙ is) c.refuse.ensures.counted ℕ g.D.Disk.told g.D.Disk.faults
 
 pub returns-then-has_ended-clause-follows : goal.returns-then-has_ended-clause-follows
 returns-then-has_ended-clause-follows g c =

@@ -12,3 +12,7 @@ pub returns-then-has_ended-clause-leaves : goal.returns-then-has_ended-clause-le
 returns-then-has_ended-clause-leaves g c =
     let is : c.has_ended.result ≡ true = cc in
     ended-told c.args.self.now.ended (g.D.Disk.told c.args.self.now.disk) _ (sym c.has_ended.ensures.ended ∙ is)
+
+pub returns-clause-leaves : goal.returns-clause-leaves
+returns-clause-leaves g c =
+    one-two c.args.change _ _ (told-leaves c.args.self.now g.D.Disk.told g.D.Disk.may_leave g.D.Disk.leaves c.has_ended.ensures.sound g.met.D.Disk.leaves_now)
