@@ -1,4 +1,4 @@
-use Rattle.std.proofs.Common.{rules, ◌≡◌, ℕ, List, Option, Some, None, sym, ◌∙◌}
+use Rattle.std.proofs.Common.{rules, ◌≡◌, Some, None, sym, ◌∙◌}
 use Rattle.nq_image.specs.declared.Version.{Version}
 use Rattle.nq_store.proofs.Told.{new-head, no-image, old-head}
 use Rattle.nq_store.proofs.opening.load_any.Goals as goal

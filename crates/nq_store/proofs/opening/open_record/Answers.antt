@@ -1,4 +1,4 @@
-use Rattle.std.proofs.Common.{rules, ◌≡◌, true, false, ℕ, List, sym, ◌∙◌}
+use Rattle.std.proofs.Common.{rules, ◌≡◌, true, false, sym, ◌∙◌}
 use Rattle.nq_format.specs.Standing.{begins_as_image}
 use Rattle.nq_redo.specs.declared.Redo.{Redo}
 use Rattle.nq_store.proofs.Told.{not-begins, says-given, says-named}

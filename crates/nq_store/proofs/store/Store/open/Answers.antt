@@ -1,6 +1,4 @@
-use Rattle.std.proofs.Common.{◌≡◌, ℕ, List, Option, None, Ok, Err}
-use Rattle.std.specs.Option.{ForSome}
-use Rattle.nq_store.specs.Loading.{OpensTables}
+use Rattle.std.proofs.Common.{Ok, Err}
 use Rattle.nq_store.specs.Storing.{StoredStore}
 use Rattle.nq_store.proofs.Opened.{content-same, opens-both, says-opened, sound-opened}
 use Rattle.nq_store.proofs.store.Store.open.Goals as goal
