@@ -269,11 +269,11 @@ fn notes(alloc: Global, record: &Record, moment: &Moment) -> Result<Vec<Note>, N
 }
 
 /// The number of a packet and what it says, with an end.
-pub(crate) fn packet_words(
+pub(crate) fn packet_words<'a>(
     alloc: Global,
     number: u64,
-    sent: &Sent,
-    end: &str,
+    sent: &'a Sent,
+    end: &'a str,
 ) -> Result<String, NoMemory> {
     text_of(
         alloc,

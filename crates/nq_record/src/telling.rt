@@ -3,7 +3,7 @@
 ghost use Rattle.nq_chart.specs.Page.{Extends};
 
 use crate::NoMemory;
-use crate::record::{Act, Moment, Record};
+use crate::record::{Act, Moment, Record, Sent};
 use crate::spans::{Change, Kind};
 use crate::text::{mode_word, party_name};
 use nq_chart::{Part, put, put_all, text_of};
@@ -224,22 +224,42 @@ fn tell_packets(
     let end = moment.packets.saturating_add(moment.sent);
     for number in moment.packets..end {
         if let Some(sent) = record.packets.get(number as usize) {
-            let to = party_name(alloc, sent.to)?;
-            put_all(
-                alloc,
-                out,
-                &[
-                    Part::Text(" | sends "),
-                    Part::Number(number),
-                    Part::Text(" to "),
-                    Part::Text(to.as_str()),
-                    Part::Text(": "),
-                    Part::Text(sent.words.as_str()),
-                ],
-            )?;
+            tell_packet(alloc, number, sent, out)?;
         }
     }
     Ok(())
+}
+
+/// Appends a packet that is sent, behind a bar.
+fn tell_packet(alloc: Global, number: u64, sent: &Sent, out: &mut Vec<u8>) -> Result<(), NoMemory>
+    ensures { Extends out.old.items out.new.items }
+{
+    let to = party_name(alloc, sent.to)?;
+    tell_letter(alloc, number, to.as_str(), sent.words.as_str(), out)
+}
+
+/// Appends the number of a packet, to whom it goes, and what it says.
+fn tell_letter<'a>(
+    alloc: Global,
+    number: u64,
+    to: &'a str,
+    words: &'a str,
+    out: &mut Vec<u8>,
+) -> Result<(), NoMemory>
+    ensures { Extends out.old.items out.new.items }
+{
+    put_all(
+        alloc,
+        out,
+        &[
+            Part::Text(" | sends "),
+            Part::Number(number),
+            Part::Text(" to "),
+            Part::Text(to),
+            Part::Text(": "),
+            Part::Text(words),
+        ],
+    )
 }
 
 /// Appends the entries that an event makes.
