@@ -38,14 +38,14 @@ fn run_with_fates(rt: &HostRuntime, words: &Words) -> Result<u8, NoMemory> {
     fates.push(Box::new(alloc, LossyFate::new())?)?;
     fates.push(Box::new(alloc, CutFate::new())?)?;
     fates.push(Box::new(alloc, HostileFate::new())?)?;
-    run_with_links(rt, words, fates)
+    run_with_links(rt, words, fates.as_mut_slice())
 }
 
 /// Runs what the words say, with the links of a loop and the link of the party that they name.
 fn run_with_links(
     rt: &HostRuntime,
     words: &Words,
-    fates: Vec<Box<dyn Fate>>,
+    fates: &mut [Box<dyn Fate>],
 ) -> Result<u8, NoMemory> {
     let mut links = links_of(rt, words)?;
     let mut link = UdpLink::new(rt.clone()?, party_of(words));
@@ -58,7 +58,7 @@ fn run_over(
     words: &Words,
     link: &mut UdpLink<HostRuntime>,
     links: &mut [UdpLink<HostRuntime>],
-    fates: Vec<Box<dyn Fate>>,
+    fates: &mut [Box<dyn Fate>],
 ) -> Result<u8, NoMemory>
     requires { (hosts turns : ℕ) → command_of words.now ≡ Some (Command.Loop hosts turns) → length links.old ≡ hosts + 1 }
 {
