@@ -274,8 +274,8 @@ fn tell_entries(
     let end = moment.entries.saturating_add(moment.made);
     for place in moment.entries..end {
         if let Some(entry) = record.entries.get(place) {
-            put(out, " | ")?;
-            put(out, entry.words.as_str())?;
+            let words = entry.words.as_str();
+            put_all(alloc, out, &[Part::Text(" | "), Part::Text(words)])?;
         }
     }
     Ok(())
