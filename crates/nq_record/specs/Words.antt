@@ -80,13 +80,9 @@ SaysRequest (Request.Remove who seq call file) words = words ≡ filed (codes "R
 unfoldable pub revised : List ℕ → (rev : ℕ) → List ℕ
 revised status rev = status ++ codes " rev " ++ decimal rev
 
--- a status, a revision and a grant of so many ticks, whose mode has this word
-unfoldable pub worded_grant : List ℕ → (rev : ℕ) → (word : List ℕ) → (term : ℕ) → List ℕ
-worded_grant status rev word term = status ++ codes " rev " ++ decimal rev ++ codes ", grant " ++ word ++ codes " " ++ decimal term
-
 -- a status, a revision and a grant of so many ticks
 unfoldable pub with_grant : List ℕ → (rev : ℕ) → Mode → (term : ℕ) → List ℕ
-with_grant status rev mode term = worded_grant status rev (mode_word mode) term
+with_grant status rev mode term = status ++ codes " rev " ++ decimal rev ++ codes ", grant " ++ mode_word mode ++ codes " " ++ decimal term
 
 -- a status, a revision and a grant, if there is one
 abbrev pub granted : List ℕ → (rev : ℕ) → Option Grant → List ℕ

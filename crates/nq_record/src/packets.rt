@@ -2,7 +2,7 @@
 #![tactic(auto, using(nq_chart::proofs::Joined::ended))]
 
 ghost use Rattle.std.specs.Prelude.{◌≡◌, ◌++◌, codes, string_bytes, Some, IfOk};
-ghost use Rattle.nq_record.specs.Words.{SaysRequest, filed, granted, lease_granted, lease_words, plain_read, read_words, refusal_word, reply_text, resize_words, revised, wanting_read, with_grant, worded_grant, write_words};
+ghost use Rattle.nq_record.specs.Words.{SaysRequest, filed, granted, lease_granted, lease_words, plain_read, read_words, refusal_word, reply_text, resize_words, revised, wanting_read, with_grant, write_words};
 
 use crate::NoMemory;
 use crate::text::{mode_word, named};
@@ -236,32 +236,7 @@ fn with_grant(
     ensures { IfOk result (λ text. string_bytes text ≡ with_grant status.now rev mode term) }
 {
     let word = mode_word(mode);
-    worded_grant(alloc, status, rev, word, term)
-}
-
-/// A status, a revision and a grant of so many ticks, whose mode has this word.
-#[tactic(auto, using(nq_chart::proofs::Joined::ended), unfolding(crate::specs::Words::worded_grant))]
-fn worded_grant<'a>(
-    alloc: Global,
-    status: &'a str,
-    rev: u64,
-    word: &'a str,
-    term: u32,
-) -> Result<String, NoMemory>
-    ensures { IfOk result (λ text. string_bytes text ≡ worded_grant status.now rev word.now term) }
-{
-    text_of(
-        alloc,
-        &[
-            Part::Text(status),
-            Part::Text(" rev "),
-            Part::Number(rev),
-            Part::Text(", grant "),
-            Part::Text(word),
-            Part::Text(" "),
-            Part::Number(term as u64),
-        ],
-    )
+    Ok(format!(in alloc; "{status} rev {rev}, grant {word} {term}")?)
 }
 
 /// The reply to a GETLEASE.
