@@ -1,0 +1,133 @@
+//! Requests that change a directory, and notices to those who read it.
+
+ghost use Rattle.std.specs.Prelude.{◌≡◌, ◌<◌, ◌^◌, IfOk, OnErr};
+ghost use Rattle.nq_listing.specs.Messages.{dir_evicted_bytes};
+ghost use Rattle.nq_name_server.specs.Sending.{IsHeld, IsUntouched};
+ghost use Rattle.nq_name_server.specs.Serving.{holds_up};
+
+use crate::server::NameServer;
+use nq_base::{Access, FileId, NoMemory, Party, Question, Rev, Row, Who};
+use nq_directory::Prefix;
+use nq_grant::{ask, conflict};
+use nq_lease::is_in_the_way;
+use nq_listing::{DirTag, dir_evicted_bytes};
+use nq_wire::Outbox;
+use std::alloc::Global;
+
+/// The DIREVICTED to the holder of a row, with this number.
+pub(crate) fn notice_bytes(
+    alloc: Global,
+    prefix: &Prefix,
+    xid: u32,
+    row: &Row,
+) -> Result<Vec<u8>, NoMemory>
+    ensures { IfOk result (λ v. v.items ≡ dir_evicted_bytes (record { xid = xid; who = row.now.who; prefix = prefix.now; tag = row.now.tag })) }
+{
+    dir_evicted_bytes(
+        alloc,
+        &DirTag {
+            xid,
+            who: row.who,
+            prefix: *prefix,
+            tag: row.tag,
+        },
+    )
+}
+
+impl NameServer {
+    /// A request of this incarnation is about to create or remove a file of a directory. Where another host has a reading lease on
+    /// the directory, the request is held up: such rows are marked, and a DIREVICTED goes to each holder in order of hosts. Says
+    /// whether it is held up.
+    ///
+    /// # Errors
+    ///
+    /// `NoMemory` where memory is wanting; then nothing is changed.
+    pub fn hold_up(
+        &mut self,
+        alloc: Global,
+        who: Who,
+        prefix: &Prefix,
+        out: &mut Outbox,
+    ) -> Result<bool, NoMemory>
+        requires { self.old.table.drawn < 2 ^ 62 }
+        ensures held { IfOk result (λ held. IsHeld held (holds_up self.old who prefix.now) self.old self.new out.old out.new) }
+        ensures drawn { self.new.table.drawn ≡ self.old.table.drawn }
+        ensures first { out.new.first ≡ out.old.first }
+        ensures refused { OnErr result (IsUntouched self.old self.new out.old out.new) }
+    {
+        let Some(number) = self.number_of(prefix) else {
+            return Ok(false);
+        };
+        if !conflict(&self.table, who.host, number, Access::Write) {
+            return Ok(false);
+        }
+        let notice = self.tell_readers(alloc, who, prefix, number, out)?;
+        self.mark_readers(who, number, notice);
+        Ok(true)
+    }
+
+    /// Marks the rows of those who read a directory; the next notice has this number.
+    fn mark_readers(&mut self, who: Who, number: FileId, notice: u32) {
+        let question = Question {
+            who,
+            file: number,
+            access: Access::Write,
+            want: None,
+            longest: self.longest,
+            time: self.time,
+            rev: Rev(0),
+            blocks: 0,
+        };
+        ask(&mut self.table, &question);
+        self.notice = notice;
+    }
+
+    /// Tells those who read a directory, and gives the number of the next notice.
+    fn tell_readers(
+        &self,
+        alloc: Global,
+        who: Who,
+        prefix: &Prefix,
+        number: FileId,
+        out: &mut Outbox,
+    ) -> Result<u32, NoMemory> {
+        let len = out.len();
+        match tell_all(
+            alloc,
+            self.table.rows_of(number),
+            who,
+            prefix,
+            number,
+            self.notice,
+            out,
+        ) {
+            Ok(notice) => Ok(notice),
+            Err(fault) => {
+                out.cut(len);
+                Err(fault)
+            }
+        }
+    }
+}
+
+/// Adds a notice to the holder of each of these rows that is in the way of a change of their directory, with numbers from this one
+/// on, and gives the number behind them. Where memory is wanting some of them may be there.
+fn tell_all(
+    alloc: Global,
+    rows: &[Row],
+    who: Who,
+    prefix: &Prefix,
+    number: FileId,
+    xid: u32,
+    out: &mut Outbox,
+) -> Result<u32, NoMemory> {
+    let mut next = xid;
+    for row in rows {
+        if is_in_the_way(row, number, who.host, Access::Write) {
+            let bytes = notice_bytes(alloc, prefix, next, row)?;
+            out.push(Party::Client(row.who.host), bytes)?;
+            next = next.wrapping_add(1);
+        }
+    }
+    Ok(next)
+}
