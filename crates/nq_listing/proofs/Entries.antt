@@ -12,9 +12,9 @@ entries_more done n m bytes e rest is read =
     let next : n ≡ suc m = omega arith in ap (λ k. entries_at done k bytes) next ∙ rw read refl
 
 -- a fault in one is the fault of all
-pub entries_fault : (done : List FileName) (n m : ℕ) (bytes : List ℕ) (f : Garbage) → n ≡ m + 1 → entry_at bytes ≡ Err f → entries_at done n bytes ≡ Err f
-entries_fault done n m bytes f is read =
-    let next : n ≡ suc m = omega arith in ap (λ k. entries_at done k bytes) next ∙ rw read refl
+pub entries_fault : (done : List FileName) (n : ℕ) (bytes : List ℕ) (f : Garbage) → 0 < n → entry_at bytes ≡ Err f → entries_at done n bytes ≡ Err f
+entries_fault done zero bytes f some read = absurd (omega arith)
+entries_fault done (suc m) bytes f some read = rw read refl
 
 -- nothing is left
 pub entries_done : (done : List FileName) (n : ℕ) (bytes : List ℕ) → n ≡ 0 → entries_at done n bytes ≡ Ok (done, bytes)
@@ -24,11 +24,13 @@ entries_done done n bytes is = ap (λ k. entries_at done k bytes) is
 pub written_more : (old written more : List ℕ) (es : List FileName) (i : ℕ) (e : FileName) → i < length es → e ≡ get_or es i e → written ++ entries_bytes (drop i es) ≡ old → more ≡ written ++ entry_bytes e → more ++ entries_bytes (drop (i + 1) es) ≡ old
 written_more old written more es i e lt is before adds =
     let next : i + 1 ≡ suc i = omega arith in
-    let front = drop-cons es i e lt ∙ ap (λ x. x ∷ drop (suc i) es) (sym is) in
+    let front : drop i es ≡ e ∷ drop (suc i) es = drop-cons es i e lt ∙ ap (λ x. x ∷ drop (suc i) es) (sym is) in
+    let rest = entries_bytes (drop (suc i) es) in
+    let first : written ++ entries_bytes (drop i es) ≡ written ++ (entry_bytes e ++ rest) = ap (λ l. written ++ entries_bytes l) front in
     ap (λ m. m ++ entries_bytes (drop (i + 1) es)) adds
-    ∙ append_assoc written (entry_bytes e) (entries_bytes (drop (i + 1) es))
-    ∙ ap (λ n. written ++ entry_bytes e ++ entries_bytes (drop n es)) next
-    ∙ ap (λ l. written ++ entries_bytes l) (sym front)
+    ∙ ap (λ n. (written ++ entry_bytes e) ++ entries_bytes (drop n es)) next
+    ∙ append_assoc written (entry_bytes e) rest
+    ∙ sym first
     ∙ before
 
 -- all are written

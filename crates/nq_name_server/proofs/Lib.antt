@@ -1,1 +1,4 @@
 pub mod Running
+pub mod Telling
+pub mod Holding
+pub mod Reading

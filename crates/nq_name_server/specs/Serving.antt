@@ -1,5 +1,5 @@
 -- What a server makes of READDIRLOOK and DIRVACATED, of requests that change a directory, and of its clock.
-use Rattle.std.specs.Prelude.{ℕ, ◌+◌, ◌%◌, ◌==◌, Bool, not, List, [], ◌∷◌, ◌++◌, Option, Some, None, find, filter, length, is_some, nat_lt, if◌then◌else◌}
+use Rattle.std.specs.Prelude.{◌≡◌, ℕ, ◌+◌, ◌%◌, ◌==◌, ◌&&◌, Bool, not, List, [], ◌∷◌, ◌++◌, Option, Some, None, find, filter, length, is_some, nat_lt, if◌then◌else◌}
 use Rattle.nq_base.specs.declared.Access.{Access}
 use Rattle.nq_base.specs.declared.Asked.{Asked}
 use Rattle.nq_base.specs.declared.Grant.{Grant}
@@ -10,11 +10,12 @@ use Rattle.nq_base.specs.declared.Tag.{Tag}
 use Rattle.nq_base.specs.declared.Who.{Who}
 use Rattle.nq_listing.specs.declared.DirTag.{DirTag}
 use Rattle.nq_listing.specs.declared.ReadDir.{ReadDir}
-use Rattle.nq_listing.specs.Messages.{Answer, page, wait, answer_bytes, dir_evicted_bytes}
+use Rattle.nq_listing.specs.Messages.{Answer, page, wait, answer_bytes, dir_evicted_bytes, front_bytes}
 use Rattle.nq_model.specs.Ask.{ask, conflicts}
 use Rattle.nq_model.specs.Profile.{xid_end}
 use Rattle.nq_model.specs.ServerStep.{end_reading, vacated_rows}
 use Rattle.nq_model.specs.Table.{Table, find_row, drop_row, with_rows}
+use Rattle.nq_rpc.specs.Message.{spelling, reply_with, null}
 use Rattle.nq_name_server.specs.Served.{Served, Leaf, most_directories, number_of}
 
 -- a datagram to a host
@@ -205,3 +206,30 @@ number_for s prefix = number_or_next s (number_of prefix s.directories)
 -- the directories, where this number is the next one
 abbrev pub entered : (number : ℕ) → (prefix : List ℕ) → List (List ℕ) → List (List ℕ)
 entered number prefix directories = if number == length directories then directories ++ prefix ∷ [] else directories
+
+-- the asker's own row, where it is to be given up: it is of this incarnation
+abbrev pub own_told : (who : Who) → Option Row → List Row
+own_told who None = []
+own_told who (Some row) = if row.who.inc == who.inc && row.evicting then row ∷ [] else []
+
+-- the DIREVICTED to the asker itself, if there is one
+abbrev pub warnings : ReadDir → Option (List ℕ) → List ToHost
+warnings r None = []
+warnings r (Some bytes) = record { host = r.who.host; bytes = bytes } ∷ []
+
+-- the asker is put off, behind what it is told about its own row
+abbrev pub waits : Served → ReadDir → (before : List ToHost) → Serves
+waits s r before =
+    record { served = record s { notice = notice_after s.notice (length before) }; sends = before ++ puts_off r ∷ [] }
+
+-- by what the lease table says, whose rows are those that it left
+abbrev pub replied : Served → ReadDir → Leaf → (before : List ToHost) → Asked → Serves
+replied s r leaf before (Asked.TryLater clash) = waits s r before
+replied s r leaf before (Asked.Granted grant) = answers s r s.table leaf (Some grant)
+replied s r leaf before Asked.NoLease = answers s r s.table leaf None
+replied s r leaf before Asked.Free = answers s r s.table leaf None
+
+-- what is ready before the lease table is asked: a page of which only the grant is missing, and the reply that puts off
+pub record AreReady (r : ReadDir) (leaf : Leaf) (begun put-off : List ℕ) : Type 0 where
+  pub paged : (rest : List ℕ) → begun ++ rest ≡ spelling (reply_with r.xid (front_bytes r.who.inc leaf.names leaf.more ++ rest)) null null
+  pub delayed : put-off ≡ answer_bytes r.xid r.who.inc wait

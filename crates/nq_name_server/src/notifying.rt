@@ -1,12 +1,14 @@
 //! Requests that change a directory, and notices to those who read it.
 
-ghost use Rattle.std.specs.Prelude.{◌≡◌, ◌<◌, ◌^◌, IfOk, OnErr};
+ghost use Rattle.std.specs.Prelude.{◌≡◌, ◌<◌, ◌^◌, [], ◌∷◌, ◌++◌, length, IfOk, OnErr, OnOk};
+ghost use Rattle.nq_evict.specs.Telling.{Grows};
 ghost use Rattle.nq_listing.specs.Messages.{dir_evicted_bytes};
-ghost use Rattle.nq_name_server.specs.Sending.{IsHeld, IsUntouched};
-ghost use Rattle.nq_name_server.specs.Serving.{holds_up};
+ghost use Rattle.nq_model.specs.Ask.{ask};
+ghost use Rattle.nq_name_server.specs.Sending.{IsHeld, IsUntouched, all_sent, sent};
+ghost use Rattle.nq_name_server.specs.Serving.{changes_for, holds_up, notice_after, notice_to, notices, readers};
 
 use crate::server::NameServer;
-use nq_base::{Access, FileId, NoMemory, Party, Question, Rev, Row, Who};
+use nq_base::{Access, FileId, Host, NoMemory, Party, Question, Rev, Row, Who};
 use nq_directory::Prefix;
 use nq_grant::{ask, conflict};
 use nq_lease::is_in_the_way;
@@ -61,13 +63,18 @@ impl NameServer {
         if !conflict(&self.table, who.host, number, Access::Write) {
             return Ok(false);
         }
-        let notice = self.tell_readers(alloc, who, prefix, number, out)?;
+        let notice = self.tell_readers(alloc, who.host, prefix, number, out)?;
         self.mark_readers(who, number, notice);
         Ok(true)
     }
 
     /// Marks the rows of those who read a directory; the next notice has this number.
-    fn mark_readers(&mut self, who: Who, number: FileId, notice: u32) {
+    #[tactic(auto, using(crate::proofs::Running::asking))]
+    fn mark_readers(&mut self, who: Who, number: FileId, notice: u32)
+        requires { self.old.table.drawn < 2 ^ 62 }
+        ensures marked { self.new ≡ record self.old { table = (ask self.old.table (changes_for self.old who number)).table; notice = notice } }
+        ensures drawn { self.new.table.drawn ≡ self.old.table.drawn }
+    {
         let question = Question {
             who,
             file: number,
@@ -83,24 +90,25 @@ impl NameServer {
     }
 
     /// Tells those who read a directory, and gives the number of the next notice.
+    ///
+    /// # Errors
+    ///
+    /// `NoMemory` where memory is wanting; then nobody is told.
     fn tell_readers(
         &self,
         alloc: Global,
-        who: Who,
+        host: Host,
         prefix: &Prefix,
         number: FileId,
         out: &mut Outbox,
-    ) -> Result<u32, NoMemory> {
+    ) -> Result<u32, NoMemory>
+        ensures first { out.new.first ≡ out.old.first }
+        ensures told { OnOk result (out.new.datagrams ≡ out.old.datagrams ++ all_sent (notices prefix.now self.now.notice (readers number host self.now.table.rows))) }
+        ensures counted { IfOk result (λ n. n ≡ notice_after self.now.notice (length (readers number host self.now.table.rows))) }
+        ensures refused { OnErr result (out.new.datagrams ≡ out.old.datagrams) }
+    {
         let len = out.len();
-        match tell_all(
-            alloc,
-            self.table.rows_of(number),
-            who,
-            prefix,
-            number,
-            self.notice,
-            out,
-        ) {
+        match self.tell_all(alloc, host, prefix, number, out) {
             Ok(notice) => Ok(notice),
             Err(fault) => {
                 out.cut(len);
@@ -108,24 +116,62 @@ impl NameServer {
             }
         }
     }
+
+    /// Tells those who read a directory, and gives the number of the next notice. Where memory is wanting some of them may be told.
+    fn tell_all(
+        &self,
+        alloc: Global,
+        host: Host,
+        prefix: &Prefix,
+        number: FileId,
+        out: &mut Outbox,
+    ) -> Result<u32, NoMemory>
+        ensures first { out.new.first ≡ out.old.first }
+        ensures grows { Grows out.old.datagrams out.new.datagrams }
+        ensures told { OnOk result (out.new.datagrams ≡ out.old.datagrams ++ all_sent (notices prefix.now self.now.notice (readers number host self.now.table.rows))) }
+        ensures counted { IfOk result (λ n. n ≡ notice_after self.now.notice (length (readers number host self.now.table.rows))) }
+    {
+        let rows = self.table.rows_of(number);
+        tell_among(alloc, rows, number, host, prefix, self.notice, out)
+    }
+}
+
+/// Adds the notice to the holder of a row, with this number.
+fn tell(
+    alloc: Global,
+    prefix: &Prefix,
+    xid: u32,
+    row: &Row,
+    out: &mut Outbox,
+) -> Result<(), NoMemory>
+    ensures first { out.new.first ≡ out.old.first }
+    ensures told { OnOk result (out.new.datagrams ≡ out.old.datagrams ++ sent (notice_to prefix.now xid row.now) ∷ []) }
+    ensures refused { OnErr result (out.new.datagrams ≡ out.old.datagrams) }
+{
+    let bytes = notice_bytes(alloc, prefix, xid, row)?;
+    out.push(Party::Client(row.who.host), bytes)
 }
 
 /// Adds a notice to the holder of each of these rows that is in the way of a change of their directory, with numbers from this one
 /// on, and gives the number behind them. Where memory is wanting some of them may be there.
-fn tell_all(
+fn tell_among(
     alloc: Global,
     rows: &[Row],
-    who: Who,
-    prefix: &Prefix,
     number: FileId,
+    host: Host,
+    prefix: &Prefix,
     xid: u32,
     out: &mut Outbox,
-) -> Result<u32, NoMemory> {
+) -> Result<u32, NoMemory>
+    ensures first { out.new.first ≡ out.old.first }
+    ensures grows { Grows out.old.datagrams out.new.datagrams }
+    ensures told { OnOk result (out.new.datagrams ≡ out.old.datagrams ++ all_sent (notices prefix.now xid (readers number host rows.now))) }
+    ensures counted { IfOk result (λ n. n ≡ notice_after xid (length (readers number host rows.now))) }
+{
     let mut next = xid;
     for row in rows {
-        if is_in_the_way(row, number, who.host, Access::Write) {
-            let bytes = notice_bytes(alloc, prefix, next, row)?;
-            out.push(Party::Client(row.who.host), bytes)?;
+        if is_in_the_way(row, number, host, Access::Write) {
+            tell(alloc, prefix, next, row, out)?;
             next = next.wrapping_add(1);
         }
     }

@@ -1,15 +1,21 @@
 //! READDIRLOOK while the server serves.
 
-ghost use Rattle.std.specs.Prelude.{◌≡◌, ◌<◌, ◌≤◌, ◌+◌, ◌^◌, length, OnErr, OnOk};
+ghost use Rattle.std.specs.Prelude.{◌≡◌, ◌<◌, ◌≤◌, ◌+◌, ◌^◌, List, ℕ, [], ◌∷◌, ◌++◌, Some, length, option_map, IfOk, OnErr, OnOk};
+ghost use Rattle.nq_base.specs.declared.Party.{Party};
 ghost use Rattle.nq_listing.specs.Messages.{most_names};
-ghost use Rattle.nq_name_server.specs.Sending.{IsServed, IsUntouched};
+ghost use Rattle.nq_name_server.specs.Sending.{IsServed, IsUntouched, all_sent};
 ghost use Rattle.nq_model.specs.Ask.{ask};
-ghost use Rattle.nq_name_server.specs.Served.{most_directories};
-ghost use Rattle.nq_name_server.specs.Serving.{entered, for_asker, lists_for, number_for, reads_dir};
+ghost use Rattle.nq_model.specs.Table.{find_row};
+ghost use Rattle.nq_wire.specs.Parts.{grant_bytes, optional};
+ghost use Rattle.nq_name_server.specs.Served.{Leaf, most_directories};
+ghost use Rattle.nq_name_server.specs.Serving.{AreReady, entered, for_asker, lists_for, notice_after, notices, number_for, own_told, reads_dir, replied, warnings};
+ghost use Rattle.nq_evict.specs.Telling.{own_rows};
 
 use crate::notifying::notice_bytes;
 use crate::server::{MOST_DIRECTORIES, NameServer};
-use nq_base::{Access, Asked, FileId, Grant, Mode, NoMemory, Party, Question, Rev, RowKey, Want};
+use nq_base::{
+    Access, Asked, FileId, Grant, Mode, NoMemory, Party, Question, Rev, Row, RowKey, Want,
+};
 use nq_directory::FileName;
 use nq_grant::ask;
 use nq_listing::{BegunPage, ReadDir, later_bytes};
@@ -47,16 +53,16 @@ impl NameServer {
         ensures first { out.new.first ≡ out.old.first }
         ensures refused { OnErr result (IsUntouched self.old self.new out.old out.new) }
     {
-        let host = request.who.host;
-        let inc = request.who.inc.0;
-        let page = BegunPage::new(alloc, request.xid, inc, names, more)?;
-        let later = later_bytes(alloc, request.xid, inc)?;
+        let replies = ready(alloc, request, names, more)?;
         out.reserve(2)?;
-        let Some(number) = self.number_for(request) else {
-            out.push(Party::Client(host), page.end(&None)).unwrap();
-            return Ok(());
-        };
-        self.read_numbered(alloc, request, number, Replies { page, later }, out)
+        match self.number_for(request) {
+            Some(number) => self.read_numbered(alloc, request, number, replies, out),
+            None => {
+                let Replies { page, .. } = replies;
+                give_page(request, page, &None, out);
+                Ok(())
+            }
+        }
     }
 
     /// The number of the directory of a request, or the next one; None where all are taken.
@@ -73,6 +79,10 @@ impl NameServer {
     }
 
     /// Answers a READDIRLOOK of the directory with this number, which may be a new one.
+    ///
+    /// # Errors
+    ///
+    /// `NoMemory` where memory is wanting; then nothing is changed.
     fn read_numbered(
         &mut self,
         alloc: Global,
@@ -80,31 +90,75 @@ impl NameServer {
         number: FileId,
         replies: Replies,
         out: &mut Outbox,
-    ) -> Result<(), NoMemory> {
+    ) -> Result<(), NoMemory>
+        requires number { number_for self.old request.now.prefix ≡ Some number }
+        requires drawn { self.old.table.drawn < 2 ^ 62 }
+        requires room { 2 ≤ out.old.spare }
+        requires spare { 48 ≤ replies.page.spare }
+        ensures read { OnOk result ((leaf : Leaf) → AreReady request.now leaf replies.page.bytes replies.later.items → IsServed (reads_dir self.old request.now leaf) self.new out.old out.new) }
+        ensures drawn { self.new.table.drawn ≤ self.old.table.drawn + 1 }
+        ensures first { out.new.first ≡ out.old.first }
+        ensures refused { OnErr result (IsUntouched self.old self.new out.old out.new) }
+    {
         let warning = self.own_notice(alloc, request, number)?;
         self.enter(request, number);
         self.drop_older(request, number);
         let asked = self.ask_for(request, number);
-        let to = Party::Client(request.who.host);
-        match asked {
-            Asked::TryLater(_) => {
-                if let Some(warning) = warning {
-                    self.notice = self.notice.wrapping_add(1);
-                    out.push(to, warning).unwrap();
-                }
-                out.push(to, replies.later).unwrap();
-            }
-            Asked::Granted(grant) => out.push(to, replies.page.end(&Some(grant))).unwrap(),
-            Asked::Free | Asked::NoLease => out.push(to, replies.page.end(&None)).unwrap(),
-        }
+        self.reply(request, asked, warning, replies, out);
         Ok(())
     }
 
+    /// Adds the reply to a READDIRLOOK, by what the lease table said, behind what its host is told about its own row.
+    fn reply(
+        &mut self,
+        request: &ReadDir,
+        asked: Asked,
+        warning: Option<Vec<u8>>,
+        replies: Replies,
+        out: &mut Outbox,
+    )
+        requires room { 2 ≤ out.old.spare }
+        requires spare { 48 ≤ replies.page.spare }
+        ensures replied { (leaf : Leaf) → AreReady request.now leaf replies.page.bytes replies.later.items → IsServed (replied self.old request.now leaf (warnings request.now (option_map (λ v. v.items) warning)) asked) self.new out.old out.new }
+        ensures table { self.new.table ≡ self.old.table }
+        ensures first { out.new.first ≡ out.old.first }
+    {
+        let Replies { page, later } = replies;
+        match asked {
+            Asked::TryLater(_) => self.put_off(request, warning, later, out),
+            Asked::Granted(grant) => give_page(request, page, &Some(grant), out),
+            Asked::Free | Asked::NoLease => give_page(request, page, &None, out),
+        }
+    }
+
+    /// Adds the reply that puts a READDIRLOOK off, behind what its host is told about its own row.
+    fn put_off(
+        &mut self,
+        request: &ReadDir,
+        warning: Option<Vec<u8>>,
+        later: Vec<u8>,
+        out: &mut Outbox,
+    )
+        requires { 2 ≤ out.old.spare }
+        ensures served { self.new ≡ record self.old { notice = notice_after self.old.notice (length (warnings request.now (option_map (λ v. v.items) warning))) } }
+        ensures sends { out.new.datagrams ≡ out.old.datagrams ++ all_sent (warnings request.now (option_map (λ v. v.items) warning)) ++ (Party.Client request.now.who.host, later.items) ∷ [] }
+        ensures first { out.new.first ≡ out.old.first }
+    {
+        let to = Party::Client(request.who.host);
+        if let Some(bytes) = warning {
+            self.notice = self.notice.wrapping_add(1);
+            out.push(to, bytes).unwrap();
+        }
+        out.push(to, later).unwrap();
+    }
+
     /// Asks the lease table for a reading lease on a directory.
+    #[tactic(auto, using(crate::proofs::Running::asking))]
     fn ask_for(&mut self, request: &ReadDir, number: FileId) -> Asked
         requires { self.old.table.drawn < 2 ^ 62 }
         ensures table { self.new ≡ record self.old { table = (ask self.old.table (lists_for self.old request.now number)).table } }
         ensures asked { result ≡ (ask self.old.table (lists_for self.old request.now number)).asked }
+        ensures drawn { self.new.table.drawn ≤ self.old.table.drawn + 1 }
     {
         let question = Question {
             who: request.who,
@@ -128,19 +182,32 @@ impl NameServer {
         alloc: Global,
         request: &ReadDir,
         number: FileId,
-    ) -> Result<Option<Vec<u8>>, NoMemory> {
+    ) -> Result<Option<Vec<u8>>, NoMemory>
+        ensures { IfOk result (λ o. warnings request.now (option_map (λ v. v.items) o) ≡ notices request.now.prefix self.now.notice (own_told request.now.who (find_row number request.now.who.host self.now.table.rows))) }
+    {
+        match self.own_row(request, number) {
+            Some(row) => {
+                let bytes = notice_bytes(alloc, &request.prefix, self.notice, &row)?;
+                Ok(Some(bytes))
+            }
+            None => Ok(None),
+        }
+    }
+
+    /// The asker's own row on a directory, where it is to be given up.
+    fn own_row(&self, request: &ReadDir, number: FileId) -> Option<Row>
+        ensures row { own_rows result ≡ own_told request.now.who (find_row number request.now.who.host self.now.table.rows) }
+        ensures host { IfSome result (λ row. row.who.host ≡ request.now.who.host) }
+    {
         let key = RowKey {
             file: number,
             host: request.who.host,
         };
-        match self.table.row(key) {
-            Some(row) if row.who.inc == request.who.inc && row.evicting => Ok(Some(notice_bytes(
-                alloc,
-                &request.prefix,
-                self.notice,
-                &row,
-            )?)),
-            _ => Ok(None),
+        let row = self.table.row(key)?;
+        if row.who.inc == request.who.inc && row.evicting {
+            Some(row)
+        } else {
+            None
         }
     }
 
@@ -155,6 +222,7 @@ impl NameServer {
     }
 
     /// Drops the asker's row on a directory, where it is of another incarnation.
+    #[tactic(auto, using(crate::proofs::Running::again_runs), unfolding(nq_model::specs::Table::with_rows))]
     fn drop_older(&mut self, request: &ReadDir, number: FileId)
         ensures { self.new ≡ record self.old { table = for_asker self.old.table request.now.who number } }
     {
@@ -168,4 +236,32 @@ impl NameServer {
             self.table.drop_row(key);
         }
     }
+}
+
+/// The replies to a READDIRLOOK with a page of these files. All memory that they take is taken here.
+fn ready(
+    alloc: Global,
+    request: &ReadDir,
+    names: &[FileName],
+    more: bool,
+) -> Result<Replies, NoMemory>
+    requires { length names.now ≤ most_names }
+    ensures ready { IfOk result (λ p. AreReady request.now (record { names = names.now; more = more }) p.page.bytes p.later.items) }
+    ensures spare { IfOk result (λ p. 48 ≤ p.page.spare) }
+{
+    let inc = request.who.inc.0;
+    let page = BegunPage::new(alloc, request.xid, inc, names, more)?;
+    let later = later_bytes(alloc, request.xid, inc)?;
+    Ok(Replies { page, later })
+}
+
+/// Adds the reply with a page, and with this lease.
+fn give_page(request: &ReadDir, page: BegunPage, grant: &Option<Grant>, out: &mut Outbox)
+    requires room { 1 ≤ out.old.spare }
+    requires spare { 48 ≤ page.spare }
+    ensures sends { out.new.datagrams ≡ out.old.datagrams ++ (Party.Client request.now.who.host, page.bytes ++ optional grant_bytes grant.now) ∷ [] }
+    ensures first { out.new.first ≡ out.old.first }
+{
+    let bytes = page.end(grant);
+    out.push(Party::Client(request.who.host), bytes).unwrap();
 }

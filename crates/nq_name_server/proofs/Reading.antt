@@ -1,0 +1,131 @@
+-- What a server makes of a READDIRLOOK, in the order of the code.
+use Rattle.std.proofs.Common.{◌≡◌, ◌<◌, ◌+◌, ◌%◌, ◌==◌, ℕ, suc, Bool, true, false, not, ◌&&◌, List, [], ◌∷◌, ◌++◌, Option, Some, None, if◌then◌else◌, length, refl, sym, ap, ◌∙◌, arith}
+use Rattle.std.specs.Prelude.{nat_lt}
+use Rattle.std.proofs.lemmas.Bool.{eq-eqb}
+use Rattle.std.proofs.lemmas.Bool.Decides.{nat_tests}
+use Rattle.std.proofs.lemmas.List.Quantifiers.{position-Some}
+use Rattle.nq_base.specs.declared.Asked.{Asked}
+use Rattle.nq_base.specs.declared.Grant.{Grant}
+use Rattle.nq_base.specs.declared.Party.{Party}
+use Rattle.nq_base.specs.declared.Row.{Row}
+use Rattle.nq_base.specs.declared.Who.{Who}
+use Rattle.nq_listing.specs.declared.ReadDir.{ReadDir}
+use Rattle.nq_listing.specs.Messages.{answer_bytes, results, front_bytes, page, wait}
+use Rattle.nq_model.proofs.Finding.{find-dropped}
+use Rattle.nq_model.specs.Ask.{ask}
+use Rattle.nq_model.specs.Profile.{same_bytes, xid_end}
+use Rattle.nq_model.specs.Table.{Table, drop_row, find_row, is_row_of, with_rows}
+use Rattle.nq_wire.specs.Parts.{grant_bytes, optional}
+use Rattle.nq_name_server.specs.Sending.{all_sent, sent}
+use Rattle.nq_name_server.specs.Served.{Served, Leaf, most_directories, number_of}
+use Rattle.nq_name_server.specs.Serving.{AreReady, Serves, ToHost, answers, delays, entered, evicting, for_asker, leased, lists_for, notice_after, notices, number_for, number_or_next, own_again, own_told, puts_off, reads_as, reads_dir, reads_new, reads_numbered, replied, tells, waits, warnings}
+
+-- ---- numbers of directories
+
+-- a directory that has a number, or gets the next one
+numbered : (s : Served) (r : ReadDir) (leaf : Leaf) (number : ℕ) → number_for s r.prefix ≡ Some number → reads_dir s r leaf ≡ reads_numbered (record s { directories = entered number r.prefix s.directories }) r leaf number
+numbered s r leaf number is = step (number_of r.prefix s.directories) refl is
+  where
+    old : (n : ℕ) → number_of r.prefix s.directories ≡ Some n → entered n r.prefix s.directories ≡ s.directories
+    old n known =
+        let below = (position-Some (λ d. same_bytes d r.prefix) s.directories n [] known).0 in
+        let other : (n == length s.directories) ≡ false = grind (arith, nat_tests) in
+        rw other refl
+
+    next : (b : Bool) → (if b then Some (length s.directories) else None) ≡ Some number → (if b then reads_numbered (record s { directories = s.directories ++ r.prefix ∷ [] }) r leaf (length s.directories) else answers s r s.table leaf None) ≡ reads_numbered (record s { directories = entered number r.prefix s.directories }) r leaf number
+    next true e =
+        let same : length s.directories ≡ number = cc in
+        let last = eq-eqb number (length s.directories) (sym same) in
+        ap (λ n. reads_numbered (record s { directories = s.directories ++ r.prefix ∷ [] }) r leaf n) same
+        ∙ sym (ap (λ b. reads_numbered (record s { directories = if b then s.directories ++ r.prefix ∷ [] else s.directories }) r leaf number) last)
+    next false e = absurd (cc)
+
+    step : (found : Option ℕ) → number_of r.prefix s.directories ≡ found → number_or_next s found ≡ Some number → reads_as s r leaf found ≡ reads_numbered (record s { directories = entered number r.prefix s.directories }) r leaf number
+    step (Some n) known e =
+        let same : n ≡ number = cc in
+        sym (ap (λ ds. reads_numbered (record s { directories = ds }) r leaf n) (old n known))
+        ∙ ap (λ m. reads_numbered (record s { directories = entered m r.prefix s.directories }) r leaf m) same
+    step None known e = next (nat_lt (length s.directories) most_directories) e
+
+-- a number that is new is one of those that there may be
+pub next_is_left : (s : Served) (prefix : List ℕ) (number : ℕ) → number_for s prefix ≡ Some number → number ≡ length s.directories → number < most_directories
+next_is_left s prefix number is new = step (number_of prefix s.directories) refl is
+  where
+    next : (b : Bool) → nat_lt (length s.directories) most_directories ≡ b → (if b then Some (length s.directories) else None) ≡ Some number → number < most_directories
+    next true less e = grind (arith, nat_tests)
+    next false less e = absurd (cc)
+
+    step : (found : Option ℕ) → number_of prefix s.directories ≡ found → number_or_next s found ≡ Some number → number < most_directories
+    step (Some n) known e =
+        let same : n ≡ number = cc in
+        let below = (position-Some (λ d. same_bytes d prefix) s.directories n [] known).0 in
+        absurd (omega arith)
+    step None known e = next (nat_lt (length s.directories) most_directories) refl e
+
+-- where all numbers are taken, a page comes without a lease
+pub none_is_left : (s : Served) (r : ReadDir) (leaf : Leaf) → number_for s r.prefix ≡ None → reads_dir s r leaf ≡ answers s r s.table leaf None
+none_is_left s r leaf is = step (number_of r.prefix s.directories) is
+  where
+    next : (b : Bool) → (if b then Some (length s.directories) else None) ≡ None → (if b then reads_numbered (record s { directories = s.directories ++ r.prefix ∷ [] }) r leaf (length s.directories) else answers s r s.table leaf None) ≡ answers s r s.table leaf None
+    next true e = absurd (cc)
+    next false e = refl
+
+    step : (found : Option ℕ) → number_or_next s found ≡ None → reads_as s r leaf found ≡ answers s r s.table leaf None
+    step (Some n) e = absurd (cc)
+    step None e = next (nat_lt (length s.directories) most_directories) e
+
+-- ---- the asker's own row
+
+own-said : (who : Who) (number : ℕ) (rows : List Row) (found : Option Row) → find_row number who.host rows ≡ found → evicting (find_row number who.host (own_again who number found rows)) ≡ own_told who found
+own-said who number rows None is = ap evicting is
+own-said who number rows (Some row) is = step (row.who.inc == who.inc)
+  where
+    other : (r : Row) → is_row_of number who.host r ≡ true → not (is_row_of number who.host r) ≡ false
+    other r e = ap not e
+
+    step : (b : Bool) → evicting (find_row number who.host (if b then rows else drop_row number who.host rows)) ≡ (if b && row.evicting then row ∷ [] else [])
+    step true = ap evicting is
+    step false =
+        ap evicting (find-dropped (is_row_of number who.host) (λ r. not (is_row_of number who.host r)) rows other)
+
+-- ---- what the lease table says
+
+notices-length : (prefix : List ℕ) (xid : ℕ) (rows : List Row) → length rows ≡ length (notices prefix xid rows)
+notices-length prefix xid [] = refl
+notices-length prefix xid (row ∷ rows) = ap suc (notices-length prefix ((xid + 1) % xid_end) rows)
+
+replies : (s : Served) (r : ReadDir) (table : Table) (leaf : Leaf) (own : List Row) (asked : Asked) → leased s r table leaf own asked ≡ replied (record s { table = table }) r leaf (notices r.prefix s.notice own) asked
+replies s r table leaf own (Asked.TryLater clash) =
+    ap (λ n. record { served = record s { table = table; notice = notice_after s.notice n }; sends = notices r.prefix s.notice own ++ puts_off r ∷ [] }) (notices-length r.prefix s.notice own)
+replies s r table leaf own (Asked.Granted grant) = refl
+replies s r table leaf own Asked.NoLease = refl
+replies s r table leaf own Asked.Free = refl
+
+-- a READDIRLOOK of a directory with a number, as the code answers it
+pub answered : (s : Served) (r : ReadDir) (leaf : Leaf) (number : ℕ) (before : List ToHost) → number_for s r.prefix ≡ Some number → before ≡ notices r.prefix s.notice (own_told r.who (find_row number r.who.host s.table.rows)) → reads_dir s r leaf ≡ replied (record s { table = (ask (for_asker s.table r.who number) (lists_for s r number)).table; directories = entered number r.prefix s.directories }) r leaf before (ask (for_asker s.table r.who number) (lists_for s r number)).asked
+unfolding with_rows
+answered s r leaf number before is told =
+    let entered-in = record s { directories = entered number r.prefix s.directories } in
+    let table = for_asker s.table r.who number in
+    let after = ask table (lists_for s r number) in
+    let own = find_row number r.who.host s.table.rows in
+    numbered s r leaf number is
+    ∙ replies entered-in r after.table leaf (evicting (find_row number r.who.host (own_again r.who number own s.table.rows))) after.asked
+    ∙ ap (λ b. replied (record entered-in { table = after.table }) r leaf b after.asked) (ap (notices r.prefix s.notice) (own-said r.who number s.table.rows own refl) ∙ sym told)
+
+-- ---- what is sent
+
+-- what is sent one after another
+pub sent_both : (first second : List ToHost) → all_sent (first ++ second) ≡ all_sent first ++ all_sent second
+sent_both [] second = refl
+sent_both (d ∷ ds) second = ap (λ l. sent d ∷ l) (sent_both ds second)
+
+-- the reply that puts off is the one that is ready
+pub put_off_is : (r : ReadDir) (leaf : Leaf) (begun put-off : List ℕ) → AreReady r leaf begun put-off → sent (puts_off r) ≡ (Party.Client r.who.host, put-off)
+put_off_is r leaf begun put-off ready = ap (λ bytes. (Party.Client r.who.host, bytes)) (sym ready.delayed)
+
+-- so is the one with a page
+pub page_is : (r : ReadDir) (leaf : Leaf) (begun put-off : List ℕ) (grant : Option Grant) → AreReady r leaf begun put-off → sent (tells r leaf grant) ≡ (Party.Client r.who.host, begun ++ optional grant_bytes grant)
+unfolding answer_bytes results
+page_is r leaf begun put-off grant ready =
+    ap (λ bytes. (Party.Client r.who.host, bytes)) (sym (ready.paged (optional grant_bytes grant)))

@@ -1,0 +1,21 @@
+use Rattle.std.proofs.Common.{◌≡◌, ◌++◌, length, ap, subst, ◌∙◌}
+use Rattle.std.specs.Prelude.{IfOk, OnOk}
+use Rattle.nq_base.specs.declared.Access.{Access}
+use Rattle.nq_evict.proofs.Telling.{told-of-file}
+use Rattle.nq_name_server.specs.Sending.{all_sent}
+use Rattle.nq_name_server.specs.Serving.{notice_after, notices, readers}
+use Rattle.nq_name_server.proofs.notifying.NameServer.tell_all.Goals as goal
+
+pub returns-clause-told : goal.returns-clause-told
+returns-clause-told c =
+    subst
+    (λ rows. OnOk c.tell_among.result (c.tell_among.new.out.datagrams ≡ c.args.out.now.datagrams ++ all_sent (notices c.args.prefix.now c.args.self.now.notice rows)))
+    (ap (readers c.args.number c.args.host) c.rows_of-rows.ensures ∙ told-of-file c.args.number c.args.host Access.Write c.args.self.now.table.rows)
+    c.tell_among.ensures.told
+
+pub returns-clause-counted : goal.returns-clause-counted
+returns-clause-counted c =
+    subst
+    (λ rows. IfOk c.tell_among.result (λ n. n ≡ notice_after c.args.self.now.notice (length rows)))
+    (ap (readers c.args.number c.args.host) c.rows_of-rows.ensures ∙ told-of-file c.args.number c.args.host Access.Write c.args.self.now.table.rows)
+    c.tell_among.ensures.counted
