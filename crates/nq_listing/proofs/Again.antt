@@ -1,5 +1,5 @@
 -- What is written for a message is read again.
-use Rattle.std.proofs.Common.{◌≡◌, ◌<◌, ◌≤◌, ℕ, ◌+◌, ◌^◌, true, false, nat_lt, List, [], ◌∷◌, ◌++◌, length, Some, Ok, All, IfSome, refl, sym, ap, ◌∙◌, arith, append_assoc, append-nil, zero, suc}
+use Rattle.std.proofs.Common.{◌≡◌, ◌<◌, ◌≤◌, ℕ, ◌+◌, ◌^◌, false, nat_lt, List, [], ◌∷◌, ◌++◌, length, Some, Ok, All, refl, sym, ap, ◌∙◌, arith, append_assoc, append-nil, suc}
 use Rattle.std.proofs.lemmas.Bool.{eq-eqb}
 use Rattle.std.proofs.lemmas.List.Elements.{All-head, All-tail}
 use Rattle.std.proofs.lemmas.Bool.Decides.{nat_tests}
@@ -7,7 +7,7 @@ use Rattle.nq_directory.specs.declared.FileName.{FileName}
 use Rattle.nq_rpc.specs.Message.{spelling, call_with, reply_with, null}
 use Rattle.nq_rpc.proofs.Messages.{message_again, null_fits}
 use Rattle.nq_wire.specs.Parts.{head, tag_bytes, grant_bytes, optional}
-use Rattle.nq_wire.specs.Reading.{head_at, tag_at, grant_at, optional_at, name_at, item}
+use Rattle.nq_wire.specs.Reading.{item}
 use Rattle.nq_wire.proofs.PartsAgain.{head_again, tag_again, name_again, grant_if_there}
 use Rattle.nq_xdr.specs.Item.{word, boolean, opaque}
 use Rattle.nq_xdr.proofs.Numbers.{word_again}

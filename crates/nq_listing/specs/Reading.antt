@@ -1,5 +1,5 @@
 -- What any bytes are as a message of leased directories: the message, or none.
-use Rattle.std.specs.Prelude.{ℕ, Bool, ◌==◌, ◌&&◌, List, [], ◌∷◌, ◌++◌, length, Option, Some, None, Result, Ok, Err, nat_lt, if◌then◌else◌, zero, suc}
+use Rattle.std.specs.Prelude.{ℕ, ◌==◌, ◌&&◌, List, [], ◌∷◌, ◌++◌, length, Option, Some, None, Result, Ok, Err, nat_lt, if◌then◌else◌, zero, suc}
 use Rattle.nq_datagrams.specs.Messages.{program, version, rpc_version}
 use Rattle.nq_rpc.specs.declared.CallMessage.{CallMessage}
 use Rattle.nq_rpc.specs.declared.Message.{Message as Said}
