@@ -1,10 +1,10 @@
 //! What a host makes of datagrams.
 
 ghost use Rattle.std.specs.Prelude.{◌≡◌, ◌<◌, ◌≤◌, ◌^◌, ◌+◌, [], ◌∷◌, ◌++◌, true, false, None, Some, option_map, vec_len, vec_capacity, IfOk, IfSome, OnErr};
-ghost use Rattle.nq_listing.specs.Lent.{answer_of, answers_of};
+ghost use Rattle.nq_listing.specs.Lent.{answer_of, answers_of, listing_of};
 ghost use Rattle.nq_listing.specs.Messages.{read_dir_bytes};
 ghost use Rattle.nq_listing.specs.Reading.{dir_evicted_in};
-ghost use Rattle.nq_name_cache.specs.Asking.{answer_in, evicted, gone_on, heard, is_later, last_id, lease_by, next_bytes, noticed, page_taken, told};
+ghost use Rattle.nq_name_cache.specs.Asking.{answer_in, evicted, gone_on, heard, is_later, last_id, lease_by, next_bytes, noticed, page_taken, takes_page, told};
 ghost use Rattle.nq_name_cache.specs.Names.{Request, list_of};
 
 use crate::cache::{Asked, NameCache};
@@ -37,7 +37,7 @@ impl NameCache {
         ensures refused { OnErr result (self.new ≡ self.old) }
     {
         match self.read_answer(alloc, datagram)? {
-            Some(told) => self.take(alloc, told, term, now),
+            Some(said) => self.take(alloc, said, term, now),
             None => self.read_notice(alloc, datagram),
         }
     }
@@ -53,31 +53,49 @@ impl NameCache {
     }
 
     /// Takes in the reply to the request under way.
-    #[tactic(auto, using(crate::proofs::Heard::page_same))]
     fn take(
         &mut self,
         alloc: Global,
-        told: Told,
+        said: Told,
         term: u32,
         now: Ticks,
     ) -> Result<Option<Vec<u8>>, NoMemory>
         requires { now < 2 ^ 62 }
-        ensures told { IfOk result (λ o. (r : Request) → self.old.asked ≡ Some r → record { names = self.new; sends = option_map (λ v. v.items) o } ≡ told self.old r (answer_of told) term now) }
+        ensures told { IfOk result (λ o. (r : Request) → self.old.asked ≡ Some r → record { names = self.new; sends = option_map (λ v. v.items) o } ≡ told self.old r (answer_of said) term now) }
         ensures refused { OnErr result (self.new ≡ self.old) }
     {
-        if let Told::Page(
-            Page {
-                names,
-                more,
-                grant: Some(grant),
-            },
-        ) = told
-        {
-            let next = self.next_request(alloc, &names, more, term)?;
-            self.take_page(&names, &grant, next, now)
-        } else {
-            self.asked = None;
-            Ok(None)
+        match said {
+            Told::Page(page) => self.take_listing(alloc, page, term, now),
+            Told::Later => {
+                self.asked = None;
+                Ok(None)
+            }
+        }
+    }
+
+    /// Takes in the page that was asked for.
+    #[tactic(auto, using(crate::proofs::Heard::page_same))]
+    fn take_listing(
+        &mut self,
+        alloc: Global,
+        page: Page,
+        term: u32,
+        now: Ticks,
+    ) -> Result<Option<Vec<u8>>, NoMemory>
+        requires { now < 2 ^ 62 }
+        ensures taken { IfOk result (λ o. (r : Request) → self.old.asked ≡ Some r → record { names = self.new; sends = option_map (λ v. v.items) o } ≡ takes_page self.old r (listing_of page) page.grant term now) }
+        ensures refused { OnErr result (self.new ≡ self.old) }
+    {
+        let Page { names, more, grant } = page;
+        match grant {
+            Some(grant) => {
+                let next = self.next_request(alloc, &names, more, term)?;
+                self.take_page(&names, &grant, next, now)
+            }
+            None => {
+                self.asked = None;
+                Ok(None)
+            }
         }
     }
 

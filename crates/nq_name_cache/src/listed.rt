@@ -107,6 +107,7 @@ impl Listed {
         ensures grown { IfOk result (λ on. on ≡ true → self.new ≡ with_page self.old sent grant.now names.now) }
         ensures refused { OnErr result (self.new ≡ self.old) }
     {
+        let _term = grant.term;
         self.names.reserve(names.len())?;
         let held = mem::replace(&mut self.held, Held::Nothing);
         let Taken { held, how } = held.take(FileId(0), grant, sent);
