@@ -3,7 +3,6 @@ use Rattle.std.proofs.Common.{◌≡◌, ◌-◌, ℕ, Bool, true, false, List, 
 use Rattle.std.specs.Prelude.{slice_get}
 use Rattle.nq_base.specs.declared.Grant.{Grant}
 use Rattle.nq_client_leases.specs.Takes.{taking, is_broken}
-use Rattle.nq_client_leases.specs.declared.Take.{Take}
 use Rattle.nq_client_leases.specs.declared.Take.TheVariants.{Same, Broken}
 use Rattle.nq_directory.specs.declared.FileName.{FileName}
 use Rattle.nq_model.specs.Client.{Lease}

@@ -1,10 +1,9 @@
 -- What a host asks for, and what it makes of what it is told.
-use Rattle.std.specs.Prelude.{ℕ, ◌+◌, Bool, true, false, not, ◌&&◌, ◌==◌, List, [], ◌∷◌, ◌++◌, Option, Some, None, length, nat_lt, if◌then◌else◌}
+use Rattle.std.specs.Prelude.{ℕ, ◌+◌, Bool, true, false, not, ◌&&◌, List, [], ◌∷◌, ◌++◌, Option, Some, None, length, nat_lt, if◌then◌else◌}
 use Rattle.nq_base.specs.declared.Grant.{Grant}
 use Rattle.nq_base.specs.declared.Mode.{Mode}
 use Rattle.nq_base.specs.declared.Mode.TheVariants.{NonCaching, Reading, Writing}
 use Rattle.nq_base.specs.declared.Tag.{Tag}
-use Rattle.nq_base.specs.declared.Who.{Who}
 use Rattle.nq_directory.specs.declared.FileName.{FileName}
 use Rattle.nq_directory.specs.Names.{put_names}
 use Rattle.nq_listing.specs.declared.DirTag.{DirTag}

@@ -1,5 +1,5 @@
 -- What a host keeps of the names of directories.
-use Rattle.std.specs.Prelude.{ℕ, ◌+◌, ◌%◌, Bool, not, ◌&&◌, ◌==◌, List, [], ◌∷◌, ◌++◌, Option, Some, None, find, filter, length, nat_lt, if◌then◌else◌}
+use Rattle.std.specs.Prelude.{ℕ, ◌+◌, ◌%◌, not, List, [], Option, Some, None, find, filter, if◌then◌else◌}
 use Rattle.nq_base.specs.declared.Call.{Call}
 use Rattle.nq_base.specs.declared.Who.{Who}
 use Rattle.nq_client_leases.specs.Leases.{passes}

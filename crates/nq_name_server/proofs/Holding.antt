@@ -1,13 +1,12 @@
 -- Whether a request is held up: by the first of the rows in its way.
-use Rattle.std.proofs.Common.{◌≡◌, ℕ, Bool, true, false, List, [], ◌∷◌, Option, Some, None, if◌then◌else◌, refl, sym, ap, ◌∙◌}
+use Rattle.std.proofs.Common.{◌≡◌, ℕ, Bool, true, false, List, [], ◌∷◌, Some, None, if◌then◌else◌, refl, sym, ap, ◌∙◌}
 use Rattle.std.specs.Prelude.{is_some}
 use Rattle.std.specs.List.{find, filter}
 use Rattle.nq_base.specs.declared.Access.{Access}
-use Rattle.nq_base.specs.declared.Row.{Row}
 use Rattle.nq_base.specs.declared.Who.{Who}
 use Rattle.nq_model.specs.Ask.{conflicts}
 use Rattle.nq_name_server.specs.Served.{Served, number_of}
-use Rattle.nq_name_server.specs.Serving.{Serves, holds, holds_as, holds_for, holds_up, readers}
+use Rattle.nq_name_server.specs.Serving.{holds, holds_as, holds_for, holds_up, readers}
 
 module _ {X : Type 0} (p : X → Bool) where
   -- none is left where none is found

@@ -10,7 +10,7 @@ use Rattle.nq_base.specs.declared.Party.{Party}
 use Rattle.nq_base.specs.declared.Row.{Row}
 use Rattle.nq_base.specs.declared.Who.{Who}
 use Rattle.nq_listing.specs.declared.ReadDir.{ReadDir}
-use Rattle.nq_listing.specs.Messages.{answer_bytes, results, front_bytes, page, wait}
+use Rattle.nq_listing.specs.Messages.{answer_bytes, results}
 use Rattle.nq_model.proofs.Finding.{find-dropped}
 use Rattle.nq_model.specs.Ask.{ask}
 use Rattle.nq_model.specs.Profile.{same_bytes, xid_end}
@@ -18,7 +18,7 @@ use Rattle.nq_model.specs.Table.{Table, drop_row, find_row, is_row_of, with_rows
 use Rattle.nq_wire.specs.Parts.{grant_bytes, optional}
 use Rattle.nq_name_server.specs.Sending.{all_sent, sent}
 use Rattle.nq_name_server.specs.Served.{Served, Leaf, most_directories, number_of}
-use Rattle.nq_name_server.specs.Serving.{AreReady, Serves, ToHost, answers, delays, entered, evicting, for_asker, leased, lists_for, notice_after, notices, number_for, number_or_next, own_again, own_told, puts_off, reads_as, reads_dir, reads_new, reads_numbered, replied, tells, waits, warnings}
+use Rattle.nq_name_server.specs.Serving.{AreReady, ToHost, answers, entered, evicting, for_asker, leased, lists_for, notice_after, notices, number_for, number_or_next, own_again, own_told, puts_off, reads_as, reads_dir, reads_numbered, replied, tells}
 
 -- ---- numbers of directories
 

@@ -1,5 +1,5 @@
 -- Those who read a directory are told one by one.
-use Rattle.std.proofs.Common.{◌≡◌, ◌+◌, ◌%◌, ◌<◌, ℕ, suc, Bool, true, false, List, [], ◌∷◌, if◌then◌else◌, ◌++◌, drop, get_or, length, refl, sym, ap, ◌∙◌, add-one, append_assoc, arith, drop-cons}
+use Rattle.std.proofs.Common.{◌≡◌, ◌+◌, ◌%◌, ◌<◌, ℕ, suc, true, false, List, [], ◌∷◌, if◌then◌else◌, ◌++◌, drop, get_or, length, sym, ap, ◌∙◌, add-one, append_assoc, arith, drop-cons}
 use Rattle.nq_base.specs.declared.Access.{Access}
 use Rattle.nq_base.specs.declared.Party.{Party}
 use Rattle.nq_base.specs.declared.Row.{Row}

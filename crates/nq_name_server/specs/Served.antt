@@ -1,5 +1,5 @@
 -- What a server keeps of the leases on directories, in memory alone: from one boot to the next.
-use Rattle.std.specs.Prelude.{ℕ, ◌+◌, ◌%◌, Bool, List, [], ◌∷◌, ◌++◌, Option, Some, None, find, filter, length, take, nat_lt, ◌&&◌, if◌then◌else◌}
+use Rattle.std.specs.Prelude.{ℕ, Bool, List, [], ◌∷◌, Option, filter, length, take, nat_lt, ◌&&◌}
 use Rattle.std.specs.List.{position}
 use Rattle.nq_directory.specs.declared.FileName.{FileName}
 use Rattle.nq_directory.specs.Prefix.{directory}

@@ -1,16 +1,15 @@
 -- What a server makes of READDIRLOOK and DIRVACATED, of requests that change a directory, and of its clock.
-use Rattle.std.specs.Prelude.{◌≡◌, ℕ, ◌+◌, ◌%◌, ◌==◌, ◌&&◌, Bool, not, List, [], ◌∷◌, ◌++◌, Option, Some, None, find, filter, length, is_some, nat_lt, if◌then◌else◌}
+use Rattle.std.specs.Prelude.{◌≡◌, ℕ, ◌+◌, ◌%◌, ◌==◌, ◌&&◌, List, [], ◌∷◌, ◌++◌, Option, Some, None, filter, length, nat_lt, if◌then◌else◌}
 use Rattle.nq_base.specs.declared.Access.{Access}
 use Rattle.nq_base.specs.declared.Asked.{Asked}
 use Rattle.nq_base.specs.declared.Grant.{Grant}
 use Rattle.nq_base.specs.declared.Mode.{Mode}
 use Rattle.nq_base.specs.declared.Question.{Question}
 use Rattle.nq_base.specs.declared.Row.{Row}
-use Rattle.nq_base.specs.declared.Tag.{Tag}
 use Rattle.nq_base.specs.declared.Who.{Who}
 use Rattle.nq_listing.specs.declared.DirTag.{DirTag}
 use Rattle.nq_listing.specs.declared.ReadDir.{ReadDir}
-use Rattle.nq_listing.specs.Messages.{Answer, page, wait, answer_bytes, dir_evicted_bytes, front_bytes}
+use Rattle.nq_listing.specs.Messages.{page, wait, answer_bytes, dir_evicted_bytes, front_bytes}
 use Rattle.nq_model.specs.Ask.{ask, conflicts}
 use Rattle.nq_model.specs.Profile.{xid_end}
 use Rattle.nq_model.specs.ServerStep.{end_reading, vacated_rows}

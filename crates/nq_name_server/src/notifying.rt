@@ -10,7 +10,7 @@ ghost use Rattle.nq_name_server.specs.Serving.{changes_for, holds_up, notice_aft
 use crate::server::NameServer;
 use nq_base::{Access, FileId, Host, NoMemory, Party, Question, Rev, Row, Who};
 use nq_directory::Prefix;
-use nq_grant::{ask, conflict};
+use nq_grant::conflict;
 use nq_lease::is_in_the_way;
 use nq_listing::{DirTag, dir_evicted_bytes};
 use nq_wire::Outbox;
@@ -69,7 +69,6 @@ impl NameServer {
     }
 
     /// Marks the rows of those who read a directory; the next notice has this number.
-    #[tactic(auto, using(crate::proofs::Running::asking))]
     fn mark_readers(&mut self, who: Who, number: FileId, notice: u32)
         requires { self.old.table.drawn < 2 ^ 62 }
         ensures marked { self.new ≡ record self.old { table = (ask self.old.table (changes_for self.old who number)).table; notice = notice } }
@@ -85,7 +84,7 @@ impl NameServer {
             rev: Rev(0),
             blocks: 0,
         };
-        ask(&mut self.table, &question);
+        self.ask_table(&question);
         self.notice = notice;
     }
 

@@ -1,6 +1,6 @@
 //! READDIRLOOK while the server serves.
 
-ghost use Rattle.std.specs.Prelude.{◌≡◌, ◌<◌, ◌≤◌, ◌+◌, ◌^◌, List, ℕ, [], ◌∷◌, ◌++◌, Some, length, option_map, IfOk, OnErr, OnOk};
+ghost use Rattle.std.specs.Prelude.{◌≡◌, ◌<◌, ◌≤◌, ◌+◌, ◌^◌, List, ℕ, [], ◌∷◌, ◌++◌, Some, length, option_map, IfOk, IfSome, OnErr, OnOk};
 ghost use Rattle.nq_base.specs.declared.Party.{Party};
 ghost use Rattle.nq_listing.specs.Messages.{most_names};
 ghost use Rattle.nq_name_server.specs.Sending.{IsServed, IsUntouched, all_sent};
@@ -17,7 +17,6 @@ use nq_base::{
     Access, Asked, FileId, Grant, Mode, NoMemory, Party, Question, Rev, Row, RowKey, Want,
 };
 use nq_directory::FileName;
-use nq_grant::ask;
 use nq_listing::{BegunPage, ReadDir, later_bytes};
 use nq_wire::Outbox;
 use std::alloc::Global;
@@ -153,7 +152,6 @@ impl NameServer {
     }
 
     /// Asks the lease table for a reading lease on a directory.
-    #[tactic(auto, using(crate::proofs::Running::asking))]
     fn ask_for(&mut self, request: &ReadDir, number: FileId) -> Asked
         requires { self.old.table.drawn < 2 ^ 62 }
         ensures table { self.new ≡ record self.old { table = (ask self.old.table (lists_for self.old request.now number)).table } }
@@ -173,7 +171,7 @@ impl NameServer {
             rev: Rev(0),
             blocks: 0,
         };
-        ask(&mut self.table, &question)
+        self.ask_table(&question)
     }
 
     /// The DIREVICTED to the asker itself, where its own row on the directory is to be given up.

@@ -1,12 +1,14 @@
 //! The server of names.
 
-ghost use Rattle.std.specs.Prelude.{◌≡◌, ◌<◌, ◌≤◌, ◌^◌, IfOk};
+ghost use Rattle.std.specs.Prelude.{◌≡◌, ◌<◌, ◌≤◌, ◌+◌, ◌^◌, None, IfOk};
+ghost use Rattle.nq_model.specs.Ask.{ask};
 ghost use Rattle.nq_name_server.specs.Served.{new_served, number_of};
 ghost use Rattle.nq_name_server.specs.Serving.{ticks, vacates};
 
-use nq_base::{FileId, NoMemory, Ticks};
+use nq_base::{Asked, FileId, NoMemory, Question, Ticks};
 use nq_directory::Prefix;
 use nq_evict::vacated;
+use nq_grant::ask;
 use nq_lease::Table;
 use nq_listing::DirTag;
 use std::alloc::Global;
@@ -86,6 +88,19 @@ impl NameServer {
         if let Some(number) = self.number_of(&said.prefix) {
             vacated(&mut self.table, said.who, number, said.tag);
         }
+    }
+
+    /// Asks the lease table, of the longest term and at the time of this server.
+    pub(crate) fn ask_table(&mut self, question: &Question) -> Asked
+        requires drawn { self.old.table.drawn < 2 ^ 62 }
+        requires longest { question.now.longest ≡ self.old.longest }
+        requires time { question.now.time ≡ self.old.time }
+        ensures table { self.new ≡ record self.old { table = (ask self.old.table question.now).table } }
+        ensures asked { result ≡ (ask self.old.table question.now).asked }
+        ensures drawn { self.new.table.drawn ≤ self.old.table.drawn + 1 }
+        ensures unwanted { question.now.want ≡ None → self.new.table.drawn ≡ self.old.table.drawn }
+    {
+        ask(&mut self.table, question)
     }
 
     /// The lease table, in which the number of a directory stands for a file.
