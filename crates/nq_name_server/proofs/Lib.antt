@@ -1,4 +1,4 @@
 pub mod Running
 pub mod Telling
 pub mod Holding
-pub mod Reading
+pub mod Replying

@@ -4,7 +4,7 @@ use Rattle.nq_base.specs.declared.Access.{Access}
 use Rattle.nq_evict.proofs.Telling.{told-of-file}
 use Rattle.nq_name_server.specs.Sending.{all_sent}
 use Rattle.nq_name_server.specs.Serving.{notice_after, notices, readers}
-use Rattle.nq_name_server.proofs.notifying.NameServer.tell_all.Goals as goal
+use Rattle.nq_name_server.proofs.server.NameServer.tell_all.Goals as goal
 
 pub returns-clause-told : goal.returns-clause-told
 returns-clause-told c =
