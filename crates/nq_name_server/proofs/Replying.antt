@@ -1,22 +1,24 @@
 -- What a server makes of a READDIRLOOK, in the order of the code.
-use Rattle.std.proofs.Common.{◌≡◌, ◌<◌, ◌+◌, ◌%◌, ◌==◌, ℕ, suc, Bool, true, false, not, ◌&&◌, List, [], ◌∷◌, ◌++◌, Option, Some, None, if◌then◌else◌, length, refl, sym, ap, ◌∙◌, arith}
+use Rattle.std.proofs.Common.{◌≡◌, ◌<◌, ◌+◌, ◌%◌, ◌==◌, ℕ, suc, Bool, true, false, not, ◌&&◌, List, [], ◌∷◌, ◌++◌, Option, Some, None, if◌then◌else◌, length, refl, sym, ap, subst, ◌∙◌, arith, append_assoc}
 use Rattle.std.specs.Prelude.{nat_lt}
 use Rattle.std.proofs.lemmas.Bool.{eq-eqb}
 use Rattle.std.proofs.lemmas.Bool.Decides.{nat_tests}
 use Rattle.std.proofs.lemmas.List.Quantifiers.{position-Some}
 use Rattle.nq_base.specs.declared.Asked.{Asked}
+use Rattle.nq_base.specs.declared.Clash.{Clash}
 use Rattle.nq_base.specs.declared.Grant.{Grant}
 use Rattle.nq_base.specs.declared.Party.{Party}
 use Rattle.nq_base.specs.declared.Row.{Row}
 use Rattle.nq_base.specs.declared.Who.{Who}
 use Rattle.nq_listing.specs.declared.ReadDir.{ReadDir}
 use Rattle.nq_listing.specs.Messages.{answer_bytes, results}
-use Rattle.nq_model.proofs.Finding.{find-dropped}
+use Rattle.nq_model.proofs.Finding.{find-dropped, find-passes}
 use Rattle.nq_model.specs.Ask.{ask}
 use Rattle.nq_model.specs.Profile.{same_bytes, xid_end}
 use Rattle.nq_model.specs.Table.{Table, drop_row, find_row, is_row_of, with_rows}
+use Rattle.nq_wire.specs.Outbox.{Datagrams}
 use Rattle.nq_wire.specs.Parts.{grant_bytes, optional}
-use Rattle.nq_name_server.specs.Sending.{all_sent, sent}
+use Rattle.nq_name_server.specs.Sending.{IsServed, all_sent, sent}
 use Rattle.nq_name_server.specs.Served.{Served, Leaf, most_directories, number_of}
 use Rattle.nq_name_server.specs.Serving.{AreReady, ToHost, answers, entered, evicting, for_asker, leased, lists_for, notice_after, notices, number_for, number_or_next, own_again, own_told, puts_off, reads_as, reads_dir, reads_numbered, replied, tells}
 
@@ -102,7 +104,7 @@ replies s r table leaf own Asked.NoLease = refl
 replies s r table leaf own Asked.Free = refl
 
 -- a READDIRLOOK of a directory with a number, as the code answers it
-pub answered : (s : Served) (r : ReadDir) (leaf : Leaf) (number : ℕ) (before : List ToHost) → number_for s r.prefix ≡ Some number → before ≡ notices r.prefix s.notice (own_told r.who (find_row number r.who.host s.table.rows)) → reads_dir s r leaf ≡ replied (record s { table = (ask (for_asker s.table r.who number) (lists_for s r number)).table; directories = entered number r.prefix s.directories }) r leaf before (ask (for_asker s.table r.who number) (lists_for s r number)).asked
+answered : (s : Served) (r : ReadDir) (leaf : Leaf) (number : ℕ) (before : List ToHost) → number_for s r.prefix ≡ Some number → before ≡ notices r.prefix s.notice (own_told r.who (find_row number r.who.host s.table.rows)) → reads_dir s r leaf ≡ replied (record s { table = (ask (for_asker s.table r.who number) (lists_for s r number)).table; directories = entered number r.prefix s.directories }) r leaf before (ask (for_asker s.table r.who number) (lists_for s r number)).asked
 unfolding with_rows
 answered s r leaf number before is told =
     let entered-in = record s { directories = entered number r.prefix s.directories } in
@@ -116,16 +118,72 @@ answered s r leaf number before is told =
 -- ---- what is sent
 
 -- what is sent one after another
-pub sent_both : (first second : List ToHost) → all_sent (first ++ second) ≡ all_sent first ++ all_sent second
-sent_both [] second = refl
-sent_both (d ∷ ds) second = ap (λ l. sent d ∷ l) (sent_both ds second)
+sent-both : (first second : List ToHost) → all_sent (first ++ second) ≡ all_sent first ++ all_sent second
+sent-both [] second = refl
+sent-both (d ∷ ds) second = ap (λ l. sent d ∷ l) (sent-both ds second)
 
 -- the reply that puts off is the one that is ready
-pub put_off_is : (r : ReadDir) (leaf : Leaf) (begun put-off : List ℕ) → AreReady r leaf begun put-off → sent (puts_off r) ≡ (Party.Client r.who.host, put-off)
-put_off_is r leaf begun put-off ready = ap (λ bytes. (Party.Client r.who.host, bytes)) (sym ready.delayed)
+put-off-is : (r : ReadDir) (leaf : Leaf) (begun put-off : List ℕ) → AreReady r leaf begun put-off → sent (puts_off r) ≡ (Party.Client r.who.host, put-off)
+put-off-is r leaf begun put-off ready = ap (λ bytes. (Party.Client r.who.host, bytes)) (sym ready.delayed)
 
 -- so is the one with a page
-pub page_is : (r : ReadDir) (leaf : Leaf) (begun put-off : List ℕ) (grant : Option Grant) → AreReady r leaf begun put-off → sent (tells r leaf grant) ≡ (Party.Client r.who.host, begun ++ optional grant_bytes grant)
+page-is : (r : ReadDir) (leaf : Leaf) (begun put-off : List ℕ) (grant : Option Grant) → AreReady r leaf begun put-off → sent (tells r leaf grant) ≡ (Party.Client r.who.host, begun ++ optional grant_bytes grant)
 unfolding answer_bytes results
-page_is r leaf begun put-off grant ready =
+page-is r leaf begun put-off grant ready =
     ap (λ bytes. (Party.Client r.who.host, bytes)) (sym (ready.paged (optional grant_bytes grant)))
+
+-- the page without a lease, where all numbers are taken
+pub given : (s new : Served) (r : ReadDir) (leaf : Leaf) (begun put-off : List ℕ) (grant : Option Grant) (out out' : Datagrams) → AreReady r leaf begun put-off → new ≡ s → out'.datagrams ≡ out.datagrams ++ (Party.Client r.who.host, begun ++ optional grant_bytes grant) ∷ [] → IsServed (answers s r s.table leaf grant) new out out'
+given s new r leaf begun put-off grant out out' ready same sends = record {
+  served = same;
+  sends = sends ∙ ap (λ d. out.datagrams ++ d ∷ []) (sym (page-is r leaf begun put-off grant ready));
+}
+
+-- the page with a lease
+pub granted_page : (s new : Served) (r : ReadDir) (leaf : Leaf) (begun put-off : List ℕ) (before : List ToHost) (asked : Asked) (grant : Grant) (out out' : Datagrams) → asked ≡ Asked.Granted grant → AreReady r leaf begun put-off → new ≡ s → out'.datagrams ≡ out.datagrams ++ (Party.Client r.who.host, begun ++ optional grant_bytes (Some grant)) ∷ [] → IsServed (replied s r leaf before asked) new out out'
+granted_page s new r leaf begun put-off before asked grant out out' is ready same sends =
+    subst (λ a. IsServed (replied s r leaf before a) new out out') (sym is) (given s new r leaf begun put-off (Some grant) out out' ready same sends)
+
+-- the page without one
+pub free_page : (s new : Served) (r : ReadDir) (leaf : Leaf) (begun put-off : List ℕ) (before : List ToHost) (asked : Asked) (out out' : Datagrams) → asked ≡ Asked.Free → AreReady r leaf begun put-off → new ≡ s → out'.datagrams ≡ out.datagrams ++ (Party.Client r.who.host, begun ++ optional grant_bytes None) ∷ [] → IsServed (replied s r leaf before asked) new out out'
+free_page s new r leaf begun put-off before asked out out' is ready same sends =
+    subst (λ a. IsServed (replied s r leaf before a) new out out') (sym is) (given s new r leaf begun put-off None out out' ready same sends)
+
+pub full_page : (s new : Served) (r : ReadDir) (leaf : Leaf) (begun put-off : List ℕ) (before : List ToHost) (asked : Asked) (out out' : Datagrams) → asked ≡ Asked.NoLease → AreReady r leaf begun put-off → new ≡ s → out'.datagrams ≡ out.datagrams ++ (Party.Client r.who.host, begun ++ optional grant_bytes None) ∷ [] → IsServed (replied s r leaf before asked) new out out'
+full_page s new r leaf begun put-off before asked out out' is ready same sends =
+    subst (λ a. IsServed (replied s r leaf before a) new out out') (sym is) (given s new r leaf begun put-off None out out' ready same sends)
+
+-- the reply that puts off, behind what is told before
+pub waited : (s new : Served) (r : ReadDir) (leaf : Leaf) (begun put-off : List ℕ) (before : List ToHost) (asked : Asked) (clash : Clash) (out out' : Datagrams) → asked ≡ Asked.TryLater clash → AreReady r leaf begun put-off → new ≡ record s { notice = notice_after s.notice (length before) } → out'.datagrams ≡ out.datagrams ++ all_sent before ++ (Party.Client r.who.host, put-off) ∷ [] → IsServed (replied s r leaf before asked) new out out'
+waited s new r leaf begun put-off before asked clash out out' is ready counts sends =
+    let all = sent-both before (puts_off r ∷ []) ∙ ap (λ d. all_sent before ++ d ∷ []) (put-off-is r leaf begun put-off ready) in
+    let last = append_assoc out.datagrams (all_sent before) ((Party.Client r.who.host, put-off) ∷ []) in
+    let both : IsServed (replied s r leaf before (Asked.TryLater clash)) new out out' = record { served = counts; sends = sends ∙ last ∙ sym (ap (λ l. out.datagrams ++ l) all) } in
+    subst (λ a. IsServed (replied s r leaf before a) new out out') (sym is) both
+
+pub ruleset replying = (granted_page, free_page, full_page, waited)
+
+-- ---- from the first step to the last
+
+-- a READDIRLOOK of a directory with a number: the directory is entered, the asker's older row dropped, the table asked, and the reply sent
+pub read_served : (s s1 s2 s3 new : Served) (r : ReadDir) (leaf : Leaf) (number : ℕ) (before : List ToHost) (asked : Asked) (out out' : Datagrams) → number_for s r.prefix ≡ Some number → before ≡ notices r.prefix s.notice (own_told r.who (find_row number r.who.host s.table.rows)) → s1 ≡ record s { directories = entered number r.prefix s.directories } → s2 ≡ record s1 { table = for_asker s1.table r.who number } → s3 ≡ record s2 { table = (ask s2.table (lists_for s2 r number)).table } → asked ≡ (ask s2.table (lists_for s2 r number)).asked → IsServed (replied s3 r leaf before asked) new out out' → IsServed (reads_dir s r leaf) new out out'
+read_served s s1 s2 s3 new r leaf number before asked out out' is told first second third said done =
+    let table = for_asker s.table r.who number in
+    let start : Served = record s { table = table; directories = entered number r.prefix s.directories } in
+    let after = ask table (lists_for s r number) in
+    let two : s2 ≡ start = second ∙ ap (λ (t : Served). record t { table = for_asker t.table r.who number }) first in
+    let three : s3 ≡ record start { table = after.table } = third ∙ ap (λ (t : Served). record t { table = (ask t.table (lists_for t r number)).table }) two in
+    let says : asked ≡ after.asked = said ∙ ap (λ (t : Served). (ask t.table (lists_for t r number)).asked) two in
+    let whole : replied s3 r leaf before asked ≡ reads_dir s r leaf = ap (λ t. replied t r leaf before asked) three
+    ∙ ap (λ a. replied (record start { table = after.table }) r leaf before a) says
+    ∙ sym (answered s r leaf number before is told)
+    in
+    subst (λ m. IsServed m new out out') whole done
+
+-- the row that is found is of the host
+pub found_host : (number host : ℕ) (row : Row) (rows : List Row) → find_row number host rows ≡ Some row → row.who.host ≡ host
+found_host number host row rows found = step (row.file == number) (find-passes (is_row_of number host) row rows found)
+  where
+    step : (b : Bool) → b && row.who.host == host ≡ true → row.who.host ≡ host
+    step true h = grind (arith, nat_tests)
+    step false h = absurd (cc)

@@ -1,10 +1,12 @@
 //! Requests that change a directory, and notices to those who read it.
 
-ghost use Rattle.std.specs.Prelude.{◌≡◌, ◌<◌, ◌^◌, [], ◌∷◌, ◌++◌, length, IfOk, OnErr, OnOk};
+ghost use Rattle.std.specs.Prelude.{◌≡◌, ◌<◌, ◌^◌, [], ◌∷◌, ◌++◌, Some, find, is_some, length, IfOk, OnErr, OnOk};
 ghost use Rattle.nq_evict.specs.Telling.{Grows};
 ghost use Rattle.nq_listing.specs.Messages.{dir_evicted_bytes};
-ghost use Rattle.nq_model.specs.Ask.{ask};
+ghost use Rattle.nq_base.specs.declared.Access.{Access};
+ghost use Rattle.nq_model.specs.Ask.{ask, conflicts};
 ghost use Rattle.nq_name_server.specs.Sending.{IsHeld, IsUntouched, all_sent, sent};
+ghost use Rattle.nq_name_server.specs.Served.{number_of};
 ghost use Rattle.nq_name_server.specs.Serving.{changes_for, holds_up, notice_after, notice_to, notices, readers};
 
 use crate::server::NameServer;
@@ -57,15 +59,42 @@ impl NameServer {
         ensures first { out.new.first ≡ out.old.first }
         ensures refused { OnErr result (IsUntouched self.old self.new out.old out.new) }
     {
-        let Some(number) = self.number_of(prefix) else {
-            return Ok(false);
-        };
-        if !conflict(&self.table, who.host, number, Access::Write) {
-            return Ok(false);
+        match self.number_of(prefix) {
+            Some(number) => self.hold_up_numbered(alloc, who, prefix, number, out),
+            None => Ok(false),
         }
-        let notice = self.tell_readers(alloc, who.host, prefix, number, out)?;
-        self.mark_readers(who, number, notice);
-        Ok(true)
+    }
+
+    /// The same for a directory that has this number.
+    fn hold_up_numbered(
+        &mut self,
+        alloc: Global,
+        who: Who,
+        prefix: &Prefix,
+        number: FileId,
+        out: &mut Outbox,
+    ) -> Result<bool, NoMemory>
+        requires drawn { self.old.table.drawn < 2 ^ 62 }
+        requires number { number_of prefix.now self.old.directories ≡ Some number }
+        ensures held { IfOk result (λ held. IsHeld held (holds_up self.old who prefix.now) self.old self.new out.old out.new) }
+        ensures drawn { self.new.table.drawn ≡ self.old.table.drawn }
+        ensures first { out.new.first ≡ out.old.first }
+        ensures refused { OnErr result (IsUntouched self.old self.new out.old out.new) }
+    {
+        if self.is_read(who.host, number) {
+            let notice = self.tell_readers(alloc, who.host, prefix, number, out)?;
+            self.mark_readers(who, number, notice);
+            Ok(true)
+        } else {
+            Ok(false)
+        }
+    }
+
+    /// Whether another host reads a directory.
+    fn is_read(&self, host: Host, number: FileId) -> bool
+        ensures { result ≡ is_some (find (conflicts number host Access.Write) self.now.table.rows) }
+    {
+        conflict(&self.table, host, number, Access::Write)
     }
 
     /// Marks the rows of those who read a directory; the next notice has this number.

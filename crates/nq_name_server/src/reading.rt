@@ -1,14 +1,14 @@
 //! READDIRLOOK while the server serves.
 
-ghost use Rattle.std.specs.Prelude.{◌≡◌, ◌<◌, ◌≤◌, ◌+◌, ◌^◌, List, ℕ, [], ◌∷◌, ◌++◌, Some, length, option_map, IfOk, IfSome, OnErr, OnOk};
+ghost use Rattle.std.specs.Prelude.{◌≡◌, ◌<◌, ◌≤◌, ◌+◌, ◌^◌, List, ℕ, [], ◌∷◌, ◌++◌, Some, length, option_map, if◌then◌else◌, IfOk, IfSome, OnErr, OnOk};
 ghost use Rattle.nq_base.specs.declared.Party.{Party};
 ghost use Rattle.nq_listing.specs.Messages.{most_names};
 ghost use Rattle.nq_name_server.specs.Sending.{IsServed, IsUntouched, all_sent};
 ghost use Rattle.nq_model.specs.Ask.{ask};
-ghost use Rattle.nq_model.specs.Table.{find_row};
+ghost use Rattle.nq_model.specs.Table.{drop_row, find_row};
 ghost use Rattle.nq_wire.specs.Parts.{grant_bytes, optional};
 ghost use Rattle.nq_name_server.specs.Served.{Leaf, most_directories};
-ghost use Rattle.nq_name_server.specs.Serving.{AreReady, entered, for_asker, lists_for, notice_after, notices, number_for, own_told, reads_dir, replied, warnings};
+ghost use Rattle.nq_name_server.specs.Serving.{AreReady, entered, for_asker, lists_for, notice_after, notices, number_for, own_again, own_told, reads_dir, replied, warnings};
 ghost use Rattle.nq_evict.specs.Telling.{own_rows};
 
 use crate::notifying::notice_bytes;
@@ -108,6 +108,7 @@ impl NameServer {
     }
 
     /// Adds the reply to a READDIRLOOK, by what the lease table said, behind what its host is told about its own row.
+    #[tactic(auto, using(crate::proofs::Replying::replying))]
     fn reply(
         &mut self,
         request: &ReadDir,
@@ -143,12 +144,23 @@ impl NameServer {
         ensures sends { out.new.datagrams ≡ out.old.datagrams ++ all_sent (warnings request.now (option_map (λ v. v.items) warning)) ++ (Party.Client request.now.who.host, later.items) ∷ [] }
         ensures first { out.new.first ≡ out.old.first }
     {
-        let to = Party::Client(request.who.host);
+        self.warn(request, warning, out);
+        out.push(Party::Client(request.who.host), later).unwrap();
+    }
+
+    /// Tells the asker about its own row, if there is a DIREVICTED for it.
+    fn warn(&mut self, request: &ReadDir, warning: Option<Vec<u8>>, out: &mut Outbox)
+        requires { 1 ≤ out.old.spare }
+        ensures served { self.new ≡ record self.old { notice = notice_after self.old.notice (length (warnings request.now (option_map (λ v. v.items) warning))) } }
+        ensures sends { out.new.datagrams ≡ out.old.datagrams ++ all_sent (warnings request.now (option_map (λ v. v.items) warning)) }
+        ensures first { out.new.first ≡ out.old.first }
+        ensures spare { out.old.spare ≤ out.new.spare + 1 }
+    {
+        let notice = self.notice;
         if let Some(bytes) = warning {
-            self.notice = self.notice.wrapping_add(1);
-            out.push(to, bytes).unwrap();
+            self.notice = notice.wrapping_add(1);
+            out.push(Party::Client(request.who.host), bytes).unwrap();
         }
-        out.push(to, later).unwrap();
     }
 
     /// Asks the lease table for a reading lease on a directory.
@@ -197,11 +209,7 @@ impl NameServer {
         ensures row { own_rows result ≡ own_told request.now.who (find_row number request.now.who.host self.now.table.rows) }
         ensures host { IfSome result (λ row. row.who.host ≡ request.now.who.host) }
     {
-        let key = RowKey {
-            file: number,
-            host: request.who.host,
-        };
-        let row = self.table.row(key)?;
+        let row = self.table.row(key_of(request, number))?;
         if row.who.inc == request.who.inc && row.evicting {
             Some(row)
         } else {
@@ -212,7 +220,8 @@ impl NameServer {
     /// A directory without a number gets this one.
     fn enter(&mut self, request: &ReadDir, number: FileId)
         requires { number ≡ length self.old.directories → number < most_directories }
-        ensures { self.new ≡ record self.old { directories = entered number request.now.prefix self.old.directories } }
+        ensures entered { self.new ≡ record self.old { directories = entered number request.now.prefix self.old.directories } }
+        ensures table { self.new.table ≡ self.old.table }
     {
         if number.0 as usize == self.directories.len() {
             self.directories.push(request.prefix).unwrap();
@@ -222,17 +231,34 @@ impl NameServer {
     /// Drops the asker's row on a directory, where it is of another incarnation.
     #[tactic(auto, using(crate::proofs::Running::again_runs), unfolding(nq_model::specs::Table::with_rows))]
     fn drop_older(&mut self, request: &ReadDir, number: FileId)
-        ensures { self.new ≡ record self.old { table = for_asker self.old.table request.now.who number } }
+        ensures table { self.new ≡ record self.old { table = for_asker self.old.table request.now.who number } }
+        ensures drawn { self.new.table.drawn ≡ self.old.table.drawn }
     {
-        let key = RowKey {
-            file: number,
-            host: request.who.host,
-        };
-        if let Some(row) = self.table.row(key)
-            && row.who.inc != request.who.inc
-        {
-            self.table.drop_row(key);
+        if self.is_older(request, number) {
+            self.table.drop_row(key_of(request, number));
         }
+    }
+
+    /// Whether the asker's row on a directory is of another incarnation.
+    fn is_older(&self, request: &ReadDir, number: FileId) -> bool
+        ensures { own_again request.now.who number (find_row number request.now.who.host self.now.table.rows) self.now.table.rows
+            ≡ (if result then drop_row number request.now.who.host self.now.table.rows else self.now.table.rows) }
+    {
+        match self.table.row(key_of(request, number)) {
+            Some(row) => row.who.inc != request.who.inc,
+            None => false,
+        }
+    }
+}
+
+/// What the asker's row on a directory is looked up by.
+fn key_of(request: &ReadDir, number: FileId) -> RowKey
+    ensures file { result.file ≡ number }
+    ensures host { result.host ≡ request.now.who.host }
+{
+    RowKey {
+        file: number,
+        host: request.who.host,
     }
 }
 

@@ -1,6 +1,6 @@
 //! The server of names.
 
-ghost use Rattle.std.specs.Prelude.{◌≡◌, ◌<◌, ◌≤◌, ◌+◌, ◌^◌, None, IfOk};
+ghost use Rattle.std.specs.Prelude.{◌≡◌, ◌<◌, ◌≤◌, ◌+◌, ◌^◌, None, length, IfOk, IfSome};
 ghost use Rattle.nq_model.specs.Ask.{ask};
 ghost use Rattle.nq_name_server.specs.Served.{new_served, number_of};
 ghost use Rattle.nq_name_server.specs.Serving.{ticks, vacates};
@@ -114,7 +114,15 @@ impl NameServer {
     pub(crate) fn number_of(&self, prefix: &Prefix) -> Option<FileId>
         ensures { result ≡ number_of prefix.now self.now.directories }
     {
-        let place = self.directories.iter().position(|known| known.is(prefix))?;
+        let place = place_of(&self.directories, prefix)?;
         Some(FileId(place as u32))
     }
+}
+
+/// The place of a directory among these, if it is there.
+fn place_of(directories: &[Prefix], prefix: &Prefix) -> Option<usize>
+    ensures place { result ≡ number_of prefix.now directories.now }
+    ensures within { IfSome result (λ place. place < length directories.now) }
+{
+    directories.iter().position(|known| known.is(prefix))
 }
