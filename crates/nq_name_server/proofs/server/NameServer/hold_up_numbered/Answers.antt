@@ -2,12 +2,11 @@ use Rattle.std.proofs.Common.{true, false, sym, ap, subst, refl, ◌∙◌}
 use Rattle.nq_model.specs.Ask.{ask}
 use Rattle.nq_name_server.proofs.Holding.{read_held, unread_free}
 use Rattle.nq_name_server.specs.Sending.{IsHeld}
-use Rattle.nq_name_server.specs.Served.{Served}
 use Rattle.nq_name_server.specs.Serving.{changes_for}
 use Rattle.nq_name_server.proofs.server.NameServer.hold_up_numbered.Goals as goal
 
-pub returns-then-is_read-clause-held : goal.returns-then-is_read-clause-held
-returns-then-is_read-clause-held c =
+pub returns-in_ok-notice-clause-held : goal.returns-in_ok-notice-clause-held
+returns-in_ok-notice-clause-held c =
     let s = c.args.self.now in
     let held = read_held s c.args.who c.args.prefix.now c.args.number c.requires.number (sym c.is_read.ensures ∙ c.if-is_read.true) in
     let table = (ask s.table (changes_for s c.args.who c.args.number)).table in
