@@ -161,7 +161,7 @@ waited s new r leaf begun put-off before asked clash out out' is ready counts se
     let both : IsServed (replied s r leaf before (Asked.TryLater clash)) new out out' = record { served = counts; sends = sends ∙ last ∙ sym (ap (λ l. out.datagrams ++ l) all) } in
     subst (λ a. IsServed (replied s r leaf before a) new out out') (sym is) both
 
-pub ruleset replying = (granted_page, free_page, full_page, waited)
+pub ruleset replying = (waited)
 
 -- ---- from the first step to the last
 

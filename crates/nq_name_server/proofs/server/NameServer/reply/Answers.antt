@@ -1,5 +1,5 @@
-use Rattle.std.proofs.Common.{refl}
-use Rattle.nq_name_server.proofs.Replying.{free_page, granted_page}
+use Rattle.std.proofs.Common.{inl, inr, refl}
+use Rattle.nq_name_server.proofs.Replying.{free_page, full_page, granted_page}
 use Rattle.nq_name_server.proofs.server.NameServer.reply.Goals as goal
 
 pub returns-in-Granted-clause-replied : goal.returns-in-Granted-clause-replied
@@ -10,4 +10,7 @@ returns-in-Granted-clause-replied c =
 pub returns-in-Free-clause-replied : goal.returns-in-Free-clause-replied
 returns-in-Free-clause-replied c =
     λ leaf ready.
-    free_page c.args.self.now c.args.self.now c.args.request.now leaf c.args.replies.page.bytes c.args.replies.later.items _ c.args.asked c.args.out.now c.give_page-in-Free.new.out c.in-Free.is ready refl c.give_page-in-Free.ensures.sends
+    elim c.in-Free.is [
+      | inl free ↦ free_page c.args.self.now c.args.self.now c.args.request.now leaf c.args.replies.page.bytes c.args.replies.later.items _ c.args.asked c.args.out.now c.give_page-in-Free.new.out free ready refl c.give_page-in-Free.ensures.sends
+      | inr full ↦ full_page c.args.self.now c.args.self.now c.args.request.now leaf c.args.replies.page.bytes c.args.replies.later.items _ c.args.asked c.args.out.now c.give_page-in-Free.new.out full ready refl c.give_page-in-Free.ensures.sends
+    ]
