@@ -22,7 +22,8 @@ unwanted_draws table q none =
     past-draws table q (find (conflicts q.file q.who.host q.access) table.rows) (find_row q.file q.who.host table.rows) none
 
 -- the rows run, where they ran before
-pub again_runs : (time : ℕ) (who : Who) (number : ℕ) (own : Option Row) (rows : List Row) → RowsRun time rows → RowsRun time (own_again who number own rows)
+pub again_runs : (time : ℕ) (who : Who) (number : ℕ) (own : Option Row) (rows : List Row) → RowsRun time rows
+    → RowsRun time (own_again who number own rows)
 again_runs time who number None rows h = h
 again_runs time who number (Some row) rows h = step (row.who.inc == who.inc)
   where

@@ -20,7 +20,9 @@ module _ (prefix : List ℕ) (number host : ℕ) (rows : List Row) (i : ℕ) (ro
   told-row told =
       next-row ∙ ap (λ b. if b then row ∷ readers number host (drop (i + 1) rows) else readers number host (drop (i + 1) rows)) told
 
-  pub told-more : (xid later : ℕ) (start out out' : List (Party × List ℕ)) → conflicts number host Access.Write row ≡ true → later ≡ (xid + 1) % xid_end → start ≡ out ++ all_sent (notices prefix xid (readers number host (drop i rows))) → out' ≡ out ++ sent (notice_to prefix xid row) ∷ [] → start ≡ out' ++ all_sent (notices prefix later (readers number host (drop (i + 1) rows)))
+  pub told-more : (xid later : ℕ) (start out out' : List (Party × List ℕ)) → conflicts number host Access.Write row ≡ true
+      → later ≡ (xid + 1) % xid_end → start ≡ out ++ all_sent (notices prefix xid (readers number host (drop i rows)))
+      → out' ≡ out ++ sent (notice_to prefix xid row) ∷ [] → start ≡ out' ++ all_sent (notices prefix later (readers number host (drop (i + 1) rows)))
   told-more xid later start out out' told is-later so-far added =
       let rest = readers number host (drop (i + 1) rows) in
       so-far
@@ -29,7 +31,9 @@ module _ (prefix : List ℕ) (number host : ℕ) (rows : List Row) (i : ℕ) (ro
       ∙ ap (λ o. o ++ all_sent (notices prefix ((xid + 1) % xid_end) rest)) (sym added)
       ∙ ap (λ n. out' ++ all_sent (notices prefix n rest)) (sym is-later)
 
-  pub counted-more : (xid later count : ℕ) → conflicts number host Access.Write row ≡ true → later ≡ (xid + 1) % xid_end → count ≡ notice_after xid (length (readers number host (drop i rows))) → count ≡ notice_after later (length (readers number host (drop (i + 1) rows)))
+  pub counted-more : (xid later count : ℕ) → conflicts number host Access.Write row ≡ true → later ≡ (xid + 1) % xid_end
+      → count ≡ notice_after xid (length (readers number host (drop i rows)))
+      → count ≡ notice_after later (length (readers number host (drop (i + 1) rows)))
   counted-more xid later count told is-later so-far =
       let rest = readers number host (drop (i + 1) rows) in
       let long : length (readers number host (drop i rows)) ≡ length rest + 1 = ap length (told-row told) ∙ sym (add-one (length rest)) in
@@ -46,14 +50,18 @@ module _ (prefix : List ℕ) (number host : ℕ) (rows : List Row) (i : ℕ) (ro
   passed-row passed =
       next-row ∙ ap (λ b. if b then row ∷ readers number host (drop (i + 1) rows) else readers number host (drop (i + 1) rows)) passed
 
-  pub told-passed : (xid later : ℕ) (start out out' : List (Party × List ℕ)) → conflicts number host Access.Write row ≡ false → later ≡ xid → start ≡ out ++ all_sent (notices prefix xid (readers number host (drop i rows))) → out' ≡ out → start ≡ out' ++ all_sent (notices prefix later (readers number host (drop (i + 1) rows)))
+  pub told-passed : (xid later : ℕ) (start out out' : List (Party × List ℕ)) → conflicts number host Access.Write row ≡ false → later ≡ xid
+      → start ≡ out ++ all_sent (notices prefix xid (readers number host (drop i rows))) → out' ≡ out
+      → start ≡ out' ++ all_sent (notices prefix later (readers number host (drop (i + 1) rows)))
   told-passed xid later start out out' passed same so-far stays =
       so-far
       ∙ ap (λ rs. out ++ all_sent (notices prefix xid rs)) (passed-row passed)
       ∙ ap (λ o. o ++ all_sent (notices prefix xid (readers number host (drop (i + 1) rows)))) (sym stays)
       ∙ ap (λ n. out' ++ all_sent (notices prefix n (readers number host (drop (i + 1) rows)))) (sym same)
 
-  pub counted-passed : (xid later count : ℕ) → conflicts number host Access.Write row ≡ false → later ≡ xid → count ≡ notice_after xid (length (readers number host (drop i rows))) → count ≡ notice_after later (length (readers number host (drop (i + 1) rows)))
+  pub counted-passed : (xid later count : ℕ) → conflicts number host Access.Write row ≡ false → later ≡ xid
+      → count ≡ notice_after xid (length (readers number host (drop i rows)))
+      → count ≡ notice_after later (length (readers number host (drop (i + 1) rows)))
   counted-passed xid later count passed same so-far =
       so-far
       ∙ ap (λ rs. notice_after xid (length rs)) (passed-row passed)
