@@ -84,8 +84,8 @@ module _ (o : Outside) (Q : World × List Event → Type 0) (stays : Q (Core o))
   passing number (Some c) = holding number (holds_up o.served c.who c.prefix)
 
   reading-in : (r : ReadDir) (phase : Phase) → Q (Core (reads_in o r phase))
-  reading-in r serving = quiet _ (core-served o (reads_dir o.served r (leaf_behind r.prefix r.after o.world.server.kept.files)))
-  reading-in r (recovering until heard last) = quiet _ (core-served o (record { served = o.served; sends = puts_off r ∷ [] }))
+  reading-in r serving = quiet (served_as o (reads_dir o.served r (leaf_behind r.prefix r.after o.world.server.kept.files))) (core-served o (reads_dir o.served r (leaf_behind r.prefix r.after o.world.server.kept.files)))
+  reading-in r (recovering until heard last) = quiet (served_as o (record { served = o.served; sends = puts_off r ∷ [] })) (core-served o (record { served = o.served; sends = puts_off r ∷ [] }))
 
   either : (b : Bool) (u : Outside) → Q (Core u) → Q (Core (if b then u else o))
   either true u h = h
@@ -112,7 +112,7 @@ module _ (o : Outside) (Q : World × List Event → Type 0) (stays : Q (Core o))
   at-server p (Party.Client host) = serving-packet host p p.is
 
   hearing : (host : ℕ) (bytes : List ℕ) (n : Option Names) (c : Option Client) → Q (Core (heard_by o host bytes n c))
-  hearing host bytes (Some n) (Some c) = quiet _ (core-asked o host (heard n bytes c.term c.now))
+  hearing host bytes (Some n) (Some c) = quiet (asks_as o host (heard n bytes c.term c.now)) (core-asked o host (heard n bytes c.term c.now))
   hearing host bytes None c = stays
   hearing host bytes (Some n) None = stays
 
