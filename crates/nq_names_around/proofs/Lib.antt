@@ -1,0 +1,3 @@
+pub mod Travelling
+pub mod Sending
+pub mod Taking
