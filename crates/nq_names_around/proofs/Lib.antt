@@ -1,3 +1,3 @@
-pub mod Travelling
+pub mod Together
 pub mod Sending
 pub mod Taking

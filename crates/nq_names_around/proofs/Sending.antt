@@ -1,5 +1,5 @@
 -- What is still to go out shows in the same way before it goes and after.
-use Rattle.std.proofs.Common.{◌≡◌, ℕ, zero, suc, ◌+◌, ◌<◌, ◌≤◌, List, [], ◌∷◌, ◌++◌, length, drop, map, Option, Some, None, refl, sym, ap, ◌∙◌, arith}
+use Rattle.std.proofs.Common.{◌≡◌, ℕ, zero, suc, ◌+◌, ◌<◌, List, [], ◌∷◌, length, drop, map, Option, Some, None, refl, sym, ap, ◌∙◌, arith}
 use Rattle.std.proofs.lemmas.List.{drop_more}
 use Rattle.std.proofs.lemmas.Option.{get_or_from_slice_get, slice_get_within, slice_get-map}
 use Rattle.std.specs.Option.{option_map}
@@ -9,8 +9,7 @@ use Rattle.nq_base.specs.declared.Party.{Party}
 use Rattle.nq_model.specs.Message.{Packet}
 use Rattle.nq_model.specs.World.{World}
 use Rattle.nq_net.specs.Packets.{Datagram}
-use Rattle.nq_names_run.specs.Outer.{Outer, Outside}
-use Rattle.nq_names_run.specs.Outside.{beside, sends, sends_all}
+use Rattle.nq_names_run.specs.Outside.{sends, sends_all}
 use Rattle.nq_world.specs.Shown.{datagram}
 use Rattle.nq_names_around.specs.Around.{AroundOver, flushed_as, flushed_one, once_sent, over, sent_one, shown, with_due}
 

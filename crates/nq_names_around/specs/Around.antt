@@ -80,6 +80,11 @@ abbrev pub to_server : Option (List ℕ) → List (Party × List ℕ)
 to_server None = []
 to_server (Some bytes) = (Party.Server, bytes) ∷ []
 
+-- the host at a place came to keep these names, and sends a datagram, if there is one
+pub record IsAsked (old new : List Names) (place : ℕ) (sent : Option (List ℕ)) (asks : Asks) : Type 0 where
+  pub keeps : new ≡ slice_set old place asks.names
+  pub sends : sent ≡ asks.sends
+
 -- a host keeps these names, and what it sends is due
 abbrev pub asked_as : AroundOver → (host : ℕ) → Asks → AroundOver
 asked_as a host asks =

@@ -81,7 +81,7 @@ impl Around {
     }
 
     /// How many packets have gone out.
-    #[tactic(auto, using(crate::proofs::Travelling::length_travelling))]
+    #[tactic(auto, using(crate::proofs::Together::length_travelling))]
     pub fn sent(&self) -> u64
         ensures { result ≡ length self.now.sent }
     {
@@ -89,7 +89,7 @@ impl Around {
     }
 
     /// The packets that have gone out.
-    #[tactic(auto, using(crate::proofs::Travelling::datagrams_travelling))]
+    #[tactic(auto, using(crate::proofs::Together::datagrams_travelling))]
     pub fn packets(&self) -> &Packets
         ensures { result.now.datagrams ≡ map datagram_of self.now.sent }
     {
@@ -101,7 +101,7 @@ impl Around {
     /// # Errors
     ///
     /// Only want of memory.
-    #[tactic(auto, using(crate::proofs::Travelling::at_travelling))]
+    #[tactic(auto, using(crate::proofs::Together::at_travelling))]
     pub fn read(&self, number: u64) -> Result<Travelling, NoMemory>
         requires { number < length self.now.sent }
         ensures { IfOk result (λ p. slice_get self.now.sent number ≡ Some p) }

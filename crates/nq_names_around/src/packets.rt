@@ -63,7 +63,7 @@ pub(crate) fn inner_at(inner: &Vec<Option<u64>>, number: u64) -> Option<&Option<
 }
 
 /// Adds a packet to those that travel: the inner packet of this number, or none of the inner world.
-#[tactic(auto, using(crate::proofs::Travelling::travelling_more))]
+#[tactic(auto, using(crate::proofs::Together::travelling_more))]
 pub(crate) fn push(
     packets: &mut Packets,
     inner: &mut Vec<Option<u64>>,

@@ -1,6 +1,6 @@
-use Rattle.std.proofs.Common.{◌≡◌, ◌∙◌, ◌++◌, Some, ap, sym}
+use Rattle.std.proofs.Common.{◌∙◌, ◌++◌, ap, sym}
 use Rattle.std.specs.Prelude.{slice_get}
-use Rattle.nq_names_around.proofs.Travelling.{at_travelling, read-is}
+use Rattle.nq_names_around.proofs.Together.{at_travelling, read-is}
 use Rattle.nq_names_around.specs.Around.{AroundOver}
 use Rattle.nq_names_around.proofs.around.Around.read.Goals as goal
 
