@@ -8,7 +8,7 @@ use Rattle.nq_name_cache.specs.Asking.{Asks}
 use Rattle.nq_name_server.specs.Sending.{all_sent}
 use Rattle.nq_name_server.specs.Serving.{Serves, ToHost}
 use Rattle.nq_names_run.specs.Outer.{Outside}
-use Rattle.nq_names_run.specs.Outside.{asks_as, sends, sends_from, sends_these, served_as}
+use Rattle.nq_names_run.specs.Outside.{asks_as, beside, sends, sends_from, sends_these, served_as}
 use Rattle.nq_names_around.specs.Around.{AroundOver, asked_as, once_sent, over, served_by, to_server, with_due}
 
 -- behind all that went out, only what was added is left
@@ -24,11 +24,11 @@ pub asked_shows : (w : World) (ran : List Event) (a : AroundOver) (host : ℕ) (
 unfolding asks_as
 asked_shows w ran a host asks = asked (over w ran (asked_as a host asks)) host asks.sends
 
-served : (o : Outside) (ds : List ToHost) → with_due Party.Server (all_sent ds) o ≡ sends_these o ds
-served o [] = refl
-served o (d ∷ ds) = served _ ds
+served : (ds : List ToHost) (o : Outside) → with_due Party.Server (all_sent ds) o ≡ sends_these o ds
+served [] o = refl
+served (d ∷ ds) o = served ds (sends o (beside Party.Server (Party.Client d.host) d.bytes))
 
 -- a server that answers
 pub served_shows : (w : World) (ran : List Event) (a : AroundOver) (s : Serves) → once_sent w ran (served_by a s) ≡ served_as (over w ran a) s
 unfolding served_as
-served_shows w ran a s = served (over w ran (served_by a s)) s.sends
+served_shows w ran a s = served s.sends (over w ran (served_by a s))

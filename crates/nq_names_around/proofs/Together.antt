@@ -31,5 +31,6 @@ travelling_more (x ∷ ds) [] d s same = absurd (omega arith)
 travelling_more (x ∷ ds) (y ∷ inner) d s same = ap (λ l. outer_of x y ∷ l) (travelling_more ds inner d s (omega arith))
 
 -- a packet that was read
-pub read-is : (sent : List Outer) (k : ℕ) (d : Datagram) (sender to : Party) (bytes : List ℕ) (inner : Option ℕ) → slice_get sent k ≡ Some (outer_of d inner) → sender ≡ d.sender → to ≡ d.to → bytes ≡ d.bytes → slice_get sent k ≡ Some (record { sender = sender; to = to; bytes = bytes; is = inner })
-read-is sent k d sender to bytes inner there s t b = rw (s, t, b) there
+pub read-is : (sent : List Outer) (k : ℕ) (d : Datagram) (from to : Party) (bytes : List ℕ) (inner : Option ℕ) → slice_get sent k ≡ Some (outer_of d inner)
+    → from ≡ d.sender → to ≡ d.to → bytes ≡ d.bytes → slice_get sent k ≡ Some (record { sender = from; to = to; bytes = bytes; is = inner })
+read-is sent k d from to bytes inner there s t b = rw (s, t, b) there

@@ -47,9 +47,9 @@ abbrev pub over : World → List Event → AroundOver → Outside
 over w ran a = record { world = w; served = a.served; sides = a.sides; sent = a.sent; ran = ran }
 
 -- what is due goes out
-abbrev pub with_due : (sender : Party) → List (Party × List ℕ) → Outside → Outside
-with_due sender [] o = o
-with_due sender (d ∷ ds) o = with_due sender ds (sends o (beside sender d.0 d.1))
+abbrev pub with_due : (from : Party) → List (Party × List ℕ) → Outside → Outside
+with_due from [] o = o
+with_due from (d ∷ ds) o = with_due from ds (sends o (beside from d.0 d.1))
 
 -- the same, once what is due has gone out
 abbrev pub once_sent : World → List Event → AroundOver → Outside

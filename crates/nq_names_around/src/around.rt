@@ -241,8 +241,11 @@ impl Around {
         let Some((to, bytes)) = self.due.get(self.flushed) else {
             return Ok(());
         };
+        let Some(flushed) = self.flushed.checked_add(1) else {
+            return Err(NoMemory::Memory);
+        };
         push(&mut self.packets, &mut self.inner, sender, to, bytes, None)?;
-        self.flushed += 1;
+        self.flushed = flushed;
         Ok(())
     }
 }

@@ -6,6 +6,7 @@
 #![tactic(auto)]
 
 mod around;
+mod hosts;
 mod packets;
 
 pub use around::Around;
