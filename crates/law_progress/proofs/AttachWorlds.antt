@@ -573,7 +573,7 @@ module _ (most : ℕ) (head : Head) (p : Play) (l : IsLawful most head p) (few :
           (rounds-on most head host xid c.who small more (calm_rounds 3 p) (rounds most head 3 p l) (three-rounds most head host xid c.who small p l second third s))
 
       by : (b : Bool) → c.attached ≡ b → d.attached ≡ true
-      by true yes = on 0 (starts-on most head host 0 c.who small p.world c at yes)
+      by true attached = on 0 (starts-on most head host 0 c.who small p.world c at attached)
       by false off =
           let a = (calls-go-on head p.events host c there).attaching off in
           let past = (((run-holds head p.events).clients host c there).alone.asking.ticketed a.ticket a.under_way).past in

@@ -1,11 +1,11 @@
 -- A calm round in which fewer deliveries are enough is the same: so some schedule's rounds are computed.
 use Rattle.std.proofs.Common.{◌≡◌, ◌≤◌, ℕ, ◌+◌, ◌&&◌, Bool, true, false, zero, suc, List, [], ◌∷◌, length, refl, sym, ap, subst, ◌∙◌, arith}
-use Rattle.std.specs.Prelude.{slice_get}
+use Rattle.std.specs.Prelude.{All, slice_get}
 use Rattle.std.proofs.lemmas.Bool.{and_parts}
 use Rattle.nq_base.specs.Block.{filled, zeros}
 use Rattle.nq_base.specs.declared.Call.{Call}
 use Rattle.nq_base.specs.declared.Event.{Event}
-use Rattle.nq_promises.specs.Bounds.{KeepsBounds}
+use Rattle.nq_promises.specs.Bounds.{KeepsBounds, BootsWithin}
 use Rattle.nq_model.specs.Lines.{Play, play_flow, flow_first, play_rounds}
 use Rattle.nq_model.specs.Skew.{is_within_skew}
 use Rattle.nq_model.specs.World.{Head}
@@ -67,13 +67,17 @@ module _ (most : ℕ) (head : Head) where
 
 -- ---- the schedule that needs half
 
+-- none of its crashes but one, with a longest term of 6
+late-boots : All (BootsWithin 6) late_events
+late-boots =
+    one-first 6 (Event.Call 2 (Call.WriteSync 1 0 (filled 7))) (Event.Call 0 (Call.Read 1 0) ∷ Event.ClientTick 1 ∷ Event.Call 1 (Call.Read 1 0) ∷ Event.Crash 6 ∷ []) tt
+    (one-first 6 (Event.Call 0 (Call.Read 1 0)) (Event.ClientTick 1 ∷ Event.Call 1 (Call.Read 1 0) ∷ Event.Crash 6 ∷ []) tt
+    (one-first 6 (Event.ClientTick 1) (Event.Call 1 (Call.Read 1 0) ∷ Event.Crash 6 ∷ []) tt
+    (one-first 6 (Event.Call 1 (Call.Read 1 0)) (Event.Crash 6 ∷ []) tt
+    (one-first 6 (Event.Crash 6) [] (omega arith, omega arith) (λ k d below. absurd (omega arith))))))
+
 late-bounds : KeepsBounds 6 late_head late_events
-late-bounds = record {
-  hosts = omega arith;
-  first_long = omega arith;
-  first_short = omega arith;
-  boots = one-first 6 (Event.Call 2 (Call.WriteSync 1 0 (filled 7))) _ tt (one-first 6 (Event.Call 0 (Call.Read 1 0)) _ tt (one-first 6 (Event.ClientTick 1) _ tt (one-first 6 (Event.Call 1 (Call.Read 1 0)) _ tt (one-first 6 (Event.Crash 6) [] (omega arith, omega arith) (λ k d below. absurd (omega arith))))));
-}
+late-bounds = record { hosts = omega arith; first_long = omega arith; first_short = omega arith; boots = late-boots }
 
 late-within : is_within_skew 3 6 late_events ≡ true
 unfolding filled zeros

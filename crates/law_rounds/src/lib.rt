@@ -1,0 +1,2 @@
+//! What holds of each calm round: who asks is answered in the delivery in which he asks.
+#![tactic(auto)]
