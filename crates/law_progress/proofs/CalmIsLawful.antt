@@ -26,7 +26,7 @@ module _ (most : ℕ) (head : Head) where
   }
 
   -- an event that is no boot and no tick of the server's clock
-  played-quiet : (p : Play) (e : Event) → BootsWithin most e → is_server_tick e ≡ 0 → IsLawful most head p → IsLawful most head (play p e)
+  pub played-quiet : (p : Play) (e : Event) → BootsWithin most e → is_server_tick e ≡ 0 → IsLawful most head p → IsLawful most head (play p e)
   played-quiet p e boots quiet l = played p e boots l (quiet-within head.hosts most e p.events quiet l.within)
 
   first-flows : (fresh : List ℕ) (p : Play) → IsLawful most head p → IsLawful most head (flow_first fresh p)

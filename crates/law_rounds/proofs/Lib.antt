@@ -5,3 +5,6 @@ pub mod ServerAnswers
 pub mod LineSteps
 pub mod ClientTickets
 pub mod Lines
+pub mod Asking
+pub mod Coming
+pub mod Flows

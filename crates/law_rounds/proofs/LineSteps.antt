@@ -1,15 +1,18 @@
 -- What a datagram makes of the line of a host: a request was decided, with a verdict that it can have; or a later incarnation begins.
 use Rattle.std.proofs.Common.{◌≡◌, ◌≢◌, ◌≤◌, ◌<◌, ℕ, ◌==◌, Bool, true, false, List, [], ◌∷◌, Option, Some, None, length, refl, sym, subst, ap, ◌∙◌, arith}
+use Rattle.nq_base.specs.declared.Access.{Access}
 use Rattle.nq_base.specs.declared.HostRow.{HostRow}
 use Rattle.nq_base.specs.declared.Request.{Request}
 use Rattle.nq_base.specs.declared.Verdict.{Verdict}
 use Rattle.nq_base.specs.declared.Who.{Who}
+use Rattle.nq_model.specs.Ask.{marked}
 use Rattle.nq_model.specs.Decide.{Decision, decides, creates, writes_through, stores, wrote, stores_recovering, resizes, removes, puts_off, commits, row_after}
 use Rattle.nq_model.specs.Kept.{Kept, host_row, with_row, with_files, with_new_file}
 use Rattle.nq_model.specs.Message.{Datagram, request, asker, sequence_of}
 use Rattle.nq_model.specs.Profile.{most_hosts}
 use Rattle.nq_model.specs.Server.{Server, ServerStep, quiet, drops, says, after_notices, keeping, keeping_with, with_table}
 use Rattle.nq_model.specs.ServerStep.{receive, row_of_attach, attaches, tells_later, serves, leases, vacates}
+use Rattle.nq_model.specs.Table.{with_rows}
 use Rattle.walk_server.proofs.KeptChanges.{own-line, other-line, same-lines}
 use Rattle.walk_server.proofs.Rows.{same-number, number-same}
 use Rattle.walk_server.proofs.ServerCases.{server-hears}
@@ -87,7 +90,7 @@ module _ (s : Server) (sender next : ℕ) (d : Datagram) (host : ℕ) (long : le
     leasing_full = λ x w want f e asking c none room. line_same refl;
     leasing = λ x w want f row term e asking c g. line_same refl;
     declining = λ x w seq r v e by sq fresh declined. goes-decided s.kept (decides s v) x seq w r refl e by sq fresh (declined-fair s w r v declined);
-    putting_off_change = λ x w seq r f clash e by sq file base changing c. goes-decided s.kept (puts_off s w f.id _) x seq w r refl e by sq changing.fresh (fair-later r base);
+    putting_off_change = λ x w seq r f clash e by sq file base changing c. goes-decided s.kept (puts_off s w f.id (with_rows s.table (marked f.id w.host Access.Write s.table.rows))) x seq w r refl e by sq changing.fresh (fair-later r base);
     creating = λ x w seq blocks name e fresh serves can. goes-decided _ (creates s name blocks) x seq w _ refl e refl refl fresh refl;
     writing_through = λ x w seq block first last body f e changing below c. goes-decided _ (writes_through s w f block first body) x seq w _ refl e refl refl changing.fresh refl;
     storing = λ x w seq block first last base body f row e changing below can. goes-decided _ (stores s w f row block first last body) x seq w _ refl e refl refl changing.fresh refl;

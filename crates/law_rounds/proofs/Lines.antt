@@ -8,7 +8,7 @@ use Rattle.nq_base.specs.declared.Request.{Request}
 use Rattle.nq_base.specs.declared.Verdict.{Verdict}
 use Rattle.nq_base.specs.declared.Who.{Who}
 use Rattle.nq_model.specs.Client.{Client, ClientStep, Ticket}
-use Rattle.nq_model.specs.ClientStep.{restart, starts, fresh_client, attached_client}
+use Rattle.nq_model.specs.ClientStep.{client_call, client_tick, restart, starts, fresh_client, attached_client}
 use Rattle.nq_model.specs.Kept.{host_row}
 use Rattle.nq_model.specs.Message.{Message, Packet, Datagram, request, datagram_of, asker, sequence_of}
 use Rattle.nq_model.specs.Server.{Server, ServerStep}
@@ -39,8 +39,8 @@ pub record Lined (c : Client) (line : HostRow) : Type 0 where
 
 -- ---- a step of a client
 
-stepped : (c : Client) (t : ClientStep) (line : HostRow) → Renewed c c.ticket t → Lined c line → Lined t.client line
-stepped c t line g l = record {
+stepped : (c : Client) (now : ℕ) (t : ClientStep) (line : HostRow) → Renewed c now c.ticket t → Lined c line → Lined t.client line
+stepped c now t line g l = record {
   positive = let up = g.grows in let one = l.positive in omega arith;
   drawn = g.last;
   below = λ same. let up = g.grows in let low = l.below (same ∙ ap (λ (w : Who). w.inc) g.same) in omega arith;
@@ -49,7 +49,7 @@ stepped c t line g l = record {
   where
     by : (v : Ticket) (n : ℕ) → sequence_of v.request ≡ Some n → line.inc ≡ c.who.inc → line.seq ≡ n → TicketIs c.ticket c.seq t.sends v → fair v.request line.verdict ≡ true
     by v n sq same is (kept was) = l.verdict v n was sq same is
-    by v n sq same is (resent u was xid request i) = subst (λ r. fair r line.verdict ≡ true) request (l.verdict u n was (ap sequence_of request ∙ sq) same is)
+    by v n sq same is (resent u was xid of i) = subst (λ r. fair r line.verdict ≡ true) of (l.verdict u n was (ap sequence_of of ∙ sq) same is)
     by v n sq same is (fresh i above) = let up = above n sq in let low = l.below same in absurd (omega arith)
 
 restarted : (c : Client) (line : HostRow) → line.inc ≤ c.who.inc → Lined (restart c).client line
@@ -66,8 +66,12 @@ restarted c line past = record {
 same-lined : (c : Client) (before after : HostRow) → after ≡ before → Lined c before → Lined c after
 same-lined c before after same l = subst (λ r. Lined c r) (sym same) l
 
+crash-line : (s : Server) (longest host : ℕ) → host_row (crash s longest).server.kept host ≡ host_row s.kept host
+unfolding crash boot
+crash-line s longest host = booted-line s.kept longest host (s.kept.opened == 0) refl
+
 module _ (most : ℕ) (head : Head) where
-  F : ℕ → Client → World → Type 0
+  abbrev F : ℕ → Client → World → Type 0
   F host c w = Lined c (host_row w.server.kept host)
 
   module _ (events : List Event) (p : Packet) (during : KeepsBounds most head events) (within : IsWithinSkew head.hosts most events) (k : ℕ) (sent : slice_get (run head events).packets k ≡ Some p) (to : p.to ≡ Party.Server) where
@@ -126,7 +130,7 @@ module _ (most : ℕ) (head : Head) where
 
   server-lined : (v : World) (t : ServerStep) → ((host : ℕ) (c : Client) → slice_get v.clients host ≡ Some c → Lined c (host_row v.server.kept host) → Lined c (host_row t.server.kept host)) → OfClients F v → OfClients F (after_server v t)
   unfolding after_server
-  server-lined v t moves all host c is = moves host c is (all host c is)
+  server-lined v t goes all host c is = goes host c is (all host c is)
 
   client-lined : (v : World) (host : ℕ) (c : Client) (t : ClientStep) → slice_get v.clients host ≡ Some c → (Lined c (host_row v.server.kept host) → Lined t.client (host_row v.server.kept host)) → OfClients F v → OfClients F (after_client v host t)
   unfolding after_client
@@ -135,13 +139,13 @@ module _ (most : ℕ) (head : Head) where
   keeps : Keeps most head (OfClients F)
   keeps = record {
     starts = λ bounds host c is. first-lined host c is;
-    called = λ events host c op during at all. client-lined (run head events) host c _ at (λ l. stepped c _ (host_row (run head events).server.kept host) (call-renews c op ((run-holds head events).clients host c at).alone l.drawn) l) all;
-    ticked = λ events host c during at all. client-lined (run head events) host c _ at (λ l. stepped c _ (host_row (run head events).server.kept host) (tick-renews c ((run-holds head events).clients host c at).alone l.drawn) l) all;
-    restarted = λ events host c during at all. client-lined (run head events) host c _ at (λ l. restarted c (host_row (run head events).server.kept host) ((run-runs most head events during.bounds during.within).known.clients host c at).lined.past) all;
+    called = λ events host c op during at all. client-lined (run head events) host c (client_call c op) at (λ l. stepped c c.now (client_call c op) (host_row (run head events).server.kept host) (call-renews c op ((run-holds head events).clients host c at).alone l.drawn) l) all;
+    ticked = λ events host c during at all. client-lined (run head events) host c (client_tick c (c.now + 1)) at (λ l. stepped c (c.now + 1) (client_tick c (c.now + 1)) (host_row (run head events).server.kept host) (tick-renews c ((run-holds head events).clients host c at).alone l.drawn) l) all;
+    restarted = λ events host c during at all. client-lined (run head events) host c (restart c) at (λ l. restarted c (host_row (run head events).server.kept host) ((run-runs most head events during.bounds during.within).known.clients host c at).lined.past) all;
     heard = λ events k p host c t during sent to at hears all.
         let i = in-get (run head events).packets k p sent in
         let h = run-holds head events in
-        client-lined (run head events) host c t at (λ l. stepped c t (host_row (run head events).server.kept host) (hear-renews host c (run head events).packets k p.message t (h.clients host c at) (to-told (run head events).packets p host (h.sent p i) to i) l.drawn hears) l) all;
+        client-lined (run head events) host c t at (λ l. stepped c c.now t (host_row (run head events).server.kept host) (hear-renews host c (run head events).packets k p.message t (h.clients host c at) (to-told (run head events).packets p host (h.sent p i) to i) l.drawn hears) l) all;
     received = λ events k p during sent to all.
         let w = run head events in
         server-lined w (receive w.server (sending_host p.sender) (length w.packets) (datagram_of p.message)) (λ host c at l.
@@ -154,10 +158,6 @@ module _ (most : ℕ) (head : Head) where
         let w = run head events in
         server-lined w (crash w.server longest) (λ host c at l. same-lined c (host_row w.server.kept host) _ (crash-line w.server longest host) l) all;
   }
-    where
-      crash-line : (s : Server) (longest host : ℕ) → host_row (crash s longest).server.kept host ≡ host_row s.kept host
-      unfolding crash boot
-      crash-line s longest host = booted-line s.kept longest host (s.kept.opened == 0) refl
 
 -- in every run within skew
 pub run-lined : (most : ℕ) (head : Head) (events : List Event) → KeepsBounds most head events → IsWithinSkew head.hosts most events → (host : ℕ) (c : Client) → slice_get (run head events).clients host ≡ Some c → Lined c (host_row (run head events).server.kept host)

@@ -128,5 +128,5 @@ module _ (s : Server) (sender next xid : ℕ) (r : Request) (who : Who) (job : J
         λ x w seq block first final base body f until heard last e fresh recovers found below boot rev some.
         decided x w (Request.Write w seq f.id block first final (Some base) body) e refl _ [] seq _ Verdict.Done refl refl refl;
     resizing = λ x w seq q blocks f e changing can c some. decided x w (Request.Resize w seq q f.id blocks) e refl _ [] seq _ Verdict.Done refl refl refl;
-    removing = λ x w seq q f e changing c some. decided x w (Request.Remove w seq q f.id) e refl _ [] seq _ Verdict.Done refl refl refl;
+    removing = λ x w seq q f e changing c some. decided x w (Request.Remove w seq q f.id) e refl _ [] seq 0 Verdict.Done refl refl refl;
   })
