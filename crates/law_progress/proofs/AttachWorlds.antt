@@ -17,9 +17,9 @@ use Rattle.nq_model.specs.Lines.{Play, play, play_flow, flow_first, play_hosts, 
 use Rattle.nq_model.specs.Message.{Message, Packet, call, reply, datagram_of}
 use Rattle.nq_model.specs.Profile.{patience, inc_end}
 use Rattle.nq_model.specs.Stepped.{most_events}
-use Rattle.law_bounds.proofs.WorldNumbers.{DrawnUpTo, drawn-up-to}
-use Rattle.nq_model.specs.Server.{Server, ServerStep, to_host}
-use Rattle.nq_model.specs.ServerStep.{receive, tick}
+use Rattle.law_bounds.proofs.WorldNumbers.{drawn-up-to}
+use Rattle.nq_model.specs.Server.{ServerStep, to_host}
+use Rattle.nq_model.specs.ServerStep.{receive}
 use Rattle.nq_model.specs.World.{Head, World, from_host, after_server, after_client, at_client, after_hearing, sending_host, deliver, deliver_to, deliver_to_client, step, run}
 use Rattle.law_leases.proofs.LeaseIntervals.{run-runs}
 use Rattle.walk_client.proofs.ClientFacts.{Alone}
@@ -29,15 +29,14 @@ use Rattle.walk_run.proofs.Packets.{In, in-left, in-right, in-get, Told}
 use Rattle.walk_run.proofs.Steps.{Changes, nothing, by_client, by_server, step-changes}
 use Rattle.walk_run.proofs.Worlds.{Holds, run-holds, get-set-other, set-there, to-told}
 use Rattle.walk_server.proofs.Rows.{same-number, number-same}
-use Rattle.walk_server.proofs.ServerMoves.{tick-moves}
 use Rattle.walk_server.proofs.Tests.{is-below, is-not-below}
 use Rattle.law_progress.specs.AttachedSoon.{IsAttached, AttachedSoon}
 use Rattle.law_progress.specs.CalmRound.{calm_round, calm_rounds}
-use Rattle.law_deliveries.specs.DeliveryEnds.{AreUnderWay, calmed, enough_deliveries, IsDelivered}
+use Rattle.law_deliveries.specs.DeliveryEnds.{calmed, enough_deliveries, IsDelivered}
 use Rattle.law_progress.specs.CalmRoundsAreLawful.{IsLawful}
 use Rattle.law_progress.proofs.Attaching.{hear-stays, tick-stays, hear-attaches, hears-attach, attach-answered, TickedOff, tick-off}
 use Rattle.law_calm.proofs.ClientCount.{client-count}
-use Rattle.law_progress.proofs.CalmIsLawful.{calm-is-lawful, flows, calm-round, rounds}
+use Rattle.law_progress.proofs.CalmIsLawful.{flows, calm-round, rounds}
 use Rattle.law_calm.proofs.GoingOn.{calls-go-on}
 use Rattle.law_calm.proofs.HostsBelow.{get-below}
 use Rattle.law_progress.proofs.CalmEnds.{calm-delivers}
@@ -553,7 +552,7 @@ get-there [] i below = absurd (omega arith)
 get-there (x ∷ xs) zero below = (x, refl)
 get-there (x ∷ xs) (suc i) below = get-there xs i (omega arith)
 
-rounds-more : (n k : ℕ) (p : Play) → calm_rounds (n + k) p ≡ calm_rounds k (calm_rounds n p)
+pub rounds-more : (n k : ℕ) (p : Play) → calm_rounds (n + k) p ≡ calm_rounds k (calm_rounds n p)
 rounds-more zero k p = let e : zero + k ≡ k = omega arith in ap (λ m. calm_rounds m p) e
 rounds-more (suc n) k p = let e : suc n + k ≡ suc (n + k) = omega arith in ap (λ m. calm_rounds m p) e ∙ rounds-more n k (calm_round p)
 

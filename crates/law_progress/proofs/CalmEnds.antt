@@ -1,5 +1,5 @@
 -- What is under way stands in order in each play of a calm network, so the delivery of each calm round ends.
-use Rattle.std.proofs.Common.{◌≡◌, ◌≤◌, ℕ, ◌+◌, ◌-◌, ◌==◌, ◌++◌, not, Bool, zero, suc, List, [], ◌∷◌, length, refl, sym, ap, subst, ◌∙◌, arith}
+use Rattle.std.proofs.Common.{◌≡◌, ◌≤◌, ℕ, ◌+◌, ◌-◌, ◌==◌, ◌++◌, not, Bool, zero, suc, List, [], ◌∷◌, length, sym, ap, subst, ◌∙◌, arith}
 use Rattle.std.specs.Prelude.{filter}
 use Rattle.std.proofs.lemmas.List.{length-append}
 use Rattle.nq_base.specs.declared.Event.{Event}
@@ -15,7 +15,7 @@ use Rattle.law_progress.specs.CalmRound.{calm_round, calm_rounds}
 use Rattle.law_progress.specs.CalmRoundsAreLawful.{IsLawful}
 use Rattle.law_progress.specs.DeliveryEnds.{CalmDeliveriesEnd}
 use Rattle.law_progress.proofs.CalmIsLawful.{calm-is-lawful}
-use Rattle.law_progress.proofs.QuietFlows.{Grows, grown}
+use Rattle.law_progress.proofs.QuietFlows.{grown}
 
 -- the numbers of what is under way rise, and each was sent
 abbrev pub IsRising : Play → Type 0

@@ -1,5 +1,5 @@
 -- In every run of few events: the server answers the request under way of a client by a reply that counts for it.
-use Rattle.std.proofs.Common.{◌≡◌, ◌≤◌, ◌<◌, ℕ, ◌+◌, ◌==◌, ◌&&◌, ◌++◌, nat_lt, not, Bool, true, false, List, [], ◌∷◌, Option, Some, None, if◌then◌else◌, length, refl, sym, subst, ap, ◌∙◌, arith, inl}
+use Rattle.std.proofs.Common.{◌≡◌, ◌≤◌, ◌<◌, ℕ, ◌+◌, ◌==◌, ◌&&◌, ◌++◌, nat_lt, Bool, true, false, List, [], ◌∷◌, Some, length, refl, sym, subst, ap, ◌∙◌, arith, inl}
 use Rattle.std.specs.Prelude.{slice_get}
 use Rattle.std.proofs.lemmas.Bool.{and_from}
 use Rattle.std.proofs.lemmas.Bool.Decides.{nat_tests}
@@ -7,21 +7,20 @@ use Rattle.nq_base.specs.declared.Event.{Event}
 use Rattle.nq_base.specs.declared.HostRow.{HostRow}
 use Rattle.nq_base.specs.declared.Reply.{Reply}
 use Rattle.nq_base.specs.declared.Request.{Request}
-use Rattle.nq_base.specs.declared.Row.{Row}
 use Rattle.nq_base.specs.declared.Who.{Who}
 use Rattle.nq_model.specs.Client.{Client, Job, attaching, for_call, renewing, pushing, Ticket}
 use Rattle.nq_model.specs.Hear.{inc_of, reply_counts}
 use Rattle.nq_model.specs.Kept.{host_row}
-use Rattle.nq_model.specs.Message.{Message, Packet, call, reply, request, datagram_of, asker, sequence_of}
-use Rattle.nq_model.specs.Profile.{most_hosts, inc_end}
+use Rattle.nq_model.specs.Message.{Packet, call, reply, request, datagram_of, asker, sequence_of}
+use Rattle.nq_model.specs.Profile.{most_hosts}
 use Rattle.nq_model.specs.Server.{Server, to_host, notices}
 use Rattle.nq_model.specs.ServerStep.{receive}
 use Rattle.nq_model.specs.Skew.{IsWithinSkew}
 use Rattle.nq_model.specs.Stepped.{most_events, most_sent}
-use Rattle.nq_model.specs.World.{Head, World, run}
+use Rattle.nq_model.specs.World.{Head, run}
 use Rattle.nq_promises.specs.Bounds.{KeepsBounds}
-use Rattle.nq_promises.specs.RepliesAreOwed.{has_reply, is_out_of_bounds, owes, owes_incarnation, CanBe, IsReply, IsReplied}
-use Rattle.law_bounds.proofs.WorldNumbers.{DrawnUpTo, drawn-up-to}
+use Rattle.nq_promises.specs.RepliesAreOwed.{has_reply, is_out_of_bounds, owes, CanBe}
+use Rattle.law_bounds.proofs.WorldNumbers.{drawn-up-to}
 use Rattle.law_leases.proofs.LeaseIntervals.{run-runs}
 use Rattle.law_owed.proofs.Owing.{replies-are-owed}
 use Rattle.law_progress.proofs.Attaching.{attach-answered}
@@ -30,11 +29,11 @@ use Rattle.walk_client.proofs.ClientMoves.{some-same}
 use Rattle.walk_run.proofs.Packets.{In}
 use Rattle.walk_run.proofs.Worlds.{run-holds}
 use Rattle.walk_server.proofs.Rows.{number-same}
-use Rattle.law_rounds.proofs.Fair.{counts_for, counts-same}
+use Rattle.law_rounds.proofs.Fair.{counts-same}
 use Rattle.law_rounds.proofs.Lines.{Lined, run-lined}
 use Rattle.law_rounds.proofs.LowValues.{stays-within}
 use Rattle.law_rounds.proofs.Revisions.{revisions-up-to}
-use Rattle.law_rounds.proofs.ServerAnswers.{Answers, answers-it}
+use Rattle.law_rounds.proofs.ServerAnswers.{answers-it}
 
 -- a reply is sent that counts for the request under way
 pub record AnswersTicket (who : Who) (t : Ticket) (sends : List Packet) : Type 0 where

@@ -1,16 +1,16 @@
 -- The request under way after a step of a client: it is the one before, or it was sent in the step.
-use Rattle.std.proofs.Common.{◌≡◌, ◌≤◌, ◌<◌, ◌⊎◌, ℕ, ◌+◌, true, false, List, [], ◌∷◌, ◌++◌, Option, Some, None, refl, sym, subst, ap, ◌∙◌, arith, inl, inr}
+use Rattle.std.proofs.Common.{◌≡◌, ◌≤◌, ℕ, ◌+◌, true, List, [], ◌∷◌, ◌++◌, Option, Some, None, refl, sym, subst, ap, ◌∙◌, arith, inl}
 use Rattle.nq_base.specs.declared.Call.{Call}
 use Rattle.nq_base.specs.declared.Grant.{Grant}
 use Rattle.nq_base.specs.declared.Reply.{Reply}
 use Rattle.nq_base.specs.declared.Request.{Request}
 use Rattle.nq_base.specs.declared.Tag.{Tag}
 use Rattle.nq_base.specs.declared.Who.{Who}
-use Rattle.nq_model.specs.Client.{Client, ClientStep, begun, Job, Ticket}
+use Rattle.nq_model.specs.Client.{Client, ClientStep, begun, Ticket}
 use Rattle.nq_model.specs.ClientStep.{client_call, client_tick, at_time, restart, starts, fresh_client}
 use Rattle.nq_model.specs.Hear.{inc_of, reply_counts, hear, goes_on, replied, evicted, cancels}
 use Rattle.nq_model.specs.Message.{Message, Packet, call, reply, sequence_of}
-use Rattle.walk_client.proofs.ClientCases.{Core, core_of, Closed, Both}
+use Rattle.walk_client.proofs.ClientCases.{Core, core_of, Closed}
 use Rattle.walk_client.proofs.ClientFacts.{Alone}
 use Rattle.walk_client.proofs.ClientMoves.{some-same, none-some, keeps-or-cancels}
 use Rattle.walk_client.proofs.ClientWalk.{reply-keeps, notice-keeps, call-keeps, tick-keeps}

@@ -1,5 +1,5 @@
 -- Packets under way in a play: which stay so, and which are added.
-use Rattle.std.proofs.Common.{◌≡◌, ◌≤◌, ◌<◌, ◌⊎◌, ℕ, ◌+◌, ◌-◌, ◌==◌, ◌++◌, not, Bool, true, false, zero, suc, List, [], ◌∷◌, Option, Some, None, length, refl, sym, subst, ap, ◌∙◌, arith, inl, inr}
+use Rattle.std.proofs.Common.{◌≡◌, ◌<◌, ◌⊎◌, ℕ, ◌+◌, ◌-◌, ◌==◌, ◌++◌, not, Bool, true, false, zero, suc, List, [], ◌∷◌, Option, Some, None, length, refl, sym, subst, ap, ◌∙◌, arith, inl, inr}
 use Rattle.std.specs.Prelude.{map, slice_get}
 use Rattle.std.proofs.lemmas.List.{length-append}
 use Rattle.nq_base.specs.declared.Event.{Event}
@@ -7,9 +7,9 @@ use Rattle.nq_base.specs.declared.Party.{Party}
 use Rattle.nq_model.specs.Client.{Client, ClientStep}
 use Rattle.nq_model.specs.Hear.{hear}
 use Rattle.nq_model.specs.Lines.{Play, play, delivered, numbers_from, added}
-use Rattle.nq_model.specs.Message.{Message, Packet, datagram_of}
+use Rattle.nq_model.specs.Message.{Packet, datagram_of}
 use Rattle.nq_model.specs.ServerStep.{receive}
-use Rattle.nq_model.specs.World.{World, from_host, after_client, after_server, after_hearing, sending_host, deliver, deliver_to, deliver_to_client, step}
+use Rattle.nq_model.specs.World.{World, after_client, after_server, after_hearing, sending_host, deliver, deliver_to, deliver_to_client, step}
 use Rattle.walk_client.proofs.ClientMoves.{none-some}
 use Rattle.walk_run.proofs.Members.{filter-in}
 use Rattle.walk_run.proofs.Packets.{In, in-left, in-right}

@@ -1,5 +1,5 @@
 -- Verdicts that a request can have, and that a client takes for an answer to it.
-use Rattle.std.proofs.Common.{◌≡◌, ℕ, Bool, true, false, List, Option, Some, None, refl, sym, subst, ap, ◌∙◌}
+use Rattle.std.proofs.Common.{◌≡◌, ℕ, Bool, true, false, List, Option, Some, None, refl, ap, ◌∙◌}
 use Rattle.nq_base.specs.declared.PushBase.{PushBase}
 use Rattle.nq_base.specs.declared.Refusal.{Refusal}
 use Rattle.nq_base.specs.declared.Reply.{Reply}
@@ -16,8 +16,7 @@ use Rattle.nq_model.specs.LeaseInterval.{requested_file}
 use Rattle.nq_model.specs.Message.{sequence_of}
 use Rattle.nq_model.specs.Server.{Server}
 use Rattle.walk_client.proofs.ClientFacts.{fits_job}
-use Rattle.walk_client.proofs.ClientMoves.{none-some}
-use Rattle.walk_server.proofs.ServerOutcomes.{IsDeclined, bad_length, name_taken, no_room, not_kept, outside, no_row, not_under, not_over, not_while_recovering, bad_size, no_room_to_grow, base_in, file_changed_by, only_asks}
+use Rattle.walk_server.proofs.ServerOutcomes.{IsDeclined, bad_length, name_taken, no_room, not_kept, outside, no_row, not_under, not_over, not_while_recovering, bad_size, no_room_to_grow, base_in, only_asks}
 
 -- a reply counts for a request of this job
 abbrev pub counts_for : Reply → Request → Job → Bool

@@ -1,8 +1,7 @@
 -- In a calm network each request under way is answered in the delivery in which it comes, so after the third delivery there is none.
-use Rattle.std.proofs.Common.{◌≡◌, ◌≢◌, ◌≤◌, ◌<◌, ◌⊎◌, ℕ, ◌+◌, ◌==◌, ◌&&◌, ◌++◌, nat_lt, Bool, true, false, zero, suc, List, [], ◌∷◌, Option, Some, None, length, refl, sym, subst, ap, ◌∙◌, arith, inl, inr}
+use Rattle.std.proofs.Common.{◌≡◌, ◌≢◌, ◌≤◌, ◌<◌, ◌⊎◌, ℕ, ◌+◌, ◌==◌, Bool, true, false, zero, suc, List, [], ◌∷◌, Option, Some, None, length, refl, sym, subst, ap, ◌∙◌, arith, inl, inr}
 use Rattle.std.specs.Prelude.{map, slice_get}
-use Rattle.std.proofs.lemmas.Bool.{and_from}
-use Rattle.std.proofs.lemmas.List.{append-nil, length-append}
+use Rattle.std.proofs.lemmas.List.{length-append}
 use Rattle.nq_base.specs.declared.Event.{Event}
 use Rattle.nq_base.specs.declared.Party.{Party}
 use Rattle.nq_base.specs.declared.Reply.{Reply}
@@ -14,38 +13,32 @@ use Rattle.nq_model.specs.Hear.{inc_of, reply_counts, hear, goes_on, replied, ev
 use Rattle.nq_model.specs.Lines.{Play, play, play_flow, flow_first, play_hosts, delivered}
 use Rattle.nq_model.specs.Message.{Message, Packet, call, reply, datagram_of}
 use Rattle.nq_model.specs.Profile.{patience}
-use Rattle.nq_model.specs.Server.{Server, ServerStep, to_host}
-use Rattle.nq_model.specs.ServerStep.{receive, tick}
-use Rattle.nq_model.specs.Stepped.{most_events, most_sent}
+use Rattle.nq_model.specs.Server.{to_host}
+use Rattle.nq_model.specs.ServerStep.{receive}
+use Rattle.nq_model.specs.Stepped.{most_sent}
 use Rattle.nq_model.specs.World.{Head, World, from_host, after_client, after_server, at_client, sending_host, step, run}
 use Rattle.law_calm.proofs.GoingOn.{calls-go-on}
 use Rattle.law_calm.proofs.ClientCount.{client-count}
-use Rattle.law_calm.proofs.HostsBelow.{get-below}
 use Rattle.law_deliveries.specs.DeliveryEnds.{enough_deliveries}
 use Rattle.law_progress.specs.CalmRound.{calm_round, calm_rounds}
 use Rattle.law_progress.specs.CalmRoundsAreLawful.{IsLawful}
 use Rattle.law_progress.proofs.AttachWorlds.{Comes}
-use Rattle.law_progress.proofs.CalmEnds.{IsRising, lawful-delivers, round-rising}
+use Rattle.law_progress.proofs.CalmEnds.{IsRising, lawful-delivers}
 use Rattle.law_progress.proofs.CalmIsLawful.{played-quiet, flows, calm-round, rounds}
 use Rattle.law_progress.proofs.QuietFlows.{grown}
-use Rattle.walk_client.proofs.ClientCases.{core_of}
 use Rattle.walk_client.proofs.ClientMoves.{some-same, none-some}
 use Rattle.walk_client.proofs.StepCases.{heard-cases}
-use Rattle.walk_run.proofs.Packets.{In, in-get, Told, told-same, reply-same}
+use Rattle.walk_run.proofs.Packets.{In, in-get, Told}
 use Rattle.walk_run.proofs.Steps.{step-changes}
-use Rattle.walk_run.proofs.Worlds.{IsAt, Holds, get-set-same, get-set-other, set-there, to-told, run-holds}
+use Rattle.walk_run.proofs.Worlds.{IsAt, Holds, get-set-other, set-there, to-told, run-holds}
 use Rattle.walk_server.proofs.Rows.{same-number, number-same}
+use Rattle.law_rounds.specs.RoundsEndQuiet.{IsSmall}
 use Rattle.law_rounds.proofs.Asking.{AnswersTicket, asks-answered}
-use Rattle.law_rounds.proofs.ClientTickets.{TicketIs, kept, resent, fresh, LastDrawn, Renews, Renewed, tick-renews, reply-renews, notice-renews}
+use Rattle.law_rounds.proofs.ClientTickets.{TicketIs, kept, resent, fresh, LastDrawn, Renewed, tick-renews, reply-renews, notice-renews}
 use Rattle.law_rounds.proofs.Coming.{in-map, keeps-coming, adds-coming, which-comes, Delivery, no_packet, at_server, at_host, ignored, no_client, delivery}
 use Rattle.law_rounds.proofs.Lines.{run-lined}
 
 -- ---- few events
-
--- the schedule of a play is within bounds
-pub record IsSmall (p : Play) : Type 0 where
-  pub events : length p.events ≤ most_events
-  pub packets : length p.world.packets ≤ most_sent
 
 pub small-before : (p : Play) (e : Event) → IsSmall (play p e) → IsSmall p
 small-before p e s =

@@ -8,3 +8,5 @@ pub mod Lines
 pub mod Asking
 pub mod Coming
 pub mod Flows
+pub mod Dues
+pub mod Quiet

@@ -1,5 +1,5 @@
 -- What a datagram makes of the line of a host: a request was decided, with a verdict that it can have; or a later incarnation begins.
-use Rattle.std.proofs.Common.{◌≡◌, ◌≢◌, ◌≤◌, ◌<◌, ℕ, ◌==◌, Bool, true, false, List, [], ◌∷◌, Option, Some, None, length, refl, sym, subst, ap, ◌∙◌, arith}
+use Rattle.std.proofs.Common.{◌≡◌, ◌≢◌, ◌<◌, ℕ, ◌==◌, Bool, true, false, List, Some, length, refl, sym, ap, ◌∙◌, arith}
 use Rattle.nq_base.specs.declared.Access.{Access}
 use Rattle.nq_base.specs.declared.HostRow.{HostRow}
 use Rattle.nq_base.specs.declared.Request.{Request}
@@ -17,7 +17,7 @@ use Rattle.walk_server.proofs.KeptChanges.{own-line, other-line, same-lines}
 use Rattle.walk_server.proofs.Rows.{same-number, number-same}
 use Rattle.walk_server.proofs.ServerCases.{server-hears}
 use Rattle.walk_server.proofs.ServerOutcomes.{IsFrom, IsFresh}
-use Rattle.law_rounds.proofs.Fair.{fair, fair-later, fair-done, declined-fair}
+use Rattle.law_rounds.proofs.Fair.{fair, fair-later, declined-fair}
 
 pub data LineGoes (s : Server) (sender : ℕ) (d : Datagram) (host : ℕ) (after : HostRow) : Type 0 where
   line_same : after ≡ host_row s.kept host → LineGoes s sender d host after

@@ -1,16 +1,14 @@
 -- In every run: the line of a host and the request under way of its client.
-use Rattle.std.proofs.Common.{◌≡◌, ◌≢◌, ◌≤◌, ◌<◌, ◌⊎◌, ℕ, ◌+◌, ◌==◌, Bool, true, false, List, [], ◌∷◌, Option, Some, None, length, refl, sym, subst, ap, ◌∙◌, arith, inl, inr}
+use Rattle.std.proofs.Common.{◌≡◌, ◌≤◌, ◌<◌, ℕ, ◌+◌, ◌==◌, true, List, Some, length, refl, sym, subst, ap, ◌∙◌, arith, inl, inr}
 use Rattle.std.specs.Prelude.{slice_get}
 use Rattle.nq_base.specs.declared.Event.{Event}
 use Rattle.nq_base.specs.declared.HostRow.{HostRow}
 use Rattle.nq_base.specs.declared.Party.{Party}
-use Rattle.nq_base.specs.declared.Request.{Request}
-use Rattle.nq_base.specs.declared.Verdict.{Verdict}
 use Rattle.nq_base.specs.declared.Who.{Who}
 use Rattle.nq_model.specs.Client.{Client, ClientStep, Ticket}
 use Rattle.nq_model.specs.ClientStep.{client_call, client_tick, restart, starts, fresh_client, attached_client}
 use Rattle.nq_model.specs.Kept.{host_row}
-use Rattle.nq_model.specs.Message.{Message, Packet, Datagram, request, datagram_of, asker, sequence_of}
+use Rattle.nq_model.specs.Message.{Packet, datagram_of, sequence_of}
 use Rattle.nq_model.specs.Server.{Server, ServerStep}
 use Rattle.nq_model.specs.ServerStep.{receive, tick, crash, boot, row_of_attach}
 use Rattle.nq_model.specs.Skew.{IsWithinSkew}
@@ -23,10 +21,10 @@ use Rattle.walk_leases.proofs.KnownWorlds.{first-line, first-there}
 use Rattle.walk_leases.proofs.TickLines.{tick-line}
 use Rattle.walk_run.proofs.HostLine.{IsSettled}
 use Rattle.walk_run.proofs.Packets.{In, in-get, Asked}
-use Rattle.walk_run.proofs.RunCases.{During, Keeps, OfClients, clients-after, run-keeps}
+use Rattle.walk_run.proofs.RunCases.{Keeps, OfClients, clients-after, run-keeps}
 use Rattle.walk_run.proofs.Worlds.{first-client, to-server, to-told, run-holds}
 use Rattle.walk_server.proofs.KeptChanges.{booted-line}
-use Rattle.law_rounds.proofs.ClientTickets.{TicketIs, kept, resent, fresh, LastDrawn, Renewed, call-renews, tick-renews, hear-renews, restart-renews}
+use Rattle.law_rounds.proofs.ClientTickets.{TicketIs, kept, resent, fresh, LastDrawn, Renewed, call-renews, tick-renews, hear-renews}
 use Rattle.law_rounds.proofs.Fair.{fair, fair-done}
 use Rattle.law_rounds.proofs.LineSteps.{LineGoes, line_same, line_attached, line_decided, line-goes}
 
@@ -149,8 +147,8 @@ module _ (most : ℕ) (head : Head) where
     received = λ events k p during sent to all.
         let w = run head events in
         server-lined w (receive w.server (sending_host p.sender) (length w.packets) (datagram_of p.message)) (λ host c at l.
-            moves events p during.bounds during.within k sent to host c at l _
-            (line-goes w.server (sending_host p.sender) (length w.packets) (datagram_of p.message) host (run-runs most head events during.bounds during.within).served.lines)) all;
+        moves events p during.bounds during.within k sent to host c at l _
+        (line-goes w.server (sending_host p.sender) (length w.packets) (datagram_of p.message) host (run-runs most head events during.bounds during.within).served.lines)) all;
     server_ticked = λ events during all.
         let w = run head events in
         server-lined w (tick w.server (w.server.now + 1)) (λ host c at l. same-lined c (host_row w.server.kept host) _ (tick-line w.server (w.server.now + 1) host) l) all;

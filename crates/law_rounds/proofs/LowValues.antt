@@ -12,7 +12,7 @@ use Rattle.nq_base.specs.declared.Verdict.{Verdict}
 use Rattle.nq_base.specs.declared.Who.{Who}
 use Rattle.nq_model.specs.Ask.{ask}
 use Rattle.nq_model.specs.Decide.{Decision, decides, creates, writes_through, stores, stores_recovering, resizes, removes, puts_off, to_change, unless_told, unless_conflict, decide_create, decide_push, decide_write_in, decide_write, decide_push_recovering, decide_write_recovering, decide_resize, decide_remove, decide_in, decide, row_after}
-use Rattle.nq_model.specs.Kept.{File, blocks_in_all, find_file, can_be_kept, host_row}
+use Rattle.nq_model.specs.Kept.{File, blocks_in_all, find_file, can_be_kept}
 use Rattle.nq_model.specs.Message.{sequence_of}
 use Rattle.nq_model.specs.Profile.{inc_end, seq_end, rev_end, most_files, most_blocks, most_ids}
 use Rattle.nq_model.specs.Server.{Phase, serving, recovering, Server}

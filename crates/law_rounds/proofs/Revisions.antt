@@ -8,7 +8,7 @@ use Rattle.nq_model.specs.Message.{Datagram, datagram_of}
 use Rattle.nq_model.specs.Decide.{decides, creates, writes_through, stores, wrote, stores_recovering, resizes, removes, puts_off, commits}
 use Rattle.nq_model.specs.Server.{Server, ServerStep, quiet, drops, says, after_notices, keeping, keeping_with, with_table}
 use Rattle.nq_model.specs.ServerStep.{receive, tick, crash, boot, fence, booted, attaches, tells_later, serves, leases, vacates, at_time, opens, ends_writing}
-use Rattle.nq_model.specs.World.{Head, World, sending_host, first_files, first_kept, after_client, after_server, start, step, run}
+use Rattle.nq_model.specs.World.{Head, World, sending_host, first_files, first_kept, after_client, after_server, start, run}
 use Rattle.nq_model.proofs.Finding.{choice}
 use Rattle.nq_model.proofs.FreshFits.{found-has}
 use Rattle.walk_run.proofs.Steps.{Changes, nothing, by_client, by_server, ServerActs, received, ticks, crashes, step-changes}

@@ -1,6 +1,5 @@
 -- What the server sends to a client that asks: one reply, which counts for the request.
-use Rattle.std.proofs.Common.{◌≡◌, ◌≤◌, ◌<◌, ◌⊎◌, ℕ, ◌++◌, Bool, true, false, List, [], ◌∷◌, Option, Some, None, refl, sym, subst, ap, ◌∙◌, arith, inl}
-use Rattle.nq_base.specs.declared.Grant.{Grant}
+use Rattle.std.proofs.Common.{◌≡◌, ◌≤◌, ℕ, ◌++◌, true, List, [], ◌∷◌, Some, None, refl, sym, subst, ap, ◌∙◌, arith, inl}
 use Rattle.nq_base.specs.declared.Refusal.{Refusal}
 use Rattle.nq_base.specs.declared.Reply.{Reply}
 use Rattle.nq_base.specs.declared.Request.{Request}
@@ -8,12 +7,12 @@ use Rattle.nq_base.specs.declared.Row.{Row}
 use Rattle.nq_base.specs.declared.Tag.{Tag}
 use Rattle.nq_base.specs.declared.Verdict.{Verdict}
 use Rattle.nq_base.specs.declared.Who.{Who}
-use Rattle.nq_model.specs.Client.{Job, attaching, for_call}
-use Rattle.nq_model.specs.Decide.{Decision, decides, creates, writes_through, stores, wrote, stores_recovering, resizes, removes, puts_off, commits, verdict_reply}
+use Rattle.nq_model.specs.Client.{Job, attaching}
+use Rattle.nq_model.specs.Decide.{decides, creates, writes_through, stores, wrote, stores_recovering, resizes, removes, puts_off, commits, verdict_reply}
 use Rattle.nq_model.specs.Hear.{inc_of}
 use Rattle.nq_model.specs.Kept.{blocks_of}
 use Rattle.nq_model.specs.LeaseInterval.{requested_file}
-use Rattle.nq_model.specs.Message.{Message, Packet, Datagram, request, reply, asker, sequence_of}
+use Rattle.nq_model.specs.Message.{Packet, request, reply, asker, sequence_of}
 use Rattle.nq_model.specs.Server.{Server, ServerStep, to_host, quiet, drops, says, notices}
 use Rattle.nq_model.specs.ServerStep.{receive, attaches, tells_later, serves, leases, vacates}
 use Rattle.nq_model.specs.Table.{Table}
@@ -21,8 +20,8 @@ use Rattle.walk_client.proofs.ClientFacts.{fits_job}
 use Rattle.walk_client.proofs.ClientMoves.{some-same, none-some}
 use Rattle.walk_run.proofs.Packets.{In, in-right}
 use Rattle.walk_server.proofs.ServerCases.{server-hears}
-use Rattle.walk_server.proofs.ServerOutcomes.{IsPlain, unattached, attached_again, not_yet, no_entry, entry, no_attributes, attributes, no_file, no_block, decided_again, is_old, line_of, error_for}
-use Rattle.law_rounds.proofs.Fair.{counts_for, fair, fair-counts, verdict-inc, fair-later, fair-done, declined-fair, later-counts, requested-asks, stale-counts, lookup-counts, attributes-count, block-counts, no-attach, no-vacated}
+use Rattle.walk_server.proofs.ServerOutcomes.{IsPlain, unattached, attached_again, not_yet, no_entry, entry, no_attributes, attributes, no_file, no_block, decided_again, is_old, line_of}
+use Rattle.law_rounds.proofs.Fair.{counts_for, fair, fair-counts, verdict-inc, fair-later, declined-fair, later-counts, requested-asks, stale-counts, lookup-counts, attributes-count, block-counts, no-attach, no-vacated}
 
 -- the step sends a reply to the request, which counts for it
 pub record Answers (who : Who) (xid : ℕ) (r : Request) (job : Job) (sends : List Packet) : Type 0 where

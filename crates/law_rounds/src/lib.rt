@@ -1,2 +1,11 @@
-//! What holds of each calm round: who asks is answered in the delivery in which he asks.
+//! What holds of each calm round: whoever asks is answered in the delivery in which he asks, so each delivery ends quietly. The statements
+//! stand in `specs/`, and their proofs in `proofs/`.
 #![tactic(auto)]
+
+ghost use Rattle.law_rounds.specs.RoundsEndQuiet.{RoundsEndQuiet};
+
+/// In every run, whatever is under way: from the third calm round on no client has a request under way once all is delivered. All are
+/// attached, no notice waits, and each file with delayed writes is held under a lease that goes on for more than 3 ticks.
+pub fn rounds_end_quiet()
+    ensures { RoundsEndQuiet }
+{}
