@@ -1,11 +1,13 @@
 -- From the third calm round on all clients are quiet once all is delivered.
-use Rattle.std.proofs.Common.{◌≡◌, ◌<◌, ℕ, ◌+◌, Bool, true, false, zero, suc, List, [], ◌∷◌, Option, Some, None, length, refl, sym, subst, ap, ◌∙◌, arith}
+use Rattle.std.proofs.Common.{◌≡◌, ◌≤◌, ◌<◌, ◌⊎◌, ℕ, ◌+◌, Bool, true, false, zero, suc, List, [], ◌∷◌, Option, Some, None, is_some, length, refl, sym, subst, ap, ◌∙◌, arith, inl, inr}
 use Rattle.std.specs.Prelude.{slice_get, slice_index_or}
 use Rattle.nq_base.specs.declared.Push.{Push}
-use Rattle.nq_model.specs.Client.{Client, Notice, notice_on}
+use Rattle.nq_model.specs.Client.{Client, Notice, UnderWay, notice_on}
 use Rattle.nq_model.specs.Lines.{Play}
 use Rattle.nq_model.specs.World.{Head, World, run}
+use Rattle.law_calm.specs.CallsGoOn.{GoesOn}
 use Rattle.law_calm.proofs.ClientCount.{client-count}
+use Rattle.law_calm.proofs.GoingOn.{calls-go-on}
 use Rattle.law_calm.proofs.HostsBelow.{get-below}
 use Rattle.law_chains.proofs.ChainWorlds.{chain-fits}
 use Rattle.law_deliveries.specs.DeliveryEnds.{calmed, enough_deliveries}
@@ -33,6 +35,7 @@ module _ (most : ℕ) (head : Head) where
     no_request = none;
     no_push = pushes c.push refl;
     no_notice = λ file. notices file (notice_on file c.notices) refl;
+    waits = λ u is. (pausing u is (goes.busy u is), goes.short);
     held = λ file unclean.
         let h = (chain-fits most head p.events host c l.bounds l.within there).writes.held file unclean in
         (h.0, h.1, record { writes = h.2; late = due.ending file h.0 h.1 h.2 unclean });
@@ -40,6 +43,13 @@ module _ (most : ℕ) (head : Head) where
     where
       there : slice_get (run head p.events).clients host ≡ Some c
       there = subst (λ (u : World). slice_get u.clients host ≡ Some c) l.is_run at
+
+      goes : GoesOn c
+      goes = calls-go-on head p.events host c there
+
+      pausing : (u : UnderWay) → c.call ≡ Some u → (is_some c.ticket ≡ true) ⊎ (c.now < c.pause) → c.now < c.pause
+      pausing u is (inl asks) = let no : is_some c.ticket ≡ false = ap is_some none in absurd (cc)
+      pausing u is (inr late) = late
 
       due : NoneDue c
       due = run-due head p.events host c there none

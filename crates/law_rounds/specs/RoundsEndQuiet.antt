@@ -1,9 +1,9 @@
 -- Once the network is calm, each delivery ends quietly: nobody waits for a reply, and nobody has anything to send.
 use Rattle.std.specs.Prelude.{◌≡◌, ◌≤◌, ◌<◌, ℕ, ◌+◌, true, false, List, Some, None, All, length}
 use Rattle.nq_promises.specs.Bounds.{InEveryRun}
-use Rattle.nq_model.specs.Client.{Client, Lease, lease_on, notice_on, is_clean}
+use Rattle.nq_model.specs.Client.{Client, Lease, UnderWay, lease_on, notice_on, is_clean}
 use Rattle.nq_model.specs.Lines.{Play, play_flow}
-use Rattle.nq_model.specs.Profile.{renewal}
+use Rattle.nq_model.specs.Profile.{patience, renewal}
 use Rattle.nq_model.specs.Stepped.{most_events, most_sent}
 use Rattle.nq_model.specs.Table.{is_writing}
 use Rattle.nq_model.specs.World.{run}
@@ -24,13 +24,14 @@ pub record GoesOnFor (now : ℕ) (l : Lease) : Type 0 where
   pub writes : is_writing l.mode ≡ true
   pub late : now + renewal < l.expiry
 
--- a client is attached, and has no request under way, no push and no notice that waits. Each file with delayed writes is held under a
--- lease that goes on
+-- a client is attached, and has no request under way, no push and no notice that waits. If it has an open call it pauses, for 2 ticks at
+-- the most: the call was put off. Each file with delayed writes is held under a lease that goes on
 pub record IsQuiet (c : Client) : Type 0 where
   pub attached : c.attached ≡ true
   pub no_request : c.ticket ≡ None
   pub no_push : c.push ≡ None
   pub no_notice : (file : ℕ) → notice_on file c.notices ≡ None
+  pub waits : (u : UnderWay) → c.call ≡ Some u → (c.now < c.pause) × (c.pause ≤ c.now + patience)
   pub held : (file : ℕ) → is_clean c file ≡ false → (l : Lease) × (lease_on file c.leases ≡ Some l) × GoesOnFor c.now l
 
 -- after every schedule within skew, whatever is under way: from the third calm round on all clients are quiet once all is delivered, where

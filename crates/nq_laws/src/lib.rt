@@ -40,8 +40,8 @@ pub use law_leases::{
 pub use law_legal::{reads_are_legal_in_every_run, reads_are_met};
 pub use law_owed::replies_are_owed;
 pub use law_progress::{
-    answers_stay, attached_in_recovery, attached_once_delivered, calm_rounds_are_lawful,
-    clocks_tick_once, deliveries_end_but_for_cancels, recovering_deliveries_end, some_need_half,
+    answers_stay, attached_soon, calm_deliveries_end, calm_rounds_are_lawful, clocks_tick_once,
+    deliveries_end_but_for_cancels, recovering_deliveries_end, some_need_half,
     spared_deliveries_end, stores_stay, writers_get_leases_of_use,
 };
 pub use law_refused::{only_busy_refuses, only_calls_refuse, only_deeds_refuse};
@@ -51,6 +51,7 @@ pub use law_reports::{
 pub use law_requests::{
     one_request_is_open, one_request_per_sequence, replies_come_after, requests_are_met,
 };
+pub use law_rounds::rounds_end_quiet;
 pub use law_servers::{recoveries_are_met, recovery_waits, rows_stand_apart};
 pub use law_steps::{steps_are_of_one_host, steps_rest_on_their_host};
 pub use law_synchronized::{
