@@ -10,3 +10,4 @@ pub mod Coming
 pub mod Flows
 pub mod Dues
 pub mod Quiet
+pub mod Sleeping
