@@ -11,3 +11,6 @@ pub mod Flows
 pub mod Dues
 pub mod Quiet
 pub mod Sleeping
+pub mod LastRows
+pub mod Recovering
+pub mod RecoveryRounds

@@ -158,10 +158,10 @@ refused-push t file h =
     reported gone file gone.client.call (noticed free file (notice_on file t.client.notices) (free-rest t file h))
 
 -- a grant that is over, or lets its holder write nothing
-abbrev Over : (now sent : ℕ) → Grant → Type 0
+abbrev pub Over : (now sent : ℕ) → Grant → Type 0
 Over now sent g = is_writing g.mode ≡ true → sent + g.term ≤ now
 
-abbrev AllOver : (now sent : ℕ) → Option Grant → Type 0
+abbrev pub AllOver : (now sent : ℕ) → Option Grant → Type 0
 AllOver now sent o = (g : Grant) → o ≡ Some g → Over now sent g
 
 same-now : (t : ClientStep) (file : ℕ) (g : Grant) → (if_broken t file g).client.now ≡ t.client.now

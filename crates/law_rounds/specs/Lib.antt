@@ -1,1 +1,2 @@
 pub mod RoundsEndQuiet
+pub mod RecoveriesEnd
