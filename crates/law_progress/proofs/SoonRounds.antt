@@ -26,30 +26,30 @@ stays-over : (n : ℕ) (p : Play) → p.fresh ≡ [] → play_flow n p ≡ p
 stays-over zero p none = refl
 stays-over (suc n) p none = ap (λ ns. play_flow n (flow_first ns p)) none ∙ stays-over n p none
 
-same-end : (n m : ℕ) (p : Play) → (play_flow n p).fresh ≡ [] → (play_flow m p).fresh ≡ [] → play_flow n p ≡ play_flow m p
+pub same-end : (n m : ℕ) (p : Play) → (play_flow n p).fresh ≡ [] → (play_flow m p).fresh ≡ [] → play_flow n p ≡ play_flow m p
 same-end zero m p a b = sym (stays-over m p a)
 same-end (suc n) zero p a b = stays-over (suc n) p b
 same-end (suc n) (suc m) p a b = same-end n m (flow_first p.fresh p) a b
 
 -- ---- rounds of few deliveries
 
-abbrev soon_round : Play → Play
+abbrev pub soon_round : Play → Play
 soon_round p = play_rounds 1 (play_flow (most_deliveries p) p)
 
-abbrev soon_rounds : (count : ℕ) → Play → Play
+abbrev pub soon_rounds : (count : ℕ) → Play → Play
 soon_rounds zero p = p
 soon_rounds (suc count) p = soon_rounds count (soon_round p)
 
-abbrev is_over : List ℕ → Bool
+abbrev pub is_over : List ℕ → Bool
 is_over [] = true
 is_over (k ∷ fresh) = false
 
 -- whether each of the deliveries ended
-abbrev soon_ends : (count : ℕ) → Play → Bool
+abbrev pub soon_ends : (count : ℕ) → Play → Bool
 soon_ends zero p = true
 soon_ends (suc count) p = is_over (play_flow (most_deliveries p) p).fresh && soon_ends count (soon_round p)
 
-over : (fresh : List ℕ) → is_over fresh ≡ true → fresh ≡ []
+pub over : (fresh : List ℕ) → is_over fresh ≡ true → fresh ≡ []
 over [] e = refl
 over (k ∷ fresh) e = absurd (cc)
 
@@ -58,7 +58,7 @@ module _ (most : ℕ) (head : Head) where
   unfolding calm_round
   one-soon p l r e = ap (play_rounds 1) (same-end (enough_deliveries p) (most_deliveries p) p (lawful-delivers most head p l r) (over (play_flow (most_deliveries p) p).fresh e))
 
-  all-soon : (count : ℕ) (p : Play) → IsLawful most head p → IsRising p → soon_ends count p ≡ true → calm_rounds count p ≡ soon_rounds count p
+  pub all-soon : (count : ℕ) (p : Play) → IsLawful most head p → IsRising p → soon_ends count p ≡ true → calm_rounds count p ≡ soon_rounds count p
   all-soon zero p l r e = refl
   all-soon (suc count) p l r e =
       let parts = and_parts (is_over (play_flow (most_deliveries p) p).fresh) (soon_ends count (soon_round p)) e in
@@ -83,11 +83,11 @@ late-within : is_within_skew 3 6 late_events ≡ true
 unfolding filled zeros
 late-within = refl
 
-late-lawful : IsLawful 6 late_head (calmed late_head late_events [])
+pub late-lawful : IsLawful 6 late_head (calmed late_head late_events [])
 unfolding calmed
 late-lawful = record { is_run = refl; bounds = late-bounds; within = skew-test-is-sound 3 6 late_events late-within }
 
-late-rising : IsRising (calmed late_head late_events [])
+pub late-rising : IsRising (calmed late_head late_events [])
 late-rising = calmed-rising late_head late_events [] tt
 
 ends-19 : soon_ends 19 (calmed late_head late_events []) ≡ true

@@ -1,5 +1,5 @@
 -- While the server recovers, the rows of its last table end before the recovery may, and once they are over no lease of theirs runs.
-use Rattle.std.proofs.Common.{◌≡◌, ◌≤◌, ◌<◌, ℕ, ◌+◌, ◌-◌, ◌==◌, nat_lt, max, Bool, true, false, List, [], ◌∷◌, Option, Some, None, if◌then◌else◌, length, refl, sym, subst, ap, ◌∙◌, arith}
+use Rattle.std.proofs.Common.{◌≡◌, ◌≤◌, ◌<◌, ℕ, ◌+◌, ◌-◌, ◌==◌, nat_lt, max, Bool, true, false, List, Option, Some, length, refl, sym, subst, ap, ◌∙◌, arith}
 use Rattle.std.specs.Prelude.{slice_get}
 use Rattle.nq_base.specs.declared.Event.{Event}
 use Rattle.nq_base.specs.declared.Grant.{Grant}
@@ -13,17 +13,16 @@ use Rattle.nq_model.specs.Message.{Datagram, datagram_of}
 use Rattle.nq_model.specs.Profile.{skew, write_slack}
 use Rattle.nq_model.specs.Server.{Phase, serving, recovering, Server, last_table, last_in}
 use Rattle.nq_model.specs.ServerStep.{receive, tick, crash, boot, boot_phase}
-use Rattle.nq_model.specs.Skew.{IsWithinSkew, server_ticks, ticks_of}
+use Rattle.nq_model.specs.Skew.{IsWithinSkew, ticks_of}
 use Rattle.nq_model.specs.Table.{Table, caches, is_writing, find_row}
-use Rattle.nq_model.specs.World.{Head, World, after_client, after_server, sending_host, start, run}
+use Rattle.nq_model.specs.World.{Head, after_client, after_server, sending_host, start, run}
 use Rattle.nq_promises.specs.Bounds.{KeepsBounds}
 use Rattle.law_calm.proofs.RowEnds.{rows-end-soon, recoveries-end-soon}
 use Rattle.law_leases.proofs.LeaseIntervals.{run-runs}
-use Rattle.walk_client.proofs.ClientMoves.{none-some}
-use Rattle.walk_leases.proofs.WorldClocks.{Clocked, run-clocked}
+use Rattle.walk_leases.proofs.WorldClocks.{run-clocked}
 use Rattle.walk_run.proofs.CoverFacts.{IsTakeable}
 use Rattle.walk_run.proofs.Clocks.{runs-below}
-use Rattle.walk_run.proofs.RunCases.{Keeps, During, run-keeps}
+use Rattle.walk_run.proofs.RunCases.{Keeps, run-keeps}
 use Rattle.walk_run.proofs.Worlds.{run-holds}
 use Rattle.walk_server.proofs.Rows.{choice}
 use Rattle.walk_server.proofs.ServerMoves.{server-moves, phase-moves, tick-moves}

@@ -14,3 +14,4 @@ pub mod Sleeping
 pub mod LastRows
 pub mod Recovering
 pub mod RecoveryRounds
+pub mod SomeRounds

@@ -1,6 +1,5 @@
 -- A recovery ends soon once the network is calm: the leases of the boot before end, then no client has delayed writes, and none is stored.
-use Rattle.std.proofs.Common.{◌≡◌, ◌≢◌, ◌≤◌, ◌<◌, ◌⊎◌, ℕ, ◌+◌, ◌==◌, nat_le, max, Bool, true, false, zero, suc, List, [], ◌∷◌, Option, Some, None, length, refl, sym, subst, ap, ◌∙◌, arith, inl, inr}
-use Rattle.std.specs.List.{list_any}
+use Rattle.std.proofs.Common.{◌≡◌, ◌≢◌, ◌≤◌, ◌<◌, ℕ, ◌+◌, ◌==◌, max, Bool, true, false, List, [], ◌∷◌, Option, Some, None, length, refl, sym, subst, ap, ◌∙◌, arith, inl, inr}
 use Rattle.std.specs.Prelude.{slice_get, slice_set}
 use Rattle.nq_base.specs.declared.Event.{Event}
 use Rattle.nq_base.specs.declared.Grant.{Grant}
@@ -11,31 +10,29 @@ use Rattle.nq_base.specs.declared.Reply.{Reply}
 use Rattle.nq_base.specs.declared.Request.{Request}
 use Rattle.nq_base.specs.declared.Row.{Row}
 use Rattle.nq_base.specs.declared.Who.{Who}
-use Rattle.nq_model.specs.Client.{Client, ClientStep, Job, Ticket, Lease, lease_on, is_clean, is_push_of}
-use Rattle.nq_model.specs.ClientStep.{client_tick}
+use Rattle.nq_model.specs.Client.{Client, Ticket, Lease, lease_on, is_clean}
 use Rattle.nq_model.specs.Decide.{decides, creates, writes_through, stores, wrote, stores_recovering, resizes, removes, puts_off, commits}
-use Rattle.nq_model.specs.Hear.{hear, inc_of, is_of_procedure, reply_counts}
-use Rattle.nq_model.specs.Kept.{host_row, with_files, with_new_file, with_row}
+use Rattle.nq_model.specs.Hear.{inc_of, is_of_procedure, reply_counts}
+use Rattle.nq_model.specs.Kept.{host_row, with_files, with_new_file}
 use Rattle.nq_model.specs.LeaseInterval.{grant_in, requested_file}
-use Rattle.nq_model.specs.Lines.{Play, play, play_flow, flow_first, play_hosts}
-use Rattle.nq_model.specs.Message.{Message, Packet, Datagram, call, reply, request, datagram_of, asker, sequence_of}
+use Rattle.nq_model.specs.Lines.{Play, play}
+use Rattle.nq_model.specs.Message.{Packet, Datagram, reply, request, datagram_of}
 use Rattle.nq_model.specs.Profile.{write_slack}
-use Rattle.nq_model.specs.Server.{Phase, serving, recovering, Server, ServerStep, last_table, quiet, drops, says, after_notices, keeping, keeping_with, with_table}
+use Rattle.nq_model.specs.Server.{Phase, recovering, Server, ServerStep, last_table, quiet, drops, says, after_notices, keeping, keeping_with, with_table}
 use Rattle.nq_model.specs.ServerStep.{receive, tick, attaches, tells_later, serves, leases, vacates}
 use Rattle.nq_model.specs.Table.{Table, is_writing, find_row}
-use Rattle.nq_model.specs.World.{Head, World, after_client, after_server, at_client, sending_host, step, run}
+use Rattle.nq_model.specs.World.{Head, World, after_client, after_server, sending_host, step, run}
 use Rattle.law_chains.proofs.ChainWorlds.{chain-fits}
 use Rattle.law_leases.proofs.LeaseIntervals.{run-runs}
 use Rattle.law_requests.proofs.WorldSequences.{run-draws}
 use Rattle.law_progress.specs.CalmRoundsAreLawful.{IsLawful}
-use Rattle.law_progress.proofs.Attaching.{hear-stays, tick-stays}
+use Rattle.law_progress.proofs.Attaching.{hear-stays}
 use Rattle.walk_client.proofs.ClientFacts.{IsTicket}
-use Rattle.walk_client.proofs.ClientMoves.{some-same, none-some}
+use Rattle.walk_client.proofs.ClientMoves.{none-some}
 use Rattle.walk_run.proofs.ClientSteps.{KnowsOf}
-use Rattle.walk_run.proofs.CoverFacts.{IsTakeable}
 use Rattle.walk_run.proofs.HostLine.{IsSettled}
-use Rattle.walk_run.proofs.Packets.{In, in-get, Asked, Told}
-use Rattle.walk_run.proofs.Worlds.{IsAt, Holds, get-set-same, get-set-other, set-there, to-server, to-told, run-holds}
+use Rattle.walk_run.proofs.Packets.{in-get, Asked, Told}
+use Rattle.walk_run.proofs.Worlds.{IsAt, Holds, get-set-same, get-set-other, to-server, to-told, run-holds}
 use Rattle.walk_server.proofs.Rows.{same-number, number-same}
 use Rattle.walk_server.proofs.ServerCases.{server-hears}
 use Rattle.walk_server.proofs.ServerMoves.{server-moves, phase-moves, tick-moves}
@@ -43,7 +40,7 @@ use Rattle.walk_server.proofs.ServerOutcomes.{IsFresh}
 use Rattle.law_rounds.specs.RoundsEndQuiet.{IsQuiet}
 use Rattle.law_rounds.proofs.Coming.{Delivery, no_packet, at_server, at_host, ignored, no_client, delivery}
 use Rattle.law_rounds.proofs.LastRows.{same-until, same-last, not-serving, lease-over, grant-over}
-use Rattle.law_rounds.proofs.Sleeping.{Asleep, AllOver, tick-sleeps, hear-sleeps}
+use Rattle.law_rounds.proofs.Sleeping.{Asleep, AllOver, hear-sleeps}
 
 -- a recovery ends no later than this, and the rows of its last table before
 abbrev pub RecoversBy : (U : ℕ) → Phase → Type 0

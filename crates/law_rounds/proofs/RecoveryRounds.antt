@@ -2,29 +2,27 @@
 use Rattle.std.proofs.Common.{◌≡◌, ◌≢◌, ◌≤◌, ◌<◌, ◌⊎◌, ℕ, ◌+◌, ◌==◌, nat_lt, Bool, true, false, zero, suc, List, [], ◌∷◌, Option, Some, None, length, refl, sym, subst, ap, ◌∙◌, arith, inl, inr}
 use Rattle.std.specs.Prelude.{slice_get, slice_set}
 use Rattle.nq_base.specs.declared.Event.{Event}
-use Rattle.nq_base.specs.declared.Row.{Row}
 use Rattle.nq_model.specs.Client.{Client, ClientStep}
 use Rattle.nq_model.specs.ClientStep.{client_tick}
 use Rattle.nq_model.specs.Lines.{Play, play, play_flow, flow_first, play_hosts}
 use Rattle.nq_model.specs.Message.{datagram_of}
 use Rattle.nq_model.specs.Profile.{skew, write_slack}
-use Rattle.nq_model.specs.Server.{Phase, serving, recovering, Server, ServerStep, last_table, quiet, keeping_with, with_table}
+use Rattle.nq_model.specs.Server.{Phase, serving, recovering, Server, ServerStep, quiet, keeping_with, with_table}
 use Rattle.nq_model.specs.ServerStep.{tick, at_time, opens, ends_writing}
-use Rattle.nq_model.specs.Table.{Table, find_row}
+use Rattle.nq_model.specs.Table.{Table}
 use Rattle.nq_model.specs.World.{Head, World, after_client, after_server, at_client, sending_host, step, run}
 use Rattle.law_calm.proofs.RowEnds.{recoveries-end-soon}
 use Rattle.law_leases.proofs.LeaseIntervals.{run-runs}
-use Rattle.law_deliveries.specs.DeliveryEnds.{AreUnderWay, calmed, enough_deliveries}
+use Rattle.law_deliveries.specs.DeliveryEnds.{calmed, enough_deliveries}
 use Rattle.law_progress.specs.CalmRound.{calm_round, calm_rounds}
 use Rattle.law_progress.specs.CalmRoundsAreLawful.{IsLawful}
 use Rattle.law_progress.specs.QuietDeliveries.{recovers}
 use Rattle.law_progress.proofs.Attaching.{tick-stays}
 use Rattle.law_progress.proofs.AttachWorlds.{rounds-more}
 use Rattle.law_progress.proofs.CalmEnds.{IsRising, round-rising, rounds-rising, calmed-rising}
-use Rattle.law_progress.proofs.CalmIsLawful.{played-quiet, flows, calm-round, rounds}
+use Rattle.law_progress.proofs.CalmIsLawful.{played-quiet, flows, calm-round}
 use Rattle.law_progress.proofs.QuietFlows.{delivered-phase}
-use Rattle.walk_client.proofs.ClientMoves.{some-same, none-some}
-use Rattle.walk_run.proofs.Worlds.{get-set-same, get-set-other, set-there, run-holds}
+use Rattle.walk_run.proofs.Worlds.{get-set-same, get-set-other, run-holds}
 use Rattle.walk_server.proofs.Rows.{same-number, number-same}
 use Rattle.walk_server.proofs.ServerCases.{server-ticks}
 use Rattle.walk_server.proofs.ServerMoves.{receive-keeps, tick-moves}
@@ -32,8 +30,8 @@ use Rattle.walk_server.proofs.Tests.{is-below, is-not-below}
 use Rattle.law_rounds.specs.RoundsEndQuiet.{IsSmall, all_delivered, IsQuiet}
 use Rattle.law_rounds.specs.RecoveriesEnd.{RecoveriesEnd}
 use Rattle.law_rounds.proofs.Coming.{Delivery, no_packet, at_server, at_host, ignored, no_client, delivery}
-use Rattle.law_rounds.proofs.Flows.{Covered, flow-small, round-small, rounds-small, rounds-cover, third-covers}
-use Rattle.law_rounds.proofs.LastRows.{same-until, not-serving, run-ends}
+use Rattle.law_rounds.proofs.Flows.{Covered, round-small, rounds-small, rounds-cover, third-covers}
+use Rattle.law_rounds.proofs.LastRows.{not-serving, run-ends}
 use Rattle.law_rounds.proofs.Quiet.{ends-quiet}
 use Rattle.law_rounds.proofs.Recovering.{RecoversBy, AllAsleep, by-tick, goes-on-after, early, late, sleeps-on, quiet-sleeps}
 use Rattle.law_rounds.proofs.Sleeping.{Asleep, tick-sleeps}
@@ -167,7 +165,6 @@ module _ (most : ℕ) (head : Head) (U : ℕ) where
         where
           ticked : (c : Client) → slice_get p.world.clients h ≡ Some c → Asleep c × (c.attached ≡ true) → AllAsleep (after_client p.world h (client_tick c (c.now + 1)))
           ticked c at a = stepped p.world h (client_tick c (c.now + 1)) (tick-sleeps c a.0, tick-stays c ((run-holds head p.events).clients h c (subst (λ (u : World). slice_get u.clients h ≡ Some c) l.is_run at)).alone a.1) all
-
 
   late-hosts : (count h : ℕ) (p : Play) → IsLawful most head p → Late p → Late (play_hosts count h p)
   late-hosts zero h p l e = e

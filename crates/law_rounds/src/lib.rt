@@ -2,6 +2,7 @@
 //! ends soon. The statements stand in `specs/`, and their proofs in `proofs/`.
 #![tactic(auto)]
 
+ghost use Rattle.law_rounds.specs.Met.{RoundsAreMet};
 ghost use Rattle.law_rounds.specs.RecoveriesEnd.{RecoveriesEnd};
 ghost use Rattle.law_rounds.specs.RoundsEndQuiet.{RoundsEndQuiet};
 
@@ -16,4 +17,9 @@ pub fn rounds_end_quiet()
 /// number more.
 pub fn recoveries_end()
     ensures { RecoveriesEnd }
+{}
+
+/// A schedule with a recovery in it meets all premises of these laws.
+pub fn rounds_are_met()
+    ensures { RoundsAreMet }
 {}

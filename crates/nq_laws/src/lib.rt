@@ -51,7 +51,7 @@ pub use law_reports::{
 pub use law_requests::{
     one_request_is_open, one_request_per_sequence, replies_come_after, requests_are_met,
 };
-pub use law_rounds::{recoveries_end, rounds_end_quiet};
+pub use law_rounds::{recoveries_end, rounds_are_met, rounds_end_quiet};
 pub use law_servers::{recoveries_are_met, recovery_waits, rows_stand_apart};
 pub use law_steps::{steps_are_of_one_host, steps_rest_on_their_host};
 pub use law_synchronized::{
