@@ -7,20 +7,20 @@ use Rattle.nq_base.specs.declared.Call.{Call}
 use Rattle.nq_base.specs.declared.Event.{Event}
 use Rattle.nq_base.specs.declared.Push.{Push}
 use Rattle.nq_base.specs.declared.Request.{Request}
-use Rattle.nq_model.specs.Client.{Client, ClientStep, Job, Lease, Notice, begun, lease_on, notice_on, file_of_lease, file_of_notice, first_dirty, is_push_of, is_clean_in, used_lease}
+use Rattle.nq_model.specs.Client.{UnderWay, Client, ClientStep, Job, Lease, Notice, begun, lease_on, notice_on, file_of_lease, file_of_notice, first_dirty, is_push_of, is_clean_in, used_lease}
 use Rattle.nq_model.specs.ClientStep.{begins_call, is_called, says_busy, client_call, at_time, sends_again, client_tick, attached_client, starts, fresh_client, restart}
 use Rattle.nq_model.specs.Hear.{hear, replied, cancels, evicted}
 use Rattle.nq_model.specs.Message.{Message}
 use Rattle.nq_model.specs.Profile.{renewal}
-use Rattle.nq_model.specs.Send.{send_next, is_asking, sends_request, pushes, pushes_these, least_with, least, noticed_file, noticed_in, is_to_push_in, ending_in, ending_file, then_renews, then_calls, then_pushes, then_ending, pushes_due}
-use Rattle.nq_model.specs.Settle.{answers, after_read, reads_cached, after_write, marks_written, settle}
+use Rattle.nq_model.specs.Send.{next_put, next_of_call, next_of_under_way, send_next, is_asking, sends_request, pushes, pushes_these, least_with, least, noticed_file, noticed_in, is_to_push_in, ending_in, ending_file, then_renews, then_calls, then_pushes, then_ending, pushes_due}
+use Rattle.nq_model.specs.Settle.{ticket_is_for_call, answers, after_read, reads_cached, after_write, marks_written, settle}
 use Rattle.nq_model.specs.Table.{is_writing}
 use Rattle.nq_model.specs.World.{Head, World, after_server, after_client, start, run}
 use Rattle.nq_model.proofs.ClientLists.{marked-before, marked-mode, marked-expiry}
 use Rattle.walk_client.proofs.ClientFacts.{Alone, DelayingOf}
 use Rattle.walk_client.proofs.ClientMoves.{some-same, none-some}
 use Rattle.walk_client.proofs.SendCases.{send-moves}
-use Rattle.walk_client.proofs.SettleCases.{settle-cases}
+use Rattle.walk_client.proofs.SettleCases.{settle-cases, settle-settles, Settled, IsSync, of_sync, of_put}
 use Rattle.walk_client.proofs.StepCases.{call-cases, unless-cached-cases, tick-cases, heard-cases}
 use Rattle.walk_run.proofs.Packets.{In}
 use Rattle.walk_run.proofs.Steps.{Changes, nothing, by_client, by_server, ClientActs, called, ticked, restarted, heard, step-changes}
@@ -33,8 +33,12 @@ pub record NoneDue (c : Client) : Type 0 where
   pub noticed : (file : ℕ) (n : Notice) → notice_on file c.notices ≡ Some n → ⊥
   pub ending : (file : ℕ) (l : Lease) → lease_on file c.leases ≡ Some l → is_writing l.mode ≡ true → is_clean_in file c.dirty c.push ≡ false → c.now + renewal < l.expiry
 
+-- no sync waits, nor a put whose write was delayed
+abbrev pub NoneSyncs : Client → Type 0
+NoneSyncs c = (u : UnderWay) (file : ℕ) → c.call ≡ Some u → IsSync u file → ⊥
+
 abbrev pub DueOnce : Client → Type 0
-DueOnce c = c.ticket ≡ None → NoneDue c
+DueOnce c = c.ticket ≡ None → NoneDue c × NoneSyncs c
 
 -- ---- lists
 
@@ -197,6 +201,44 @@ module _ (t : ClientStep) (free : t.client.ticket ≡ None) (delaying : Delaying
       stays : then_pushes t None ≡ t
       stays = choice (λ s. s ≡ t) (is_asking t) t t (λ e. refl) (λ e. refl)
 
+  asks-sync : (in_tick : Bool) (u : UnderWay) (file : ℕ) → t.client.call ≡ Some u → IsSync u file → is_clean_in file t.client.dirty t.client.push ≡ false → noticed_file t.client ≡ None → ending_file t.client ≡ None → is_asking (send_next in_tick t) ≡ true
+  asks-sync in_tick u file has_call is unclean no_notice no_end =
+      let noticed = then_pushes t (noticed_file t.client) in
+      let same : then_pushes t (noticed_file t.client) ≡ t = ap (then_pushes t) no_notice ∙ stays in
+      let ended : then_ending noticed ≡ t = ap (λ s. then_ending s) same ∙ ap (then_pushes t) no_end ∙ stays in
+      let calls : is_asking (then_calls (then_ending noticed)) ≡ true = ap (λ s. is_asking (then_calls s)) ended ∙ asks-call in
+      keeps-renewing in_tick (then_calls (then_ending noticed)) calls
+    where
+      stays : then_pushes t None ≡ t
+      stays = choice (λ s. s ≡ t) (is_asking t) t t (λ e. refl) (λ e. refl)
+
+      pushes-file : is_asking (pushes t file) ≡ true
+      pushes-file = pushed-file t file (in-list file t.client.dirty t.client.push no-push unclean)
+
+      put : (b may : Bool) (block : ℕ) (body : List ℕ) → b ≡ true → is_asking (next_put t b may file block body) ≡ true
+      put true may block body e = pushes-file
+      put false may block body e = absurd (cc)
+
+      of-call : (may : Bool) → IsSync u file → is_asking (next_of_call t u may u.call) ≡ true
+      of-call may (of_sync is) = ap (λ op. is_asking (next_of_call t u may op)) is ∙ pushes-file
+      of-call may (of_put block body is written) = ap (λ op. is_asking (next_of_call t u may op)) is ∙ put u.written may block body written
+
+      asks-call : is_asking (then_calls t) ≡ true
+      asks-call = choice (λ s. is_asking s ≡ true) (is_asking t) t (next_of_under_way t (nat_le t.client.pause t.client.now) t.client.call)
+          (λ e. e)
+          (λ e. ap (λ o. is_asking (next_of_under_way t (nat_le t.client.pause t.client.now) o)) has_call ∙ of-call (nat_le t.client.pause t.client.now) is)
+
+  none-syncs : (in_tick : Bool) → Settled t → is_asking (send_next in_tick t) ≡ false → NoneSyncs t.client
+  none-syncs in_tick settled quiet u file has_call is = by (noticed_in t.client.notices) refl (ending_in t.client.now t.client.leases t.client.dirty t.client.push) refl
+    where
+      unclean : is_clean_in file t.client.dirty t.client.push ≡ false
+      unclean = settled.syncs u file (record { called = has_call; idle = ap ticket_is_for_call free }) is
+
+      by : (o : Option ℕ) → noticed_in t.client.notices ≡ o → (q : Option ℕ) → ending_in t.client.now t.client.leases t.client.dirty t.client.push ≡ q → ⊥
+      by (Some g) of q end = let asks = asks-noticed in_tick g of in absurd (cc)
+      by None of (Some g) end = let asks = asks-ending in_tick g of end in absurd (cc)
+      by None of None end = let asks = asks-sync in_tick u file has_call is unclean of end in absurd (cc)
+
   -- where nothing is sent, nothing was due
   none-due : (in_tick : Bool) → is_asking (send_next in_tick t) ≡ false → NoneDue t.client
   none-due in_tick quiet = record { noticed = no-notice (noticed_in t.client.notices) refl; ending = soon (ending_in t.client.now t.client.leases t.client.dirty t.client.push) refl }
@@ -241,15 +283,16 @@ sent-or-same in_tick t = send-moves in_tick t (λ v. (is_asking v ≡ true) ⊎ 
 free-asks-not : (t : ClientStep) → t.client.ticket ≡ None → is_asking t ≡ false
 free-asks-not t free = ap is_some free
 
-ends-quiet : (in_tick : Bool) (s : ClientStep) → Alone (send_next in_tick s).client → DueOnce (send_next in_tick s).client
-ends-quiet in_tick s alone free = by (sent-or-same in_tick s)
+ends-quiet : (in_tick : Bool) (s : ClientStep) → Settled s → Alone (send_next in_tick s).client → DueOnce (send_next in_tick s).client
+ends-quiet in_tick s settled alone free = by (sent-or-same in_tick s)
   where
-    by : (is_asking (send_next in_tick s) ≡ true) ⊎ (send_next in_tick s ≡ s) → NoneDue (send_next in_tick s).client
+    by : (is_asking (send_next in_tick s) ≡ true) ⊎ (send_next in_tick s ≡ s) → NoneDue (send_next in_tick s).client × NoneSyncs (send_next in_tick s).client
     by (inl asks) = let no = free-asks-not (send_next in_tick s) free in absurd (cc)
     by (inr same) =
         let was : s.client.ticket ≡ None = ap (λ (x : ClientStep). x.client.ticket) (sym same) ∙ free in
         let own : Alone s.client = subst (λ (x : ClientStep). Alone x.client) same alone in
-        subst (λ (x : ClientStep). NoneDue x.client) (sym same) (none-due s was own.delaying in_tick (free-asks-not (send_next in_tick s) free))
+        subst (λ (x : ClientStep). NoneDue x.client × NoneSyncs x.client) (sym same)
+        (none-due s was own.delaying in_tick (free-asks-not (send_next in_tick s) free), none-syncs s was own.delaying in_tick settled (free-asks-not (send_next in_tick s) free))
 
 used-due : (c d : Client) (f : ℕ) → d.leases ≡ used_lease f c.leases → d.notices ≡ c.notices → d.dirty ≡ c.dirty → d.push ≡ c.push → d.now ≡ c.now → NoneDue c → NoneDue d
 used-due c d f leases notices dirty push now n = record {
@@ -273,32 +316,32 @@ same-due c d leases notices dirty push now n = record {
 }
 
 -- a read from the cache changes none of it
-cached-due : (t : ClientStep) → t.cached ≡ false → (settle t).cached ≡ true → DueOnce t.client → DueOnce (settle t).client
+cached-due : (t : ClientStep) → t.cached ≡ false → (settle t).cached ≡ true → (t.client.ticket ≡ None → NoneDue t.client) → DueOnce (settle t).client
 unfolding answers reads_cached after_read after_write marks_written
-cached-due t none = settle-cases t (λ u. u.cached ≡ true → DueOnce t.client → DueOnce u.client) (record {
-  idle = λ idle e g. g;
-  asking = λ u is own e g. g;
+cached-due t none = settle-cases t (λ u. u.cached ≡ true → (t.client.ticket ≡ None → NoneDue t.client) → DueOnce u.client) (record {
+  idle = λ idle e g. absurd (cc);
+  asking = λ u is own e g. absurd (cc);
   read_out = λ u file block lease is read can out e g. absurd (cc);
-  reading = λ u file block lease body is read can below has e g free. used-due t.client _ file refl refl refl refl refl (g free);
-  read_waits = λ u file block is read waits e g. g;
+  reading = λ u file block lease body is read can below has e g free. (used-due t.client _ file refl refl refl refl refl (g free), λ v f has_call is. none-some v has_call);
+  read_waits = λ u file block is read waits e g. absurd (cc);
   write_out = λ u sync file block body lease is write can out e g. absurd (cc);
   write_full = λ u sync file block body lease is write can below full e g. absurd (cc);
   writing = λ u file block body lease is write can below room e g. absurd (cc);
   putting = λ u file block body lease is put first can below room e g. absurd (cc);
-  write_waits = λ u sync file block body is write waits e g. g;
+  write_waits = λ u sync file block body is write waits e g. absurd (cc);
   syncing = λ u file is sync clean e g. absurd (cc);
-  sync_waits = λ u file is sync dirty e g. g;
-  others = λ u is needs e g. g;
+  sync_waits = λ u file is sync dirty e g. absurd (cc);
+  others = λ u is needs e g. absurd (cc);
 })
 
 call-due : (c : Client) (op : Call) → Alone (client_call c op).client → DueOnce c → DueOnce (client_call c op).client
 unfolding says_busy begins_call is_called answers
 call-due c op alone before = call-cases c op (λ t. Alone t.client → DueOnce t.client) (record {
-  busy = λ why own free. same-due c _ refl refl refl refl refl (before free);
-  telling = λ file loss losses idle on changes has own free. same-due c _ refl refl refl refl refl (before free);
+  busy = λ why own free. (same-due c _ refl refl refl refl refl (before free).0, λ u file has_call is. (before free).1 u file has_call is);
+  telling = λ file loss losses idle on changes has own free. (same-due c _ refl refl refl refl refl (before free).0, λ u f has_call is. none-some u has_call);
   going = λ idle on none. unless-cached-cases (settle (is_called (begins_call c op) op)) (λ t. Alone t.client → DueOnce t.client)
-      (λ cached own. cached-due (is_called (begins_call c op) op) refl cached (λ free. same-due c _ refl refl refl refl refl (before free)))
-      (λ other own. ends-quiet false (settle (is_called (begins_call c op) op)) own);
+      (λ cached own. cached-due (is_called (begins_call c op) op) refl cached (λ free. same-due c _ refl refl refl refl refl (before free).0))
+      (λ other own. ends-quiet false (settle (is_called (begins_call c op) op)) (settle-settles (is_called (begins_call c op) op)) own);
 }) alone
 
 tick-due : (c : Client) → Alone (client_tick c (c.now + 1)).client → DueOnce (client_tick c (c.now + 1)).client
@@ -306,13 +349,13 @@ unfolding at_time sends_again
 tick-due c alone = tick-cases c (c.now + 1) (λ t. Alone t.client → DueOnce t.client) (record {
   again = λ ticket is late own free. none-some _ (sym free);
   quiet = λ ticket is soon own free. none-some ticket (sym free ∙ is);
-  free = λ none own. ends-quiet true (settle (begun (at_time c (c.now + 1)))) own;
+  free = λ none own. ends-quiet true (settle (begun (at_time c (c.now + 1)))) (settle-settles (begun (at_time c (c.now + 1)))) own;
 }) alone
 
 hear-due : (c : Client) (k : ℕ) (m : Message) (t : ClientStep) → hear c k m ≡ Some t → Alone t.client → DueOnce t.client
 hear-due c k m t hears alone = heard-cases c k m t (λ u. Alone u.client → DueOnce u.client) hears (record {
-  answered = λ xid r ticket is asks own inc counts after. ends-quiet false (settle (replied (begun c) k ticket r)) after;
-  noticed = λ xid file tag is older after. ends-quiet false (settle (evicted (cancels (begun c) file) file tag)) after;
+  answered = λ xid r ticket is asks own inc counts after. ends-quiet false (settle (replied (begun c) k ticket r)) (settle-settles (replied (begun c) k ticket r)) after;
+  noticed = λ xid file tag is older after. ends-quiet false (settle (evicted (cancels (begun c) file) file tag)) (settle-settles (evicted (cancels (begun c) file) file tag)) after;
 }) alone
 
 restart-due : (c : Client) → DueOnce (restart c).client
@@ -356,7 +399,7 @@ first-due : (head : Head) → EachDue (start head)
 unfolding start attached_client fresh_client
 first-due head host c is =
     let same = first-client head.term 0 head.hosts host c is in
-    subst (λ x. DueOnce x) (sym same) (λ free. record { noticed = λ file n on. none-some n on; ending = λ file l on. none-some l on })
+    subst (λ x. DueOnce x) (sym same) (λ free. (record { noticed = λ file n on. none-some n on; ending = λ file l on. none-some l on }, λ u file has_call is. none-some u has_call))
 
 pub run-due : (head : Head) (events : List Event) (host : ℕ) (c : Client) → slice_get (run head events).clients host ≡ Some c → DueOnce c
 run-due head [] = first-due head

@@ -1,6 +1,7 @@
 -- From the third calm round on all clients are quiet once all is delivered.
 use Rattle.std.proofs.Common.{◌≡◌, ◌<◌, ◌⊎◌, ℕ, ◌+◌, Bool, true, false, zero, suc, List, [], ◌∷◌, Option, Some, None, is_some, length, refl, sym, subst, ap, ◌∙◌, arith, inl, inr}
 use Rattle.std.specs.Prelude.{slice_get, slice_index_or}
+use Rattle.nq_base.specs.declared.Call.{Call}
 use Rattle.nq_base.specs.declared.Push.{Push}
 use Rattle.nq_model.specs.Client.{Client, Notice, UnderWay, notice_on}
 use Rattle.nq_model.specs.Lines.{Play}
@@ -17,8 +18,9 @@ use Rattle.law_progress.proofs.AttachWorlds.{rounds-more}
 use Rattle.law_progress.proofs.CalmEnds.{IsRising, rounds-rising, calmed-rising}
 use Rattle.law_progress.proofs.CalmIsLawful.{flows, rounds}
 use Rattle.walk_client.proofs.ClientMoves.{none-some}
+use Rattle.walk_client.proofs.SettleCases.{IsSync, of_sync, of_put}
 use Rattle.walk_run.proofs.Worlds.{run-holds}
-use Rattle.law_rounds.specs.RoundsEndQuiet.{IsSmall, all_delivered, IsQuiet, RoundsEndQuiet}
+use Rattle.law_rounds.specs.RoundsEndQuiet.{IsSmall, all_delivered, waits_to_store, IsQuiet, RoundsEndQuiet}
 use Rattle.law_rounds.proofs.Dues.{NoneDue, run-due}
 use Rattle.law_rounds.proofs.Flows.{Covered, flow-small, none-asks, third-covers}
 
@@ -36,6 +38,7 @@ module _ (most : ℕ) (head : Head) where
     no_push = pushes c.push refl;
     no_notice = λ file. notices file (notice_on file c.notices) refl;
     waits = λ u is. (pausing u is (goes.busy u is), goes.short);
+    no_sync = syncs;
     held = λ file unclean.
         let h = (chain-fits most head p.events host c l.bounds l.within there).writes.held file unclean in
         (h.0, h.1, record { writes = h.2; late = due.ending file h.0 h.1 h.2 unclean });
@@ -52,7 +55,26 @@ module _ (most : ℕ) (head : Head) where
       pausing u is (inr late) = late
 
       due : NoneDue c
-      due = run-due head p.events host c there none
+      due = (run-due head p.events host c there none).0
+
+      syncs : (u : UnderWay) → c.call ≡ Some u → waits_to_store u.written u.call ≡ false
+      syncs u called = by u.written u.call refl refl
+        where
+          none-waits : (file : ℕ) → IsSync u file → ⊥
+          none-waits file is = (run-due head p.events host c there none).1 u file called is
+
+          by : (b : Bool) (op : Call) → u.written ≡ b → u.call ≡ op → waits_to_store b op ≡ false
+          by b (Call.Sync file) e is = absurd (none-waits file (of_sync is))
+          by true (Call.WriteSync file block body) e is = absurd (none-waits file (of_put block body is e))
+          by false (Call.WriteSync file block body) e is = refl
+          by b (Call.Create name blocks) e is = refl
+          by b (Call.Lookup name) e is = refl
+          by b (Call.Attr file) e is = refl
+          by b (Call.Read file block) e is = refl
+          by b (Call.Fetch file block) e is = refl
+          by b (Call.Write file block body) e is = refl
+          by b (Call.Resize file blocks) e is = refl
+          by b (Call.Remove file) e is = refl
 
       on : (b : Bool) → c.attached ≡ b → c.attached ≡ true
       on true e = e

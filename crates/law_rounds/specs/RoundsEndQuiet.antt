@@ -1,5 +1,6 @@
 -- Once the network is calm, each delivery ends quietly: nobody waits for a reply, and nobody has anything to send.
-use Rattle.std.specs.Prelude.{◌≡◌, ◌≤◌, ◌<◌, ℕ, ◌+◌, true, false, List, Some, None, All, length}
+use Rattle.std.specs.Prelude.{◌≡◌, ◌≤◌, ◌<◌, ℕ, ◌+◌, Bool, true, false, List, Some, None, All, length}
+use Rattle.nq_base.specs.declared.Call.{Call}
 use Rattle.nq_promises.specs.Bounds.{InEveryRun}
 use Rattle.nq_model.specs.Client.{Client, Lease, UnderWay, lease_on, notice_on, is_clean}
 use Rattle.nq_model.specs.Lines.{Play, play_flow}
@@ -24,14 +25,21 @@ pub record GoesOnFor (now : ℕ) (l : Lease) : Type 0 where
   pub writes : is_writing l.mode ≡ true
   pub late : now + renewal < l.expiry
 
+-- whether a call waits for delayed writes to be stored: a sync does, and a put whose write was delayed
+abbrev pub waits_to_store : (written : Bool) → Call → Bool
+waits_to_store written (Call.Sync file) = true
+waits_to_store written (Call.WriteSync file block body) = written
+waits_to_store written other = false
+
 -- a client is attached, and has no request under way, no push and no notice that waits. If it has an open call it pauses, for 2 ticks at
--- the most: the call was put off. Each file with delayed writes is held under a lease that goes on
+-- the most: the call was put off, and it does not wait for delayed writes to be stored. Each file with delayed writes is held under a lease that goes on
 pub record IsQuiet (c : Client) : Type 0 where
   pub attached : c.attached ≡ true
   pub no_request : c.ticket ≡ None
   pub no_push : c.push ≡ None
   pub no_notice : (file : ℕ) → notice_on file c.notices ≡ None
   pub waits : (u : UnderWay) → c.call ≡ Some u → (c.now < c.pause) × (c.pause ≤ c.now + patience)
+  pub no_sync : (u : UnderWay) → c.call ≡ Some u → waits_to_store u.written u.call ≡ false
   pub held : (file : ℕ) → is_clean c file ≡ false → (l : Lease) × (lease_on file c.leases ≡ Some l) × GoesOnFor c.now l
 
 -- after every schedule within skew, whatever is under way: from the third calm round on all clients are quiet once all is delivered, where
