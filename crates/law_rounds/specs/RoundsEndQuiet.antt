@@ -32,7 +32,8 @@ waits_to_store written (Call.WriteSync file block body) = written
 waits_to_store written other = false
 
 -- a client is attached, and has no request under way, no push and no notice that waits. If it has an open call it pauses, for 2 ticks at
--- the most: the call was put off, and it does not wait for delayed writes to be stored. Each file with delayed writes is held under a lease that goes on
+-- the most, since a request was put off; and the call does not wait for delayed writes to be stored. Each file with delayed writes is held
+-- under a lease that goes on
 pub record IsQuiet (c : Client) : Type 0 where
   pub attached : c.attached ≡ true
   pub no_request : c.ticket ≡ None

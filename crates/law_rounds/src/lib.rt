@@ -7,8 +7,8 @@ ghost use Rattle.law_rounds.specs.RecoveriesEnd.{RecoveriesEnd};
 ghost use Rattle.law_rounds.specs.RoundsEndQuiet.{RoundsEndQuiet};
 
 /// In every run, whatever is under way: from the third calm round on no client has a request under way once all is delivered. All are
-/// attached, no notice waits, a call that is open was put off and is no `sync`, and each file with delayed writes is held under a lease that
-/// goes on for more than 3 ticks.
+/// attached, and no notice waits. A client that has an open call pauses for at most 2 ticks, and the call is no `sync`. Each file with delayed
+/// writes is held under a lease that goes on for more than 3 ticks.
 pub fn rounds_end_quiet()
     ensures { RoundsEndQuiet }
 {}
