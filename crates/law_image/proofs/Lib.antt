@@ -10,4 +10,4 @@ pub mod Marks
 pub mod Whole
 pub mod Opening
 pub mod Fitting
-mod Closed
+pub mod Closed
