@@ -10,3 +10,4 @@ mod Bodies
 pub mod Migrated
 mod Told
 mod Opened
+mod Left

@@ -11,7 +11,7 @@ use Rattle.nq_store.specs.declared.fault.Fault.TheVariants.{NotAnImage, BadField
 use Rattle.nq_store.specs.declared.fault.OpenFault.{OpenFault}
 use Rattle.nq_store.proofs.Told.{opens-as}
 
-kept-same : (now bytes : List ℕ) → stands_as now ≡ stands_as bytes → kept_on now ≡ kept_on bytes
+pub kept-same : (now bytes : List ℕ) → stands_as now ≡ stands_as bytes → kept_on now ≡ kept_on bytes
 unfolding kept_on
 kept-same now bytes same = ap kept_of same
 

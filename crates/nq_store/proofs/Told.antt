@@ -168,7 +168,7 @@ long-begins bytes name size named is long name_is named_is =
     let enough : nat_le 40960 (length bytes) ≡ true = grind (arith, nat_tests) in
     named_is ∙ ap is_name name_is ∙ sym (ap (λ (b : Bool). b && has_image_name bytes) enough)
 
-both-of : (a b : Bool) → (a && b) ≡ true → (a ≡ true) × (b ≡ true)
+pub both-of : (a b : Bool) → (a && b) ≡ true → (a ≡ true) × (b ≡ true)
 both-of true b is = (refl, is)
 both-of false b is = absurd (cc)
 
@@ -223,7 +223,7 @@ migrated-shut bytes tells may migrated = record { closed = migrated.closed; alon
 
 -- ---- what an open of the record leaves
 
-stands-settled : (bytes : List ℕ) → begins_as_image bytes ≡ true → stands_as bytes ≡ settled_as (found image_area bytes)
+pub stands-settled : (bytes : List ℕ) → begins_as_image bytes ≡ true → stands_as bytes ≡ settled_as (found image_area bytes)
 unfolding stands_as
 stands-settled bytes begins = ap (λ (b : Bool). if b then settled_as (found image_area bytes) else None) begins
 

@@ -1,8 +1,10 @@
 -- What the opening of a store answers.
-use Rattle.std.specs.Prelude.{◌≡◌, ℕ, List, Option, Some, None, Result, Ok, Err}
+use Rattle.std.specs.Prelude.{◌≡◌, ◌⊎◌, ℕ, List, Option, Some, None, Result, Ok, Err}
 use Rattle.std.specs.Option.{ForSome}
 use Rattle.nq_format.specs.Standing.{stands_as}
 use Rattle.nq_io.specs.Faults.{Rose}
+use Rattle.nq_redo.specs.Saying.{Each}
+use Rattle.nq_store.specs.Storing.{kept_on}
 use Rattle.nq_store.specs.declared.fault.Fault.{Fault}
 use Rattle.nq_store.specs.declared.fault.Fault.TheVariants.{NotAnImage, BadField, Failed, Memory}
 use Rattle.nq_store.specs.declared.fault.OpenFault.{OpenFault}
@@ -54,3 +56,19 @@ SaysWrong (Err (opening.NotAnImage back)) told = ForSome told (λ bytes. stands_
 SaysWrong (Err (opening.BadField back place)) told = ForSome told (λ bytes. stands_as bytes ≡ Some (Err place))
 SaysWrong (Err (opening.Failed back)) told = Unit {0}
 SaysWrong (Err (opening.Memory back)) told = Unit {0}
+
+-- the disk that a fault hands back
+abbrev pub back_of : {D : Type 0} → OpenFault D → D
+back_of (opening.NotAnImage back) = back
+back_of (opening.BadField back place) = back
+back_of (opening.Failed back) = back
+back_of (opening.Memory back) = back
+
+-- the disk that is opened, or handed back
+abbrev pub disk_of : {X D : Type 0} → (X → D) → Result X (OpenFault D) → D
+disk_of held (Ok opened) = held opened
+disk_of held (Err fault) = back_of fault
+
+-- a stop leaves what one before might have left, or bytes in which the same is kept as in those that the disk told
+abbrev pub LeavesLike : (told : Option (List ℕ)) → (before leaves : List ℕ → Type 0) → Type 0
+LeavesLike told before leaves = ForSome told (λ bytes. Each leaves (λ image. before image ⊎ (kept_on image ≡ kept_on bytes)))

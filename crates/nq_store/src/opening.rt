@@ -1,14 +1,15 @@
 //! A disk is opened as what a server keeps.
 
-ghost use Rattle.std.specs.Prelude.{◌≡◌, ◌≤◌, true, IfOk, length, slice_index};
+ghost use Rattle.std.specs.Prelude.{◌≡◌, ◌≤◌, true, IfOk, OnOk, length, slice_index};
 ghost use Rattle.std.specs.Option.{ForSome};
-ghost use Rattle.nq_disk.specs.Calling.{LeavesNoMore};
+ghost use Rattle.nq_disk.specs.Calling.{IsAllThatIsLeft, LeavesNoMore};
 ghost use Rattle.nq_format.specs.Standing.{begins_as_image, image_area};
 ghost use Rattle.nq_image.specs.Heads.{version_of as version_at};
 ghost use Rattle.nq_image.specs.Layout.{piece};
+ghost use Rattle.nq_redo.specs.Saying.{Only};
 ghost use Rattle.nq_store.specs.Loading.{Gives, IsHeadOf, IsShut, IsShutAs, OpensTables, is_name as is_image_name};
-ghost use Rattle.nq_store.specs.Migrating.{IsOld};
-ghost use Rattle.nq_store.specs.Opening.{AnswersOpen, CountsFault, FollowsOpen, SaysWrong};
+ghost use Rattle.nq_store.specs.Migrating.{IsOld, LeavesSameKept};
+ghost use Rattle.nq_store.specs.Opening.{AnswersOpen, CountsFault, FollowsOpen, LeavesLike, SaysWrong, disk_of};
 
 use crate::fault::{Fault, OpenFault};
 use crate::loading::{ROWS_SIZE, load, read_piece, size_of};
@@ -32,6 +33,7 @@ const SHORTEST: u64 = 40960;
 /// Syncs a disk.
 fn settle<D: Disk>(disk: &mut D) -> Result<(), Fault>
     ensures told { Gives result (λ _. Unit) }
+    ensures settles { OnOk result (IsAllThatIsLeft (D.told disk.old) (D.may_leave disk.new)) }
     ensures same { D.told disk.new ≡ D.told disk.old }
     ensures cause { CountsFault result (D.faults disk.old) (D.faults disk.new) }
     ensures follows { D.follows disk.old disk.new }
@@ -50,6 +52,7 @@ fn is_name(name: &[u8]) -> bool
 /// Whether a disk is long enough for an image and begins as one does.
 fn is_named<D: Disk>(disk: &mut D, alloc: Global) -> Result<bool, Fault>
     ensures told { ForSome (D.told disk.old) (λ bytes. Gives result (λ named. named ≡ begins_as_image bytes)) }
+    ensures settles { OnOk result (IsAllThatIsLeft (D.told disk.old) (D.may_leave disk.new)) }
     ensures same { D.told disk.new ≡ D.told disk.old }
     ensures cause { CountsFault result (D.faults disk.old) (D.faults disk.new) }
     ensures follows { D.follows disk.old disk.new }
@@ -71,6 +74,7 @@ fn open_named<D: Disk>(disk: D, alloc: Global) -> Result<Redo<D>, OpenFault<D>>
     ensures wrong { ForSome (D.told disk) (λ bytes. begins_as_image bytes ≡ true → SaysWrong result (D.told disk)) }
     ensures cause { AnswersOpen (λ redo. redo.disk) D.faults result disk }
     ensures follows { FollowsOpen (λ redo. redo.disk) D.follows result disk }
+    ensures leaves { ForSome (D.told disk) (λ bytes. begins_as_image bytes ≡ true → Only bytes (D.may_leave disk) → LeavesSameKept bytes (D.leaves disk (disk_of (λ redo. redo.disk) result))) }
 {
     match Redo::open(alloc, disk, AREA) {
         Ok(redo) => Ok(redo),
@@ -87,6 +91,7 @@ pub(crate) fn open_record<D: Disk>(disk: D, alloc: Global) -> Result<Redo<D>, Op
     ensures wrong { SaysWrong result (D.told disk) }
     ensures cause { AnswersOpen (λ redo. redo.disk) D.faults result disk }
     ensures follows { FollowsOpen (λ redo. redo.disk) D.follows result disk }
+    ensures leaves { LeavesLike (D.told disk) (D.may_leave disk) (D.leaves disk (disk_of (λ redo. redo.disk) result)) }
 {
     let mut disk = disk;
     match is_named(&mut disk, alloc) {
@@ -118,6 +123,7 @@ fn load_new<D: Disk>(disk: &mut D, alloc: Global, head: &[u8]) -> Result<Tables,
     ensures told { ForSome (D.told disk.old) (λ bytes. IsShut (D.may_leave disk.old) bytes → IsHeadOf bytes head.now → OpensTables result bytes (D.told disk.new) (D.may_leave disk.new)) }
     ensures cause { CountsFault result (D.faults disk.old) (D.faults disk.new) }
     ensures follows { D.follows disk.old disk.new }
+    ensures leaves { LeavesNoMore (D.may_leave disk.old) (D.leaves disk.old disk.new) }
 {
     load(disk, alloc, head)
 }
@@ -127,6 +133,7 @@ fn load_migrated<D: Disk>(disk: &mut D, alloc: Global) -> Result<Tables, Fault>
     ensures told { ForSome (D.told disk.old) (λ bytes. IsShut (D.may_leave disk.old) bytes → slice_index bytes 7 ≡ 50 → OpensTables result bytes (D.told disk.new) (D.may_leave disk.new)) }
     ensures cause { CountsFault result (D.faults disk.old) (D.faults disk.new) }
     ensures follows { D.follows disk.old disk.new }
+    ensures leaves { LeavesNoMore (D.may_leave disk.old) (D.leaves disk.old disk.new) }
 {
     let head = read_head(disk, alloc)?;
     load_new(disk, alloc, &head)
@@ -140,6 +147,7 @@ fn load_old<D: Disk>(redo: &mut Redo<D>, alloc: Global, head: &[u8]) -> Result<T
     ensures told { ForSome (D.told redo.old.disk) (λ bytes. IsOld head.now (D.may_leave redo.old.disk) bytes → OpensTables result bytes (D.told redo.new.disk) (D.may_leave redo.new.disk)) }
     ensures cause { CountsFault result (D.faults redo.old.disk) (D.faults redo.new.disk) }
     ensures follows { D.follows redo.old.disk redo.new.disk }
+    ensures leaves { ForSome (D.told redo.old.disk) (λ bytes. IsOld head.now (D.may_leave redo.old.disk) bytes → LeavesSameKept bytes (D.leaves redo.old.disk redo.new.disk)) }
 {
     migrate(redo, alloc, head)?;
     load_migrated(&mut redo.disk, alloc)
@@ -161,6 +169,7 @@ fn load_any<D: Disk>(redo: &mut Redo<D>, alloc: Global, head: &[u8]) -> Result<T
     ensures told { ForSome (D.told redo.old.disk) (λ bytes. IsShut (D.may_leave redo.old.disk) bytes → head.now ≡ piece 0 28672 bytes → OpensTables result bytes (D.told redo.new.disk) (D.may_leave redo.new.disk)) }
     ensures cause { CountsFault result (D.faults redo.old.disk) (D.faults redo.new.disk) }
     ensures follows { D.follows redo.old.disk redo.new.disk }
+    ensures leaves { ForSome (D.told redo.old.disk) (λ bytes. IsShut (D.may_leave redo.old.disk) bytes → head.now ≡ piece 0 28672 bytes → LeavesSameKept bytes (D.leaves redo.old.disk redo.new.disk)) }
 {
     match version_in(head) {
         None => Err(Fault::NotAnImage),
@@ -176,6 +185,7 @@ pub(crate) fn open_tables<D: Disk>(redo: &mut Redo<D>, alloc: Global) -> Result<
     ensures told { ForSome (D.told redo.old.disk) (λ bytes. IsShut (D.may_leave redo.old.disk) bytes → OpensTables result bytes (D.told redo.new.disk) (D.may_leave redo.new.disk)) }
     ensures cause { CountsFault result (D.faults redo.old.disk) (D.faults redo.new.disk) }
     ensures follows { D.follows redo.old.disk redo.new.disk }
+    ensures leaves { ForSome (D.told redo.old.disk) (λ bytes. IsShut (D.may_leave redo.old.disk) bytes → LeavesSameKept bytes (D.leaves redo.old.disk redo.new.disk)) }
 {
     let head = read_head(&mut redo.disk, alloc)?;
     load_any(redo, alloc, &head)

@@ -13,7 +13,7 @@ ghost use Rattle.nq_plan.specs.Finding.{row_behind, row_named, row_of};
 ghost use Rattle.nq_plan.specs.Placing.{IsPlacedFor};
 ghost use Rattle.nq_plan.specs.Ranges.{ranges_of};
 ghost use Rattle.nq_store.specs.Laws.{goes-further, goes-itself, goes-rising, leaves-parts, may-leave, told-is-within};
-ghost use Rattle.nq_store.specs.Opening.{AnswersOpen, FollowsOpen, SaysWrong};
+ghost use Rattle.nq_store.specs.Opening.{AnswersOpen, FollowsOpen, LeavesLike, SaysWrong, disk_of};
 ghost use Rattle.nq_store.specs.Storing.{GoesOn, IsFresh, IsSound, LeavesKept, after_asking, answered, content_of, faults_of, kept_told, space_in};
 
 use crate::fault::OpenFault;
@@ -69,6 +69,7 @@ impl<D: Disk + Drop> Store<D> {
         ensures fresh { IfOk result IsFresh }
         ensures cause { AnswersOpen (λ store. store.disk) D.faults result disk }
         ensures follows { FollowsOpen (λ store. store.disk) D.follows result disk }
+        ensures leaves { LeavesLike (D.told disk) (D.may_leave disk) (D.leaves disk (disk_of (λ store. store.disk) result)) }
     {
         let mut redo = open_record(disk, alloc)?;
         match open_tables(&mut redo, alloc) {
