@@ -2,7 +2,7 @@
 -- of faults, `follows` says that a keeper is another one after some of its calls, and `leaves` what a stop between two moments of it may leave.
 use Rattle.std.proofs.Common.{inl, inr}
 use Rattle.std.specs.Option.{ForSome}
-use Rattle.std.specs.Prelude.{◌≡◌, ◌⊎◌, ℕ, zero, suc, Option, Some, Result, Ok, Err}
+use Rattle.std.specs.Prelude.{◌≡◌, ◌⊎◌, ℕ, zero, suc, Option, Some, Result, Ok, Err, ⊤}
 use Rattle.nq_ending.specs.declared.Halt.{Halt}
 use Rattle.nq_hosts.specs.Serving.{Between, Goes, GoesOn, Ran, Runs, Serves, StopsTurn, TakesTurn, TakesTurns, Turns, between}
 use Rattle.nq_model.specs.Kept.{Kept}
@@ -68,6 +68,38 @@ IsLeftInRuns content faults follows longest turns time keeper (Err why) left clo
 IsLeftInRuns content faults follows longest turns time keeper (Err why) left clock clock' link link' (inr none) kept found =
     IsLeftByBoot longest kept found
 
+-- ---- in order
+
+-- a moment before the end, and the keeper at both: whatever a stop between any earlier moment and the end leaves, a stop before this moment
+-- leaves it, or this holds of it
+pub record IsBeforeEnd {K : Type 0} (follows : K → K → Type 0) (leaves : K → K → Option Kept → Type 0) (at last : K) (Later : Option Kept → Type 0) : Type 0 where
+  pub same : follows at last
+  pub later : (first : K) (found : Option Kept) → follows first at → leaves first last found → leaves first at found ⊎ Later found
+
+-- At each moment between so many turns: what a stop from then until the end leaves, that a stop at that very moment does not, is what is kept
+-- at a later moment, of the turns behind it or of what `Later` tells. So nothing that was kept before a stop is lost
+abbrev pub AreInOrder : {K : Type 0} → (content : K → Option Kept) → (faults : K → ℕ) → (follows : K → K → Type 0) → (leaves : K → K → Option Kept → Type 0) → (last : K) → (Later : Option Kept → Type 0) → (count : ℕ) → (at after : Between K) → Goes content faults count at after → Type 0
+AreInOrder content faults follows leaves last Later zero at after goes = IsBeforeEnd follows leaves after.server.keeper last Later
+AreInOrder content faults follows leaves last Later (suc count) at after goes =
+    IsBeforeEnd follows leaves after.server.keeper last Later
+    × AreInOrder content faults follows leaves last (λ found. IsLeftGoing content faults goes.0 after goes.2 found ⊎ Later found) count at goes.0 goes.1
+
+-- the same of turns up to the first that stopped
+abbrev pub TurnsAreInOrder : {K : Type 0} → (content : K → Option Kept) → (faults : K → ℕ) → (follows : K → K → Type 0) → (leaves : K → K → Option Kept → Type 0) → (turns : ℕ) → (ended : Result Unit Halt) → (at after : Between K) → TakesTurns content faults turns ended at after → Type 0
+TurnsAreInOrder content faults follows leaves turns (Ok done) at after taken =
+    AreInOrder content faults follows leaves after.server.keeper (λ found. ⊥) turns at after taken
+TurnsAreInOrder content faults follows leaves turns (Err why) at after taken =
+    AreInOrder content faults follows leaves after.server.keeper (λ found. IsLeftStopping content faults why taken.between after taken.last found)
+    taken.count at taken.between taken.before
+
+-- the same of the turns of a server that booted, if one did
+abbrev pub RunsAreInOrder : {K : Type 0} → (content : K → Option Kept) → (faults : K → ℕ) → (follows : K → K → Type 0) → (leaves : K → K → Option Kept → Type 0) → (longest turns time : ℕ) → (keeper : K) → (ended : Result Unit Halt) → (left : K) → (clock clock' : ClockTold) → (link link' : LinkTold) → Runs content faults follows longest turns time keeper ended left clock clock' link link' → Type 0
+RunsAreInOrder content faults follows leaves longest turns time keeper (Ok done) left clock clock' link link' runs =
+    TurnsAreInOrder content faults follows leaves turns (Ok done) (between runs.server runs.ran.log 0 clock link) runs.ran.last runs.ran.taken
+RunsAreInOrder content faults follows leaves longest turns time keeper (Err why) left clock clock' link link' (inl runs) =
+    TurnsAreInOrder content faults follows leaves turns (Err why) (between runs.server runs.ran.log 0 clock link) runs.ran.last runs.ran.taken
+RunsAreInOrder content faults follows leaves longest turns time keeper (Err why) left clock clock' link link' (inr none) = ⊤
+
 -- ---- what is done, and what a stop leaves
 
 -- one turn, and what a stop within it leaves
@@ -79,22 +111,26 @@ pub record LeavesTaking {K : Type 0} (content : K → Option Kept) (faults : K �
 pub record LeavesTurns {K : Type 0} (content : K → Option Kept) (faults : K → ℕ) (follows : K → K → Type 0) (leaves : K → K → Option Kept → Type 0) (turns : ℕ) (ended : Result Unit Halt) (at after : Between K) : Type 0 where
   pub taken : TakesTurns content faults turns ended at after
   pub only : LeavesOnly content follows leaves at.server.keeper after.server.keeper (IsLeftInTurns content faults turns ended at after taken)
+  pub order : ForSome (content at.server.keeper) (λ kept. TurnsAreInOrder content faults follows leaves turns ended at after taken)
 
 -- the turns of a server that has booted, and what a stop within them leaves
 pub record LeavesRunning {K : Type 0} (content : K → Option Kept) (faults : K → ℕ) (follows : K → K → Type 0) (leaves : K → K → Option Kept → Type 0) (turns : ℕ) (server : Holding K) (ended : Result Unit Halt) (left : K) (clock clock' : ClockTold) (link link' : LinkTold) : Type 0 where
   pub ran : Ran content faults follows turns server ended left clock clock' link link'
   pub only : LeavesOnly content follows leaves server.keeper left (IsLeftInTurns content faults turns ended (between server ran.log 0 clock link) ran.last ran.taken)
+  pub order : ForSome (content server.keeper) (λ kept. TurnsAreInOrder content faults follows leaves turns ended (between server ran.log 0 clock link) ran.last ran.taken)
 
 -- the boot and the turns, and what a stop within them leaves
 pub record LeavesRuns {K : Type 0} (content : K → Option Kept) (faults : K → ℕ) (follows : K → K → Type 0) (leaves : K → K → Option Kept → Type 0) (longest turns time : ℕ) (keeper : K) (ended : Result Unit Halt) (left : K) (clock clock' : ClockTold) (link link' : LinkTold) : Type 0 where
   pub runs : Runs content faults follows longest turns time keeper ended left clock clock' link link'
   pub only : ForSome (content keeper) (λ kept. (found : Option Kept) → leaves keeper left found → IsLeftInRuns content faults follows longest turns time keeper ended left clock clock' link link' runs kept found)
+  pub order : ForSome (content keeper) (λ kept. RunsAreInOrder content faults follows leaves longest turns time keeper ended left clock clock' link link' runs)
 
 -- What was done when serving ended so. Where the keeper told what it kept when it was handed in, a stop at any moment until it was handed back
--- leaves that, or what was kept at a moment of the boot and the turns
+-- leaves that, or what was kept at a moment of the boot and the turns. A stop behind a turn loses nothing that was kept before it
 pub record LeavesServing {K : Type 0} (content : K → Option Kept) (faults : K → ℕ) (follows : K → K → Type 0) (leaves : K → K → Option Kept → Type 0) (longest turns : ℕ) (keeper : K) (ended : Result Unit Halt) (left : K) (clock clock' : ClockTold) (link link' : LinkTold) : Type 0 where
   pub serves : Serves content faults follows longest turns keeper ended left clock clock' link link'
   pub only : ForSome (content keeper) (λ kept. (found : Option Kept) → leaves keeper left found → IsLeftInRuns content faults follows longest turns serves.time keeper ended left serves.between clock' link link' serves.runs kept found)
+  pub order : ForSome (content keeper) (λ kept. RunsAreInOrder content faults follows leaves longest turns serves.time keeper ended left serves.between clock' link link' serves.runs)
 
 -- whether a turn stopped, and why
 abbrev pub ended_of : Turn → Result Unit Halt

@@ -52,16 +52,19 @@ replaced (y ∷ ys) (suc i) x x' h = ap (λ zs. y ∷ zs) (replaced ys i x x' h)
 
 -- it is the first of the kind
 pub is_first : {X : Type 0} (told : X → Option Rule) (kind place : ℕ) (fates : List X) (fate : X) → place < length fates → fate ≡ slice_index_or fates place fate → All (λ x. IsNotOf (told x) kind) (take place fates)
-    → IfSome (slice_get fates place) (λ f. IfSome (told f) (λ rule. rule.kind ≡ kind)) → IsFirstOf kind (map told fates) (told fate)
+    → IfSome (slice_get fates place) (λ f. IfSome (told f) (λ rule. rule.kind ≡ kind)) → IsFirstOf kind (map told fates) (told (slice_index_or fates place fate))
 is_first told kind place fates fate within is others here =
     let at : slice_get fates place ≡ Some fate = slice_get_read fates (length fates) place fate refl within is in
-    record {
+    subst
+    (λ found. IsFirstOf kind (map told fates) found)
+    (ap told is)
+    (record {
       before = map told (take place fates);
       behind = map told (drop (suc place) fates);
       stands = ap (map told) (split fates place fate at) ∙ map-append told (take place fates) (fate ∷ drop (suc place) fates);
       others = All-map (λ tells. IsNotOf tells kind) told (take place fates) others;
       kind_is = subst (λ o. IfSome o (λ f. IfSome (told f) (λ rule. rule.kind ≡ kind))) at here;
-    }
+    })
 
 -- the fate at the place was asked, and each other one stays
 pub asks_first : {X : Type 0} (tell : X → FateTold) (end : Ending) (kind wanted place : ℕ) (fates : List X) (fate after : X) → place < length fates → fate ≡ slice_index_or fates place fate → All (λ x. IsNotOf (tell x).rule kind) (take place fates)

@@ -6,7 +6,7 @@ ghost use Rattle.nq_command.specs.declared.Command.{Command};
 ghost use Rattle.nq_keeper.specs.StoredKeeper.{empty_kept, told_of};
 
 use anyhow::{Context, Result};
-use nq_base::{Change, Heads, Host, Party, Ticks};
+use nq_base::{Change, Heads, Host, Party};
 use nq_keeper::{KeepFault, Keeper, ListKeeper};
 use nq_link::MemLink;
 use nq_run::{Command, NoMemory, Words};
@@ -44,15 +44,6 @@ pub(crate) fn doubled(alloc: Global, text: Vec<u8>, times: u32) -> Result<Vec<u8
         text.extend_from_slice(&copy)?;
     }
     Ok(text)
-}
-
-/// Readings of a clock that goes on by so many ticks from each to the next.
-pub(crate) fn readings(alloc: Global, count: u32, step: u32) -> Result<Vec<Ticks>, NoMemory> {
-    let mut readings = Vec::new(alloc);
-    for reading in 0..count {
-        readings.push(Ticks(u64::from(reading) * u64::from(step)))?;
-    }
-    Ok(readings)
 }
 
 /// Keeps in an empty keeper that the last boot that there can be was made.

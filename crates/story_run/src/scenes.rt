@@ -1,9 +1,9 @@
 //! What words do in a scene.
 
-use crate::parts::{doubled, failing, keeper_of, link_of, links_of, readings, text_of};
+use crate::parts::{doubled, failing, keeper_of, link_of, links_of, text_of};
 use crate::top::status_of;
 use anyhow::Result;
-use nq_base::{Host, Party};
+use nq_base::{Host, Party, Ticks};
 use nq_clock::MemClock;
 use nq_io::{MemSink, MemSource};
 use nq_run::Words;
@@ -37,12 +37,10 @@ fn sink_of(alloc: Global, scene: &str) -> Result<MemSink> {
 
 /// The clock of a scene.
 fn clock_of(alloc: Global, scene: &str) -> Result<MemClock> {
-    let readings = if scene.starts_with("fast") {
-        readings(alloc, 40, 60)?
-    } else {
-        readings(alloc, 2, 1)?
-    };
-    Ok(MemClock::new(readings))
+    if scene.starts_with("fast") {
+        return Ok(MemClock::new(vec![in alloc; Ticks(0), Ticks(100_000)]?));
+    }
+    Ok(MemClock::new(vec![in alloc; Ticks(0), Ticks(1)]?))
 }
 
 /// Runs what words say in a scene; the status, and what was printed.

@@ -28,6 +28,7 @@ returns-clause-ran g c =
           (IsLeftInTurns g.K.Keeper.content g.K.Keeper.faults c.args.turns c.take_turns-ended.result
           (between c.args.server c.unwrap-log.result 0 (clock_of c.args.clock.now) (link_of c.args.link.now)) last c.take_turns-ended.ensures.turns.taken))
           (sym c.into_keeper.ensures) c.take_turns-ended.ensures.turns.only;
+      order = c.take_turns-ended.ensures.turns.order;
     }
 
 pub returns-clause-follows : goal.returns-clause-follows

@@ -18,6 +18,7 @@ returns-in_default-clause-serves g c =
           runs = inr (record { none = (refl, refl); same = g.met.K.Keeper.follows_itself c.args.keeper; clocks = refl; links = refl });
         };
         only = λ kept told found left. inl (c.pause.ensures.leaves kept told found left);
+        order = λ kept told. tt;
       },
       refl,
       refl,
@@ -40,6 +41,7 @@ returns-clause-serves g c =
         runs = c.boot_and_run-ended.ensures.runs.runs;
       };
       only = c.boot_and_run-ended.ensures.runs.only;
+      order = c.boot_and_run-ended.ensures.runs.order;
     })
     (subst (λ line. TellsTurns ran.ended line c.tell-end.result (g.S.Sink.held c.args.out.now) (g.S.Sink.held c.tell-end.new.out)
     (g.S.Sink.faults c.args.out.now)

@@ -11,7 +11,8 @@ loop-turn-init g c =
     let link_of = link_told g.L.Link.sent g.L.Link.waiting g.L.Link.faults g.L.Link.receives in
     record {
       goes = gone_none g.K.Keeper.content g.K.Keeper.faults g.K.Keeper.follows g.K.Keeper.leaves
-          (between c.args.server.now c.args.log.now c.args.next.now (clock_of c.args.clock.now) (link_of c.args.link.now));
+          (between c.args.server.now c.args.log.now c.args.next.now (clock_of c.args.clock.now) (link_of c.args.link.now))
+          (g.met.K.Keeper.follows_itself c.args.server.now.keeper);
       follows = g.met.K.Keeper.follows_itself c.args.server.now.keeper;
     }
 
@@ -22,11 +23,12 @@ pub returns-in-Err-clause-turns : goal.returns-in-Err-clause-turns
 returns-in-Err-clause-turns g c =
     let clock_of = clock_told g.C.Clock.floor g.C.Clock.readings in
     let link_of = link_told g.L.Link.sent g.L.Link.waiting g.L.Link.faults g.L.Link.receives in
-    gone_stopped g.K.Keeper.content g.K.Keeper.faults g.K.Keeper.follows g.K.Keeper.leaves g.met.K.Keeper.follows_on c.loop-turn._turn c.args.turns c.in-Err.why
+    gone_stopped g.K.Keeper.content g.K.Keeper.faults g.K.Keeper.follows g.K.Keeper.leaves g.met.K.Keeper.follows_itself g.met.K.Keeper.follows_on
+    c.loop-turn._turn c.args.turns c.in-Err.why
     (between c.args.server.now c.args.log.now c.args.next.now (clock_of c.args.clock.now) (link_of c.args.link.now))
     (between c.loop-turn.server c.loop-turn.log c.loop-turn.next (clock_of c.loop-turn.clock) (link_of c.loop-turn.link))
     (between c.take_turn.new.server c.take_turn.new.log c.take_turn.new.next (clock_of c.take_turn.new.clock) (link_of c.take_turn.new.link))
-    c.loop-turn-test.true c.loop-turn.invariant.follows c.loop-turn.invariant.goes c.in-Err.ensures.turn
+    c.loop-turn-test.true c.loop-turn.invariant.follows c.take_turn.ensures.follows c.loop-turn.invariant.goes c.in-Err.ensures.turn
 
 pub loop-turn-preserved : goal.loop-turn-preserved
 loop-turn-preserved g c =
@@ -35,11 +37,12 @@ loop-turn-preserved g c =
     record {
       goes =
           rw add-one (
-          gone_on g.K.Keeper.content g.K.Keeper.faults g.K.Keeper.follows g.K.Keeper.leaves g.met.K.Keeper.follows_on c.loop-turn._turn
+          gone_on g.K.Keeper.content g.K.Keeper.faults g.K.Keeper.follows g.K.Keeper.leaves g.met.K.Keeper.follows_itself g.met.K.Keeper.follows_on
+          c.loop-turn._turn
           (between c.args.server.now c.args.log.now c.args.next.now (clock_of c.args.clock.now) (link_of c.args.link.now))
           (between c.loop-turn.server c.loop-turn.log c.loop-turn.next (clock_of c.loop-turn.clock) (link_of c.loop-turn.link))
           (between c.take_turn.new.server c.take_turn.new.log c.take_turn.new.next (clock_of c.take_turn.new.clock) (link_of c.take_turn.new.link))
-          c.loop-turn.invariant.follows c.loop-turn.invariant.goes c.in-Ok.ensures.turn
+          c.loop-turn.invariant.follows c.take_turn.ensures.follows c.loop-turn.invariant.goes c.in-Ok.ensures.turn
           );
       follows = g.met.K.Keeper.follows_on _ _ _ c.loop-turn.invariant.follows c.take_turn.ensures.follows;
     }
