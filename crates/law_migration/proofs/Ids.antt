@@ -1,6 +1,6 @@
 -- The ids that a migration writes are those of version 1: row n has the id n + 1.
-use Rattle.std.proofs.Common.{◌≡◌, ◌≤◌, ◌<◌, ◌^◌, ◌+◌, ◌-◌, ◌*◌, ◌==◌, ◌&&◌, ℕ, zero, suc, Bool, true, false, List, [], ◌∷◌, ◌++◌, Option, Some, None, cond, length, drop, refl, sym, ap, subst, ◌∙◌, arith, length-append}
-use Rattle.std.specs.List.{All, count_by, list_any, sum_by}
+use Rattle.std.proofs.Common.{◌≡◌, ◌≤◌, ◌<◌, ◌^◌, ◌+◌, ◌-◌, ◌*◌, ◌==◌, ℕ, suc, true, false, List, [], ◌∷◌, ◌++◌, Option, Some, None, cond, length, drop, refl, sym, ap, subst, ◌∙◌, arith}
+use Rattle.std.specs.List.{All, list_any}
 use Rattle.std.specs.Prelude.{is_some, nat_le, nat_lt, not, replicate, slice_index_or}
 use Rattle.std.specs.Int.{w32, to_be_bytes}
 use Rattle.std.proofs.lemmas.Bool.Decides.{nat_tests}

@@ -1,37 +1,35 @@
 -- What a stop leaves of a migration, and what is there behind it, stands for the same.
-use Rattle.std.proofs.Common.{◌≡◌, ◌≤◌, ◌<◌, ◌+◌, ◌-◌, ◌*◌, ◌&&◌, ◌||◌, ◌⊎◌, max, ℕ, Bool, true, false, List, [], ◌∷◌, Option, Some, None, Result, Ok, length, get_or, if◌then◌else◌, refl, sym, ap, subst, ◌∙◌, inl, inr, arith}
+use Rattle.std.proofs.Common.{◌≡◌, ◌≤◌, ◌<◌, ◌+◌, ◌⊎◌, ℕ, Bool, true, false, List, [], ◌∷◌, Option, Some, None, Ok, length, get_or, if◌then◌else◌, refl, sym, ap, subst, ◌∙◌, inl, inr, arith}
 use Rattle.std.specs.Cmp.Lexicographic.{pointwise}
-use Rattle.std.specs.List.{All, sum_by}
+use Rattle.std.specs.List.{All}
 use Rattle.std.specs.Prelude.{nat_eq, nat_le, nat_lt}
 use Rattle.std.proofs.lemmas.Bool.Decides.{nat_tests}
 use Rattle.nq_disk.specs.Bytes.{written}
-use Rattle.nq_disk.specs.BytesLaws.{length-written, written-outside, written-within}
+use Rattle.nq_disk.specs.BytesLaws.{length-written, written-outside}
 use Rattle.nq_format.specs.Standing.{begins_as_image, image_area, settled_as, stands_as}
 use Rattle.nq_image.specs.Image.{FoundOne}
 use Rattle.nq_image.specs.Kept.{opened}
 use Rattle.nq_image.specs.Layout.{block_place, piece}
-use Rattle.nq_image.specs.Rows.{blocks_of, rows_checks, slots_of}
+use Rattle.nq_image.specs.Rows.{blocks_of}
 use Rattle.nq_image.specs.Whole.{has_image_name, image_in, of_one}
 use Rattle.nq_image.specs.Writing.{heads_bytes}
 use Rattle.nq_image.specs.declared.Slot.{Slot}
-use Rattle.nq_image.specs.declared.Version.{Version}
 use Rattle.nq_image.proofs.Holding.{length-slots}
 use Rattle.nq_image.proofs.Pieces.{at-piece, piece-same}
 use Rattle.nq_image.proofs.ReadBack.{and-two, ge-true}
 use Rattle.nq_redo.specs.Batch.{IsFit, body_of}
-use Rattle.nq_redo.specs.Ranges.{applied}
 use Rattle.nq_redo.specs.Record.{blanked, is_misplaced}
 use Rattle.nq_redo.specs.Whole.{IsClosed, OpensAs, after, found as found_by}
 use Rattle.nq_redo.proofs.Front.{front-stays}
 use Rattle.nq_redo.proofs.Opening.{blanked-outside, length-blanked, opened-closed}
-use Rattle.law_migration.specs.Migrated.{AgreeUpTo, IsMigrated, blocks_in, files_in, numbers_then}
+use Rattle.law_migration.specs.Migrated.{AgreeUpTo, IsMigrated, blocks_in, numbers_then}
 use Rattle.law_migration.specs.Prepared.{SameBelow, change_of, prepared}
 use Rattle.law_migration.proofs.Ids.{few-files}
 use Rattle.law_migration.proofs.Parts.{HasPartsOfOne, image-of-one, parts-of-one}
 use Rattle.law_migration.proofs.Rows.{short-rows}
 use Rattle.law_migration.proofs.Same.{one-opens-same, one-stays, reaches-end}
 use Rattle.law_migration.proofs.Two.{migrated-opens}
-use Rattle.law_migration.proofs.Written.{IsPrepared, piece-below, prepared-is, same-on, tables-stay, written-there}
+use Rattle.law_migration.proofs.Written.{IsPrepared, piece-below, prepared-is, tables-stay, written-there}
 
 abbrev blank : List ℕ → List ℕ
 blank bytes = blanked 28672 12288 bytes

@@ -1,5 +1,5 @@
 -- An image of version 1, part by part.
-use Rattle.std.proofs.Common.{◌≡◌, ◌≤◌, ◌+◌, ◌&&◌, ℕ, Bool, true, false, List, [], ◌∷◌, Option, Some, None, Result, Ok, Err, length, if◌then◌else◌, refl, sym, ap, subst, ◌∙◌, arith}
+use Rattle.std.proofs.Common.{◌≡◌, ◌≤◌, ◌&&◌, ℕ, Bool, true, false, List, [], Option, Some, None, Result, Ok, Err, length, if◌then◌else◌, refl, ap, subst, ◌∙◌}
 use Rattle.std.specs.Prelude.{nat_le, slice_index_or, sum_by}
 use Rattle.nq_base.specs.declared.HostRow.{HostRow}
 use Rattle.nq_image.specs.Check.{Check, tested}

@@ -1,7 +1,7 @@
 -- Where the rows and the blocks of the files are the same, an image of version 1 stands for the same.
-use Rattle.std.proofs.Common.{◌≡◌, ◌≤◌, ◌<◌, ◌+◌, ◌*◌, ◌-◌, ◌/◌, ℕ, Bool, true, List, [], ◌∷◌, Option, Some, Result, Ok, length, take, drop, map, get_or, refl, sym, ap, subst, ◌∙◌, arith}
+use Rattle.std.proofs.Common.{◌≡◌, ◌≤◌, ◌<◌, ◌+◌, ◌-◌, ℕ, List, [], ◌∷◌, Some, Ok, length, take, drop, get_or, sym, ap, subst, ◌∙◌, arith}
 use Rattle.std.specs.List.{All}
-use Rattle.std.specs.Prelude.{nat_eq, slice_index_or, sum_by}
+use Rattle.std.specs.Prelude.{nat_eq}
 use Rattle.std.specs.Cmp.Lexicographic.{pointwise}
 use Rattle.std.proofs.Math.Nat.{div-add-mod'}
 use Rattle.std.proofs.lemmas.List.Elements.{All-drop, All-take, All-weaker}
@@ -9,11 +9,10 @@ use Rattle.nq_model.specs.Kept.{File, Kept}
 use Rattle.nq_image.specs.Heads.{boots_checks, boots_of, version_of}
 use Rattle.nq_image.specs.Hosts.{hosts_checks, hosts_of}
 use Rattle.nq_image.specs.Image.{FoundOne}
-use Rattle.nq_image.specs.Kept.{FoundKept, body_in, file_in, found_kept, kept_in, kept_one, numbers_from, opened, stands_for}
+use Rattle.nq_image.specs.Kept.{FoundKept, body_in, file_in, kept_in, kept_one, numbers_from, opened, stands_for}
 use Rattle.nq_image.specs.Layout.{are_zeros, block_place, piece, whole_blocks}
-use Rattle.nq_image.specs.Rows.{blocks_of, rows_checks, slots_of}
-use Rattle.nq_image.specs.Whole.{Found, has_image_name, image_in, of_one}
-use Rattle.nq_image.specs.declared.Boots.{Boots}
+use Rattle.nq_image.specs.Rows.{rows_checks, slots_of}
+use Rattle.nq_image.specs.Whole.{image_in, of_one}
 use Rattle.nq_image.specs.declared.FoundFile.{FoundFile}
 use Rattle.nq_image.specs.declared.Version.{Version}
 use Rattle.nq_image.proofs.Agreeing.{map-same}
@@ -21,7 +20,7 @@ use Rattle.nq_image.proofs.Giving.{numbers-below}
 use Rattle.nq_image.proofs.Pieces.{piece-by-first, piece-same, at-piece}
 use Rattle.nq_image.proofs.ReadBack.{Hold}
 use Rattle.law_migration.specs.Migrated.{AgreeUpTo, blocks_in}
-use Rattle.law_migration.proofs.Parts.{HasPartsOfOne, HasRowsOfOne, image-of-one, parts-of-one}
+use Rattle.law_migration.proofs.Parts.{HasPartsOfOne, image-of-one, parts-of-one}
 
 -- ---- bodies
 

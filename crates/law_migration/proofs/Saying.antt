@@ -1,5 +1,5 @@
 -- An image of version 1 is what its first bytes say.
-use Rattle.std.proofs.Common.{◌≡◌, ◌≤◌, ◌<◌, ◌+◌, ◌&&◌, ℕ, Bool, true, false, List, [], ◌∷◌, Option, Some, None, Result, Ok, Err, length, if◌then◌else◌, refl, sym, ap, ◌∙◌, inl, arith}
+use Rattle.std.proofs.Common.{◌≡◌, ◌≤◌, ◌&&◌, ℕ, Bool, true, false, List, [], ◌∷◌, Option, Some, None, Result, Ok, Err, length, if◌then◌else◌, refl, sym, ap, ◌∙◌, inl, arith}
 use Rattle.std.specs.Cmp.Lexicographic.{pointwise}
 use Rattle.std.specs.Prelude.{nat_eq, nat_le, slice_index_or, sum_by}
 use Rattle.nq_base.specs.declared.HostRow.{HostRow}

@@ -1,5 +1,5 @@
 -- An image of version 1 that was migrated is one of version 2, and stands for the same.
-use Rattle.std.proofs.Common.{◌≡◌, ◌≤◌, ◌<◌, ◌+◌, ◌-◌, ◌*◌, ℕ, Bool, false, List, [], ◌∷◌, ◌++◌, Option, Some, Result, Ok, length, get_or, refl, sym, ap, subst, ◌∙◌, arith}
+use Rattle.std.proofs.Common.{◌≡◌, ◌≤◌, ◌+◌, ◌-◌, ◌*◌, ℕ, false, List, [], ◌∷◌, ◌++◌, Option, Some, Ok, length, get_or, refl, sym, ap, subst, ◌∙◌, arith}
 use Rattle.std.specs.Prelude.{nat_eq, sum_by}
 use Rattle.std.specs.Cmp.Lexicographic.{pointwise}
 use Rattle.std.proofs.lemmas.List.Elements.{All-nil}
@@ -11,7 +11,7 @@ use Rattle.nq_image.specs.Kept.{FoundKept, files_of, kept_in, kept_one, kept_two
 use Rattle.nq_image.specs.Layout.{are_zeros, block_place, piece}
 use Rattle.nq_image.specs.Rows.{blocks_of, rows_checks, slots_of}
 use Rattle.nq_image.specs.Tables.{ids_checks, ids_of, tables_marks}
-use Rattle.nq_image.specs.Whole.{Found, has_image_name, image_in, of_one, of_two}
+use Rattle.nq_image.specs.Whole.{image_in, of_one}
 use Rattle.nq_image.specs.Writing.{entries_bytes, front_bytes, table_bytes, zeros_of}
 use Rattle.nq_image.specs.declared.FoundFile.{FoundFile}
 use Rattle.nq_image.specs.declared.Front.{Front}
@@ -24,7 +24,7 @@ use Rattle.nq_image.proofs.Parting.{BeginsAsTwo, HasParts, image-of-parts}
 use Rattle.nq_image.proofs.Pieces.{at-piece}
 use Rattle.nq_image.proofs.ReadBack.{Hold}
 use Rattle.nq_image.proofs.Tabling.{AreFree, all-held}
-use Rattle.law_migration.specs.Migrated.{IsMigrated, blocks_in, files_in}
+use Rattle.law_migration.specs.Migrated.{IsMigrated, files_in}
 use Rattle.law_migration.proofs.Ids.{AreIdsBack, few-files, ids-back, length-files}
 use Rattle.law_migration.proofs.Numbers.{AreBootsRight, boots-right, front-then, numbered, numbered-within, piece-behind}
 use Rattle.law_migration.proofs.Parts.{HasPartsOfOne, parts-of-one}

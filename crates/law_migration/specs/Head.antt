@@ -1,5 +1,5 @@
 -- What the first bytes of an image of version 1 say.
-use Rattle.std.specs.Prelude.{ℕ, List, Result, Ok, Err, sum_by}
+use Rattle.std.specs.Prelude.{ℕ, List, Result, Ok}
 use Rattle.nq_image.specs.Check.{tested}
 use Rattle.nq_image.specs.Heads.{boots_checks, boots_of}
 use Rattle.nq_image.specs.Image.{FoundOne, ◌>>=◌, reached, rows_in}

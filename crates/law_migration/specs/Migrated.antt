@@ -1,9 +1,9 @@
 -- An image of version 1, and what a migration makes of it.
-use Rattle.std.specs.Prelude.{◌≡◌, ◌≤◌, ◌<◌, ◌+◌, ◌*◌, ℕ, List, [], ◌∷◌, ◌++◌, Option, Ok, Some, length, count_by, is_some, slice_index, sum_by}
+use Rattle.std.specs.Prelude.{◌≡◌, ◌≤◌, ◌<◌, ◌+◌, ℕ, List, [], ◌∷◌, ◌++◌, Option, length, count_by, is_some, slice_index, sum_by}
 use Rattle.std.specs.Int.{w32, to_be_bytes}
 use Rattle.nq_base.specs.declared.Heads.{Heads}
 use Rattle.nq_image.specs.Image.{FoundOne}
-use Rattle.nq_image.specs.Kept.{body_in, numbers_from}
+use Rattle.nq_image.specs.Kept.{numbers_from}
 use Rattle.nq_image.specs.Layout.{block_place, piece}
 use Rattle.nq_image.specs.Rows.{blocks_of}
 use Rattle.nq_image.specs.Writing.{heads_bytes, table_of_blocks}

@@ -1,10 +1,10 @@
 -- What a call of a store does that is answered out of memory, or refused.
-use Rattle.std.proofs.Common.{◌≡◌, ◌⊎◌, ◌≤◌, ℕ, Bool, true, false, List, Option, Some, None, Result, Ok, Err, refl, sym, ap, subst, ◌∙◌, inl, inr, arith}
+use Rattle.std.proofs.Common.{◌≡◌, ◌≤◌, ℕ, Bool, true, false, List, Option, Result, Ok, Err, refl, sym, ap, subst, ◌∙◌, inl}
 use Rattle.nq_base.specs.declared.Change.{Change}
 use Rattle.nq_io.specs.Faults.{count_up}
 use Rattle.nq_keeper.specs.Keeping.{Commits, LeavesOne, LeavesTwo, Reads}
 use Rattle.nq_keeper.specs.declared.keeper.KeepFault.{KeepFault}
-use Rattle.nq_keeper.specs.declared.keeper.KeepFault.TheVariants.{Failed, Memory}
+use Rattle.nq_keeper.specs.declared.keeper.KeepFault.TheVariants.{Failed}
 use Rattle.nq_model.specs.Kept.{Kept}
 use Rattle.nq_store.specs.Storing.{GoesOn, IsSound, LeavesKept, StoredStore, after_asking, answered, content_of, faults_of, refusals}
 use Rattle.nq_store.proofs.Keeping.{leaves-same, rose-refused}

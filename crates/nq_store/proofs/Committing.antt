@@ -1,15 +1,15 @@
 -- A change is kept whole, or nothing of it.
-use Rattle.std.proofs.Common.{◌≡◌, ◌⊎◌, ◌≤◌, ◌<◌, ◌+◌, ℕ, Bool, true, false, List, Option, Some, None, Result, Ok, Err, length, refl, sym, ap, subst, ◌∙◌, inl, inr, arith}
+use Rattle.std.proofs.Common.{◌≡◌, ◌⊎◌, ℕ, List, Option, Some, None, length, refl, sym, ap, subst, ◌∙◌, inl, inr, arith}
 use Rattle.std.specs.List.{All}
 use Rattle.std.specs.Option.{ForSome}
 use Rattle.nq_base.specs.declared.Change.{Change}
 use Rattle.nq_format.specs.Standing.{image_area}
-use Rattle.nq_image.specs.Standing.{Agree, IsFree, Standing, Stands, kept_at}
+use Rattle.nq_image.specs.Standing.{Agree, IsFree, Standing, kept_at}
 use Rattle.nq_keeper.specs.Keeping.{LeavesTwo, told_after}
 use Rattle.nq_model.specs.Change.{Fits, IsChangeWithin, IsWithinBounds, applied}
 use Rattle.nq_model.specs.Kept.{Kept}
 use Rattle.nq_model.proofs.WithinBounds.{within-applied}
-use Rattle.nq_plan.specs.Held.{HeldTables, IsHeldOf}
+use Rattle.nq_plan.specs.Held.{HeldTables}
 use Rattle.nq_plan.specs.Placing.{IsPlacedFor}
 use Rattle.nq_plan.specs.Ranges.{ranges_of}
 use Rattle.nq_plan.specs.Settling.{settled}
@@ -17,9 +17,9 @@ use Rattle.nq_plan.specs.declared.Placed.{Placed}
 use Rattle.nq_redo.specs.Batch.{IsFit}
 use Rattle.nq_redo.specs.Ranges.{Range}
 use Rattle.nq_redo.specs.Saying.{Each}
-use Rattle.nq_redo.specs.Whole.{OpensAfter, OpensAs, Settled, after}
+use Rattle.nq_redo.specs.Whole.{Settled, after}
 use Rattle.law_image.specs.Changing.{CanBeWritten, IsWritten, new_blocks, zeroed}
-use Rattle.nq_store.specs.Storing.{IsKeptOn, IsReady, IsSound, LeavesKept, OpensWhole, StandsStill, content_while, kept_on, kept_told}
+use Rattle.nq_store.specs.Storing.{IsKeptOn, IsReady, LeavesKept, OpensWhole, kept_on, kept_told}
 use Rattle.nq_image.proofs.Agreeing.{agree-kept, agree-stands}
 use Rattle.law_image.proofs.Fitting.{change-fits}
 use Rattle.law_image.proofs.Zeroing.{all-zeros, zeroed-agrees}

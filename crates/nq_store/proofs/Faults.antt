@@ -1,10 +1,7 @@
 -- Which faults raise the count of a disk.
-use Rattle.std.proofs.Common.{◌≡◌, ℕ, Result, Ok, Err}
+use Rattle.std.proofs.Common.{◌≡◌, ℕ, Err}
 use Rattle.nq_image.specs.declared.ImageFault.{ImageFault}
 use Rattle.nq_image.specs.declared.ImageFault.TheVariants as image
-use Rattle.nq_redo.specs.Whole.{IsArea}
-use Rattle.nq_redo.specs.declared.Area.{Area}
-use Rattle.nq_format.specs.Standing.{image_area}
 use Rattle.nq_store.specs.Opening.{CountsFault, FailsNot}
 use Rattle.nq_store.specs.Telling.{fault_of}
 use Rattle.nq_store.specs.declared.fault.Fault.{Fault}

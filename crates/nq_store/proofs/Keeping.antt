@@ -1,20 +1,19 @@
 -- What a store tells of what it keeps, and what a stop leaves of it.
-use Rattle.std.proofs.Common.{◌≡◌, ◌⊎◌, ◌≤◌, ◌<◌, ◌+◌, ◌-◌, ◌^◌, ℕ, Bool, true, false, List, [], Option, Some, None, Result, Ok, Err, length, min, if◌then◌else◌, refl, sym, ap, subst, ◌∙◌, inl, inr, arith}
+use Rattle.std.proofs.Common.{◌≡◌, ◌<◌, ◌+◌, ◌-◌, ◌^◌, ℕ, Bool, true, false, List, [], Option, Some, None, Result, Ok, if◌then◌else◌, refl, sym, ap, subst, ◌∙◌, inl, inr, arith}
 use Rattle.std.specs.Prelude.{IfOk}
 use Rattle.std.specs.Option.{ForSome}
 use Rattle.std.proofs.lemmas.Bool.{cases_lt}
 use Rattle.nq_format.specs.Standing.{stands_as}
-use Rattle.nq_image.specs.Standing.{Standing, kept_at}
+use Rattle.nq_image.specs.Standing.{kept_at}
 use Rattle.nq_io.specs.Faults.{Rose, count_up}
 use Rattle.nq_keeper.specs.Bounds.{within-decides}
-use Rattle.nq_keeper.specs.Keeping.{LeavesOne, Reads}
-use Rattle.nq_keeper.specs.StoredKeeper.{is_within}
+use Rattle.nq_keeper.specs.Keeping.{LeavesOne}
 use Rattle.nq_keeper.specs.declared.keeper.KeepFault.{KeepFault}
 use Rattle.nq_model.specs.Change.{IsWithinBounds}
 use Rattle.nq_model.specs.Kept.{Kept}
 use Rattle.nq_plan.specs.Held.{HeldTables, IsHeldOf}
 use Rattle.nq_store.specs.Laws.{tells-bytes}
-use Rattle.nq_store.specs.Storing.{IsKeptOn, IsSound, LeavesKept, answered, content_while, counted, if_within, kept_of, kept_on, kept_told}
+use Rattle.nq_store.specs.Storing.{IsKeptOn, IsSound, LeavesKept, answered, content_while, counted, if_within, kept_of, kept_on}
 use Rattle.nq_image.proofs.Owning.{rows-of, standing-apart}
 use Rattle.law_image.proofs.Opening.{closed-stands}
 use Rattle.nq_store.proofs.Rows.{AreApartRows, rows-apart}

@@ -1,27 +1,24 @@
 -- The steps of a migration.
-use Rattle.std.proofs.Common.{◌≡◌, ◌⊎◌, ◌≤◌, ◌<◌, ◌+◌, ◌*◌, ℕ, true, List, [], ◌∷◌, Option, Some, None, Result, Ok, Err, length, get_or, drop, refl, sym, ap, subst, ◌∙◌, inl, inr, arith}
-use Rattle.std.specs.List.{All, sum_by}
+use Rattle.std.proofs.Common.{◌≡◌, ◌⊎◌, ◌≤◌, ◌<◌, ◌+◌, ℕ, List, ◌∷◌, Option, Some, None, Result, Ok, Err, length, get_or, drop, refl, sym, ap, subst, ◌∙◌, inl, inr, arith}
+use Rattle.std.specs.List.{sum_by}
 use Rattle.std.specs.Prelude.{OnOk}
-use Rattle.std.specs.Option.{ForSome}
 use Rattle.std.proofs.lemmas.List.{at_drop_all, at_drop_more}
 use Rattle.std.proofs.lemmas.List.Sums.{sum_by-cons}
 use Rattle.nq_disk.specs.Bytes.{Torn, written}
-use Rattle.nq_format.specs.Standing.{begins_as_image, image_area, stands_as}
-use Rattle.nq_image.specs.Image.{FoundOne, ◌>>=◌, image_one, reached}
+use Rattle.nq_format.specs.Standing.{image_area, stands_as}
+use Rattle.nq_image.specs.Image.{FoundOne, ◌>>=◌, reached}
 use Rattle.nq_image.specs.Kept.{numbers_from}
-use Rattle.nq_image.specs.Layout.{block_place, piece}
+use Rattle.nq_image.specs.Layout.{block_place}
 use Rattle.nq_image.specs.Reading.{Reads}
 use Rattle.nq_image.specs.Rows.{blocks_of}
 use Rattle.nq_image.specs.Seen.{seen_one}
-use Rattle.nq_image.specs.Whole.{image_in, of_one}
 use Rattle.nq_image.specs.Writing.{table_of_blocks}
 use Rattle.nq_image.specs.declared.ImageFault.{ImageFault}
 use Rattle.nq_image.specs.declared.ImageFault.TheVariants as image
 use Rattle.nq_image.specs.declared.ImageOne.{ImageOne}
 use Rattle.nq_image.specs.declared.Slot.{Slot}
 use Rattle.nq_redo.specs.Batch.{IsFit}
-use Rattle.nq_redo.specs.Ranges.{Range}
-use Rattle.nq_redo.specs.Saying.{Each, Only}
+use Rattle.nq_redo.specs.Saying.{Each}
 use Rattle.nq_redo.specs.Whole.{IsClosed, OpensAfter, OpensAsOne, Settled, after}
 use Rattle.law_migration.specs.Head.{if_reached}
 use Rattle.law_migration.specs.Migrated.{blocks_in}
@@ -30,7 +27,7 @@ use Rattle.law_migration.proofs.Leaving.{as-before, below-closed, below-stands, 
 use Rattle.law_migration.proofs.Parts.{parts-of-one}
 use Rattle.law_migration.proofs.Same.{reaches-end}
 use Rattle.nq_store.specs.Examining.{Examines, Tests}
-use Rattle.nq_store.specs.Migrating.{CountsWriting, IsMigrated, IsOldImage, LeavesSameKept, Migrates}
+use Rattle.nq_store.specs.Migrating.{CountsWriting, IsMigrated, IsOldImage, Migrates}
 use Rattle.nq_store.specs.Opening.{CountsFault}
 use Rattle.nq_store.specs.Storing.{kept_of, kept_on}
 use Rattle.nq_store.specs.Telling.{fault_of}

@@ -3,7 +3,7 @@ use Rattle.std.proofs.Common.{◌≡◌, ℕ, List, Option, Some, None, Result, 
 use Rattle.std.specs.Option.{ForSome}
 use Rattle.nq_format.specs.Standing.{stands_as}
 use Rattle.nq_plan.specs.Held.{HeldTables}
-use Rattle.nq_store.specs.Loading.{IsLoaded, IsShut, IsShutAs, OpensTables}
+use Rattle.nq_store.specs.Loading.{IsShut, IsShutAs, OpensTables}
 use Rattle.nq_store.specs.Opening.{SaysWrong, open_fault}
 use Rattle.nq_store.specs.Storing.{IsKeptOn, kept_of, kept_on, kept_told}
 use Rattle.nq_store.specs.declared.fault.Fault.{Fault}

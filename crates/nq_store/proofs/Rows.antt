@@ -1,5 +1,5 @@
 -- What the tables say of a file is what is kept of it.
-use Rattle.std.proofs.Common.{◌≡◌, ◌≢◌, ◌≤◌, ◌<◌, ◌+◌, ◌==◌, ℕ, suc, Bool, true, false, List, [], ◌∷◌, ◌++◌, Option, Some, None, get_or, map, length, take, drop, if◌then◌else◌, refl, sym, ap, subst, ◌∙◌, arith, length-append}
+use Rattle.std.proofs.Common.{◌≡◌, ◌≢◌, ◌<◌, ◌+◌, ◌==◌, ℕ, suc, Bool, true, false, List, [], ◌∷◌, ◌++◌, Option, Some, None, get_or, map, length, take, drop, if◌then◌else◌, refl, sym, ap, subst, ◌∙◌, arith, length-append}
 use Rattle.std.specs.List.{All, find, position, slice_get, sum_by}
 use Rattle.std.specs.Prelude.{count_by, is_some, nat_eq, nat_lt, option_map, slice_index_or}
 use Rattle.std.specs.Cmp.Lexicographic.{pointwise}
@@ -13,13 +13,13 @@ use Rattle.std.proofs.lemmas.Slice.Eq.{bytes_eq-Decides}
 use Rattle.nq_base.specs.declared.FileRow.{FileRow}
 use Rattle.nq_base.specs.declared.Space.{Space}
 use Rattle.nq_image.specs.Kept.{body_in}
-use Rattle.nq_image.specs.Standing.{AreNumbered, CanStand, IsApartFrom, PlacedFile, Standing, Stands, file_at, files_in, kept_at, others, row_at, row_blocks, row_for, with_rows}
+use Rattle.nq_image.specs.Standing.{AreNumbered, CanStand, IsApartFrom, PlacedFile, Standing, file_at, files_in, kept_at, row_at, row_blocks, with_rows}
 use Rattle.nq_keeper.specs.Keeping.{body_at}
-use Rattle.nq_model.specs.Change.{file_after, heads_of, row_of, row_of_found, space_of}
+use Rattle.nq_model.specs.Change.{file_after, heads_of, row_of_found, space_of}
 use Rattle.nq_model.specs.Kept.{File, blocks_in_all, blocks_of, find_file, find_name, fresh_row, host_row}
 use Rattle.nq_plan.specs.Finding as said
 use Rattle.nq_store.specs.Storing.{space_in}
-use Rattle.nq_store.proofs.Sought.{IsOne, closer, found-again, id_if, in-order, length-sum, rows-nearest, rows-sum}
+use Rattle.nq_store.proofs.Sought.{IsOne, found-again, id_if, in-order, length-sum, rows-nearest, rows-sum}
 
 -- ---- rows stand apart
 

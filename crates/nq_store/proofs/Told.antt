@@ -1,5 +1,5 @@
 -- What the calls answer that open a store.
-use Rattle.std.proofs.Common.{◌≡◌, ◌≢◌, ◌⊎◌, ◌≤◌, ◌<◌, ◌+◌, ◌-◌, ◌&&◌, inl, inr, ⊎_elim, min, ℕ, Bool, true, false, List, [], ◌∷◌, Option, Some, None, Result, Ok, Err, take, drop, length, get_or, if◌then◌else◌, refl, sym, ap, subst, ◌∙◌, arith}
+use Rattle.std.proofs.Common.{◌≡◌, ◌⊎◌, ◌≤◌, ◌<◌, ◌+◌, ◌&&◌, inl, inr, ⊎_elim, min, ℕ, Bool, true, false, List, Option, Some, None, Result, Ok, Err, take, drop, length, get_or, if◌then◌else◌, refl, sym, ap, subst, ◌∙◌, arith}
 use Rattle.std.specs.Option.{ForSome}
 use Rattle.std.specs.Prelude.{nat_le, slice_index}
 use Rattle.std.proofs.lemmas.Bool.{cases_lt}
@@ -33,7 +33,7 @@ use Rattle.nq_redo.proofs.Opening.{blanked-outside, opened-closed}
 use Rattle.law_image.specs.Reading.{IsClosedImage, ReadsImage}
 use Rattle.law_image.proofs.Closed.{blanked_bytes, front-wrong, no-version, read-so, same-parts}
 use Rattle.law_image.proofs.Opening.{blank}
-use Rattle.nq_store.specs.Loading.{AreFrontOf, Gives, IsHeadOf, IsLoaded, IsShut, IsShutAs, Loads, OpensTables, is_name}
+use Rattle.nq_store.specs.Loading.{AreFrontOf, Gives, IsHeadOf, IsShut, IsShutAs, Loads, OpensTables, is_name}
 use Rattle.nq_store.specs.Migrating.{IsMigrated, IsOld, Migrates}
 use Rattle.nq_store.specs.Opening.{SaysWrong, open_fault}
 use Rattle.nq_store.specs.Telling.{fault_of}

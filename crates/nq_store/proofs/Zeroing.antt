@@ -1,7 +1,7 @@
 -- Zeros are written over blocks that no file has.
-use Rattle.std.proofs.Common.{◌≡◌, ◌⊎◌, ◌≤◌, ◌<◌, ◌+◌, ◌*◌, ◌-◌, ◌++◌, ℕ, zero, suc, List, [], ◌∷◌, Option, Some, None, Result, Ok, Err, length, get_or, take, drop, refl, sym, ap, subst, ◌∙◌, inl, inr, arith}
+use Rattle.std.proofs.Common.{◌≡◌, ◌⊎◌, ◌≤◌, ◌<◌, ◌+◌, ◌*◌, ℕ, zero, suc, List, ◌∷◌, Result, Ok, Err, length, get_or, take, drop, refl, sym, ap, subst, ◌∙◌, inl, inr, arith}
 use Rattle.std.specs.List.{All}
-use Rattle.std.specs.Prelude.{OnOk, min, replicate}
+use Rattle.std.specs.Prelude.{OnOk, replicate}
 use Rattle.std.proofs.lemmas.List.{at_drop_more, at_drop_all, take_all}
 use Rattle.nq_base.specs.Block.{filled, repeated, zeros}
 use Rattle.nq_disk.specs.Bytes.{Torn, written}

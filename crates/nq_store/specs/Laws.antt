@@ -1,11 +1,11 @@
 -- The laws of a store as a keeper.
-use Rattle.std.proofs.Common.{◌≡◌, ◌⊎◌, ◌≤◌, ℕ, Bool, true, false, List, Option, Some, None, Result, Ok, Err, if◌then◌else◌, refl, sym, subst, ◌∙◌, inl, inr, ⊎_elim, arith}
+use Rattle.std.proofs.Common.{◌≡◌, ◌⊎◌, ◌≤◌, ℕ, Bool, true, false, List, Option, Some, None, Result, Ok, Err, if◌then◌else◌, refl, sym, subst, inl, inr, ⊎_elim, arith}
 use Rattle.nq_format.specs.Standing.{stands_as}
 use Rattle.nq_keeper.specs.Bounds.{within-decides}
 use Rattle.nq_keeper.specs.StoredKeeper.{is_within}
 use Rattle.nq_model.specs.Change.{IsWithinBounds}
 use Rattle.nq_model.specs.Kept.{Kept}
-use Rattle.nq_store.specs.Storing.{GoesOn, LeavesKept, StoredStore, content_of, content_while, counted, faults_of, kept_of, kept_on, kept_told}
+use Rattle.nq_store.specs.Storing.{GoesOn, LeavesKept, StoredStore, content_of, content_while, counted, faults_of, kept_of, kept_on}
 
 if-within : (kept found : Kept) (b : Bool) → is_within kept ≡ b → (if b then Some kept else None) ≡ Some found → IsWithinBounds found
 if-within kept found false is e = cc

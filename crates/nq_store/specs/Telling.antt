@@ -1,5 +1,4 @@
 -- What is wrong with an image, as the opening of a store tells it.
-use Rattle.std.specs.Prelude.{ℕ}
 use Rattle.nq_image.specs.declared.ImageFault.{ImageFault}
 use Rattle.nq_image.specs.declared.ImageFault.TheVariants as image
 use Rattle.nq_store.specs.declared.fault.Fault.{Fault}

@@ -1,6 +1,6 @@
 use Rattle.std.proofs.Common.{◌≡◌, ℕ, List, Result, Ok, Err, length, sym, ap, subst, ◌∙◌, rules}
 use Rattle.std.specs.List.{sum_by}
-use Rattle.nq_image.specs.Image.{FoundOne, ◌>>=◌, image_one, reached}
+use Rattle.nq_image.specs.Image.{◌>>=◌, image_one, reached}
 use Rattle.nq_image.specs.Rows.{blocks_of}
 use Rattle.nq_image.specs.declared.ImageOne.{ImageOne}
 use Rattle.law_migration.specs.Head.{head_one, if_reached}

@@ -1,7 +1,4 @@
-use Rattle.std.proofs.Common.{rules, ◌≡◌, ℕ, List, Result, Ok, Err, sym, ap, subst, ◌∙◌}
-use Rattle.nq_image.specs.Check.{tested}
-use Rattle.nq_image.specs.Heads.{front_checks, front_of}
-use Rattle.nq_image.specs.declared.Front.{Front}
+use Rattle.std.proofs.Common.{rules, ◌≡◌, Result, Ok, Err, sym, subst}
 use Rattle.nq_plan.specs.Held.{HeldTables}
 use Rattle.nq_store.specs.Loading.{Loads}
 use Rattle.nq_store.specs.declared.fault.Fault.{Fault}

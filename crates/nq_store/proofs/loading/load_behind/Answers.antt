@@ -1,11 +1,7 @@
-use Rattle.std.proofs.Common.{rules, ◌≡◌, ◌+◌, ◌*◌, ℕ, List, Result, Ok, Err, sym, ap, subst, ◌∙◌}
-use Rattle.nq_image.specs.Image.{image_two, no_marks}
-use Rattle.nq_image.specs.Layout.{block_place, piece}
-use Rattle.nq_image.specs.declared.ImageFault.{ImageFault}
+use Rattle.std.proofs.Common.{rules, ◌≡◌, ℕ, Result, Ok, Err, sym, ap, subst, ◌∙◌}
+use Rattle.nq_image.specs.Layout.{piece}
 use Rattle.nq_plan.specs.Held.{HeldTables}
-use Rattle.nq_plan.specs.Reading.{ArePartsOf, HoldsIn}
-use Rattle.law_image.specs.Reading.{ReadsImage}
-use Rattle.nq_store.specs.Loading.{AreFrontOf, Gives, Loads}
+use Rattle.nq_store.specs.Loading.{Loads}
 use Rattle.nq_store.specs.Telling.{fault_of}
 use Rattle.nq_store.specs.declared.fault.Fault.{Fault}
 use Rattle.nq_store.proofs.Told.{gives-loads, held-loads, image-loads, parts-read}

@@ -1,7 +1,4 @@
-use Rattle.std.proofs.Common.{◌≡◌, ℕ, List, [], ◌∷◌, ◌++◌, Option, refl, sym, ap, ◌∙◌, arith}
-use Rattle.std.specs.Prelude.{is_some, sum_by}
-use Rattle.nq_image.specs.Rows.{blocks_of}
-use Rattle.nq_image.specs.declared.Slot.{Slot}
+use Rattle.std.proofs.Common.{sym, ap, ◌∙◌}
 use Rattle.law_migration.specs.Migrated.{blocks_in, files_in}
 use Rattle.nq_store.proofs.migrating.batch_of.Goals as goal
 

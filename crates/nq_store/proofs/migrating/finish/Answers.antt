@@ -1,4 +1,4 @@
-use Rattle.std.proofs.Common.{◌≡◌, ◌⊎◌, ◌≤◌, ℕ, List, length, refl, sym, ap, subst, ◌∙◌, inl, inr, arith}
+use Rattle.std.proofs.Common.{◌⊎◌, ℕ, List, length, refl, subst, ◌∙◌, inl, inr, arith}
 use Rattle.nq_format.specs.Standing.{image_area}
 use Rattle.nq_redo.specs.Batch.{IsFit}
 use Rattle.nq_redo.specs.Saying.{Each}

@@ -1,4 +1,4 @@
-use Rattle.std.proofs.Common.{◌≡◌, ℕ, List, Result, Ok, Err, refl, sym, ap, subst, ◌∙◌, inr, rules}
+use Rattle.std.proofs.Common.{◌≡◌, ℕ, Result, Err, refl, sym, ap, subst, ◌∙◌, inr, rules}
 use Rattle.nq_image.specs.Image.{image_one}
 use Rattle.nq_image.specs.Seen.{seen_one}
 use Rattle.law_migration.proofs.Saying.{right-one, wrong-one}

@@ -1,11 +1,11 @@
-use Rattle.std.proofs.Common.{◌≡◌, ◌≤◌, ◌+◌, ℕ, List, Some, length, refl, sym, ap, subst, ◌∙◌, inr, arith}
-use Rattle.nq_disk.specs.Bytes.{Torn, written}
+use Rattle.std.proofs.Common.{◌≤◌, ◌+◌, ℕ, List, Some, length, ap, subst, ◌∙◌, inr, arith}
+use Rattle.nq_disk.specs.Bytes.{written}
 use Rattle.nq_disk.specs.Calling.{told_after}
 use Rattle.nq_image.specs.Kept.{numbers_from}
 use Rattle.nq_image.specs.Layout.{block_place}
 use Rattle.nq_image.specs.Writing.{table_of_blocks}
 use Rattle.nq_redo.specs.Saying.{Each}
-use Rattle.law_migration.specs.Migrated.{blocks_in, files_in}
+use Rattle.law_migration.specs.Migrated.{blocks_in}
 use Rattle.law_migration.specs.Prepared.{SameBelow, tabled}
 use Rattle.nq_store.proofs.Migrated.{torn-below}
 use Rattle.nq_store.proofs.Zeroing.{through}

@@ -1,4 +1,4 @@
-use Rattle.std.proofs.Common.{◌≡◌, ◌≤◌, ◌⊎◌, ℕ, List, Option, length, refl, sym, ap, subst, ◌∙◌, inl, inr}
+use Rattle.std.proofs.Common.{◌≡◌, ◌≤◌, ◌⊎◌, List, Option, length, sym, ap, subst, inr}
 use Rattle.nq_format.specs.Standing.{image_area}
 use Rattle.nq_image.specs.Layout.{block_place}
 use Rattle.nq_image.specs.declared.Slot.{Slot}
@@ -7,9 +7,9 @@ use Rattle.nq_redo.specs.Ranges.{Range}
 use Rattle.nq_redo.specs.Saying.{Each}
 use Rattle.nq_redo.specs.Whole.{IsClosed, OpensAfter, OpensAsOne, Settled, after}
 use Rattle.law_migration.specs.Migrated.{blocks_in}
-use Rattle.law_migration.specs.Prepared.{SameBelow, change_of, prepared}
+use Rattle.law_migration.specs.Prepared.{SameBelow, prepared}
 use Rattle.nq_store.specs.Storing.{kept_on}
-use Rattle.nq_store.proofs.Migrated.{all-closed, below-kept, either-kept, is-fit, migrated-so, on-ok, reach, same-itself, then-ok}
+use Rattle.nq_store.proofs.Migrated.{all-closed, below-kept, either-kept, is-fit, migrated-so, on-ok, reach, then-ok}
 use Rattle.nq_store.proofs.Zeroing.{through}
 use Rattle.nq_store.proofs.migrating.rewrite.Goals as goal
 

@@ -1,7 +1,6 @@
-use Rattle.std.proofs.Common.{◌≡◌, ◌≤◌, ◌<◌, ◌+◌, ◌*◌, ℕ, List, Option, Some, None, length, get_or, drop, refl, sym, ap, subst, ◌∙◌, inr, arith}
-use Rattle.std.specs.List.{sum_by}
+use Rattle.std.proofs.Common.{◌≡◌, ◌+◌, ℕ, List, Some, None, length, get_or, drop, refl, sym, ap, subst, ◌∙◌, inr, arith}
 use Rattle.std.proofs.lemmas.List.{get_or_default}
-use Rattle.nq_disk.specs.Bytes.{Torn, written}
+use Rattle.nq_disk.specs.Bytes.{written}
 use Rattle.nq_disk.specs.Calling.{told_after}
 use Rattle.nq_image.specs.Kept.{numbers_from}
 use Rattle.nq_image.specs.Layout.{block_place}

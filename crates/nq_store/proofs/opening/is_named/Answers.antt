@@ -1,9 +1,9 @@
-use Rattle.std.proofs.Common.{rules, ◌≡◌, Bool, Result, Ok, Err, sym, subst, ◌∙◌, inr}
+use Rattle.std.proofs.Common.{rules, ◌≡◌, Bool, Result, Err, sym, subst, ◌∙◌, inr}
 use Rattle.nq_format.specs.Standing.{begins_as_image}
 use Rattle.nq_store.specs.Loading.{Gives}
 use Rattle.nq_store.specs.declared.fault.Fault.{Fault}
 use Rattle.nq_store.proofs.Left.{only-still}
-use Rattle.nq_store.proofs.Told.{gives-on, long-begins, no-more, short-begins}
+use Rattle.nq_store.proofs.Told.{gives-on, no-more}
 use Rattle.nq_store.proofs.opening.is_named.Goals as goal
 
 pub returns-in_err-size-clause-told : goal.returns-in_err-size-clause-told

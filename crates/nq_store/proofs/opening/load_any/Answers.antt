@@ -1,4 +1,4 @@
-use Rattle.std.proofs.Common.{rules, ◌≡◌, ℕ, List, Option, Some, None, sym, ap, ◌∙◌}
+use Rattle.std.proofs.Common.{rules, ◌≡◌, Some, None, sym, ap, ◌∙◌}
 use Rattle.nq_image.specs.declared.Version.{Version}
 use Rattle.nq_store.specs.Storing.{kept_on}
 use Rattle.nq_store.proofs.Told.{new-head, no-image, old-head}

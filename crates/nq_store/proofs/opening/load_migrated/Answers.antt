@@ -1,4 +1,4 @@
-use Rattle.std.proofs.Common.{◌≡◌, ◌≤◌, ◌+◌, ℕ, List, ◌∙◌, inr, arith}
+use Rattle.std.proofs.Common.{◌∙◌, inr, arith}
 use Rattle.std.specs.Prelude.{slice_index}
 use Rattle.nq_store.proofs.Told.{head-of, no-more, shut-still, two-is}
 use Rattle.nq_store.proofs.opening.load_migrated.Goals as goal

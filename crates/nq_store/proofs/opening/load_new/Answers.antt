@@ -1,4 +1,4 @@
-use Rattle.std.proofs.Common.{◌≡◌, refl, inr}
+use Rattle.std.proofs.Common.{inr}
 use Rattle.nq_store.proofs.Told.{loads-opens}
 use Rattle.nq_store.proofs.opening.load_new.Goals as goal
 

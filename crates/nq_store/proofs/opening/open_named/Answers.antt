@@ -1,4 +1,4 @@
-use Rattle.std.proofs.Common.{◌≡◌, ◌≤◌, ◌+◌, true, Err, ap, subst, ◌∙◌, arith}
+use Rattle.std.proofs.Common.{◌≡◌, true, Err, ap, ◌∙◌, arith}
 use Rattle.nq_format.specs.Standing.{begins_as_image}
 use Rattle.nq_redo.specs.Opens.{disk_in}
 use Rattle.nq_store.proofs.Left.{left-named, left-same}

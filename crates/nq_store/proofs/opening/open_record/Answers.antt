@@ -1,4 +1,4 @@
-use Rattle.std.proofs.Common.{rules, ◌≡◌, true, false, ℕ, List, sym, subst, ◌∙◌, inl, inr, ⊎_elim}
+use Rattle.std.proofs.Common.{rules, ◌≡◌, true, false, sym, subst, ◌∙◌, inl, inr, ⊎_elim}
 use Rattle.nq_format.specs.Standing.{begins_as_image}
 use Rattle.nq_redo.specs.declared.Redo.{Redo}
 use Rattle.nq_store.specs.Opening.{disk_of}

@@ -1,4 +1,4 @@
-use Rattle.std.proofs.Common.{rules, ◌≡◌, ℕ, List, Result, Vec, Global, Ok, Err, sym, subst, arith}
+use Rattle.std.proofs.Common.{rules, ◌≡◌, ℕ, Result, Vec, Global, Err, sym, subst, arith}
 use Rattle.nq_image.specs.Layout.{piece}
 use Rattle.nq_store.specs.Loading.{Gives}
 use Rattle.nq_store.specs.declared.fault.Fault.{Fault}

@@ -1,5 +1,4 @@
 use Rattle.std.proofs.Common.{get_or, ◌≡◌, ◌+◌, ℕ, List, Some, length, drop, refl, sym, ap, subst, ◌∙◌, inr}
-use Rattle.nq_base.specs.Block.{zeros}
 use Rattle.nq_disk.specs.Bytes.{Torn, written}
 use Rattle.nq_disk.specs.Calling.{told_after}
 use Rattle.nq_image.specs.Layout.{block_place}

@@ -1,4 +1,4 @@
-use Rattle.std.proofs.Common.{◌≡◌, true, false, refl, sym, ap, subst, ◌∙◌}
+use Rattle.std.proofs.Common.{true, refl, sym, ap, subst, ◌∙◌}
 use Rattle.std.specs.Option.{ForSome}
 use Rattle.nq_model.specs.Change.{Fits, IsChangeWithin}
 use Rattle.nq_plan.specs.Held.{HeldTables}

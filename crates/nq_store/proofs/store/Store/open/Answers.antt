@@ -1,6 +1,4 @@
-use Rattle.std.proofs.Common.{◌≡◌, ℕ, List, Option, None, Ok, Err, subst, ◌∙◌, inr, ⊎_elim}
-use Rattle.std.specs.Option.{ForSome}
-use Rattle.nq_store.specs.Loading.{OpensTables}
+use Rattle.std.proofs.Common.{Ok, Err, subst, ◌∙◌, inr, ⊎_elim}
 use Rattle.nq_store.specs.Storing.{StoredStore}
 use Rattle.nq_store.proofs.Left.{back-given}
 use Rattle.nq_store.proofs.Opened.{content-same, kept-same, opens-both, says-opened, sound-opened}

@@ -1,4 +1,4 @@
-use Rattle.std.proofs.Common.{◌≡◌, ℕ, true, false, refl, sym, ◌∙◌, inl}
+use Rattle.std.proofs.Common.{◌≡◌, ℕ, true, false, refl, sym, ◌∙◌}
 use Rattle.nq_store.specs.Laws.{goes-itself}
 use Rattle.nq_store.proofs.Asking.{refused-answer, refused-follows, refused-leaves, refused-reads, refused-store, told-leaves, told-ok, told-store}
 use Rattle.nq_store.proofs.store.Store.tell.Goals as goal

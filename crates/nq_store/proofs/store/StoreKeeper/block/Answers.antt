@@ -1,7 +1,5 @@
-use Rattle.std.proofs.Common.{◌≡◌, true, ℕ, List, Option, Some, None, sym, ap, ◌∙◌}
+use Rattle.std.proofs.Common.{◌≡◌, true, sym, ap, ◌∙◌}
 use Rattle.std.specs.List.{slice_get}
-use Rattle.nq_keeper.specs.Keeping.{body_at}
-use Rattle.nq_model.specs.Kept.{find_file}
 use Rattle.nq_plan.specs.Finding.{blocks_of}
 use Rattle.nq_plan.specs.Held.{HeldTables}
 use Rattle.nq_store.proofs.Bodies.{block-there, block-told, ended-told}

@@ -1,4 +1,4 @@
-use Rattle.std.proofs.Common.{◌≡◌, true, false, sym, ◌∙◌}
+use Rattle.std.proofs.Common.{◌≡◌, true, sym, ◌∙◌}
 use Rattle.nq_store.proofs.Asking.{one-two, refused-commits, told-leaves}
 use Rattle.nq_store.proofs.Bodies.{ended-told}
 use Rattle.nq_store.proofs.store.StoreKeeper.commit.Goals as goal

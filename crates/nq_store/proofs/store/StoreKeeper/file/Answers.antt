@@ -1,4 +1,4 @@
-use Rattle.std.proofs.Common.{◌≡◌, refl, sym, ap, ◌∙◌}
+use Rattle.std.proofs.Common.{ap, ◌∙◌}
 use Rattle.nq_model.specs.Change.{row_of_found}
 use Rattle.nq_model.specs.Kept.{find_file}
 use Rattle.nq_plan.specs.Finding.{row_of}

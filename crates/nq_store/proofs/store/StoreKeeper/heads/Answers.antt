@@ -1,8 +1,8 @@
-use Rattle.std.proofs.Common.{◌≡◌, refl, sym, ap, ◌∙◌}
+use Rattle.std.proofs.Common.{ap, ◌∙◌}
 use Rattle.nq_model.specs.Change.{heads_of}
 use Rattle.nq_store.proofs.Rows.{heads-are}
 use Rattle.nq_plan.specs.Held.{HeldTables}
-use Rattle.nq_store.proofs.Keeping.{apart-in, told-answer}
+use Rattle.nq_store.proofs.Keeping.{told-answer}
 use Rattle.nq_store.proofs.store.StoreKeeper.heads.Goals as goal
 
 pub returns-clause-told : goal.returns-clause-told
