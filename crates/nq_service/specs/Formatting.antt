@@ -11,7 +11,7 @@ use Rattle.nq_redo.specs.Saying.{Each}
 pub record IsEmpty {D : Type 0} (told : D → Option (List ℕ)) (faults : D → ℕ) (may_leave : D → List ℕ → Type 0) (code : ℕ) (disk left : D) : Type 0 where
   pub status : code ≡ status_of Ending.Done
   pub empty : ForSome (told disk) (λ bytes. TellsNothing (told left) × Each (may_leave left) StandsForNothing)
-  pub faults : faults left ≡ faults disk
+  pub counts : faults left ≡ faults disk
 
 -- the disk failed, which it has counted
 pub record FailsToFormat {D : Type 0} (faults : D → ℕ) (code : ℕ) (disk left : D) : Type 0 where

@@ -2,7 +2,7 @@
 
 ghost use Rattle.nq_service.specs.Formatting.{Formats};
 
-use crate::serving::Ended;
+use crate::serving::{Ended, ended_with};
 use nq_disk::Disk;
 use nq_ending::Ending;
 use nq_store::format;
@@ -14,12 +14,8 @@ pub fn format_disk<D: Disk + Drop>(disk: D) -> Ended<D>
     ensures follows { D.follows disk result.disk }
 {
     let mut disk = disk;
-    let end = match format(&mut disk) {
-        Ok(()) => Ending::Done,
-        Err(_) => Ending::KeepFault,
-    };
-    Ended {
-        status: end.status(),
-        disk,
+    match format(&mut disk) {
+        Ok(()) => ended_with(Ending::Done, disk),
+        Err(_) => ended_with(Ending::KeepFault, disk),
     }
 }

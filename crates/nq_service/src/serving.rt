@@ -3,7 +3,10 @@
 ghost use Rattle.std.specs.Prelude.{◌≡◌, ◌≤◌, IfOk, string_bytes};
 ghost use Rattle.nq_node.specs.Clocks.{clock_told};
 ghost use Rattle.nq_node.specs.Links.{link_told};
-ghost use Rattle.nq_service.specs.Serving.{ServesDisk, image_line};
+ghost use Rattle.nq_ending.specs.Status.{status_of};
+ghost use Rattle.nq_hosts.specs.Leaving.{LeavesServing};
+ghost use Rattle.nq_service.specs.Serving.{EndsServing, PrintsBehind, ServesDisk, TellsByte, image_line};
+ghost use Rattle.nq_store.specs.Storing.{GoesOn, LeavesKept, content_of, faults_of};
 
 use nq_base::NoMemory;
 use nq_clock::Clock;
@@ -56,13 +59,16 @@ pub fn serve_disk<D: Disk + Drop, L: Link, C: Clock, K: Sink>(
         Ok(store) => serve_store(alloc, store, turns, longest, link, clock, out),
         Err(OpenFault::NotAnImage(disk)) => refuse(alloc, disk, 0, out),
         Err(OpenFault::BadField(disk, place)) => refuse(alloc, disk, place, out),
-        Err(OpenFault::Failed(disk)) => ended(Ending::KeepFault, disk),
-        Err(OpenFault::Memory(disk)) => ended(Ending::Memory, disk),
+        Err(OpenFault::Failed(disk)) => ended_with(Ending::KeepFault, disk),
+        Err(OpenFault::Memory(disk)) => ended_with(Ending::Memory, disk),
     }
 }
 
 /// A command that ended so.
-fn ended<D>(end: Ending, disk: D) -> Ended<D> {
+pub(crate) fn ended_with<D>(end: Ending, disk: D) -> Ended<D>
+    ensures status { result.status ≡ status_of end }
+    ensures disk { result.disk ≡ disk }
+{
     Ended {
         status: end.status(),
         disk,
@@ -70,12 +76,15 @@ fn ended<D>(end: Ending, disk: D) -> Ended<D> {
 }
 
 /// Tells which byte of an image is the first wrong one.
-fn refuse<D: Drop, K: Sink>(alloc: Global, disk: D, place: u64, out: &mut K) -> Ended<D> {
+fn refuse<D: Drop, K: Sink>(alloc: Global, disk: D, place: u64, out: &mut K) -> Ended<D>
+    ensures tells { TellsByte place result.status (K.held out.old) (K.held out.new) (K.faults out.old) (K.faults out.new) }
+    ensures disk { result.disk ≡ disk }
+{
     let Ok(line) = image_text(alloc, place) else {
-        return ended(Ending::Memory, disk);
+        return ended_with(Ending::Memory, disk);
     };
     put_line(out, line.as_bytes());
-    ended(Ending::Spent, disk)
+    ended_with(Ending::Spent, disk)
 }
 
 /// The line that tells which byte of an image is the first wrong one.
@@ -101,11 +110,28 @@ fn serve_store<D: Disk + Drop, L: Link, C: Clock, K: Sink>(
 ) -> Ended<D>
     requires long { 5 ≤ longest }
     requires short { longest ≤ 600 }
+    ensures serves { EndsServing D.told D.faults D.follows
+        (λ ended served. LeavesServing (content_of D.told) (faults_of D.faults) (GoesOn D.follows) (λ first last. LeavesKept (D.leaves first.disk last.disk))
+            longest turns store ended served
+            (clock_told C.floor C.readings clock.old) (clock_told C.floor C.readings clock.new)
+            (link_told L.sent L.waiting L.faults L.receives link.old)
+            (link_told L.sent L.waiting L.faults L.receives link.new))
+        result.status turns store result.disk
+        (link_told L.sent L.waiting L.faults L.receives link.old)
+        (link_told L.sent L.waiting L.faults L.receives link.new)
+        (K.held out.old) (K.held out.new) (K.faults out.old) (K.faults out.new) }
 {
     let Served { end, keeper } = serve(alloc, store, turns, longest, link, clock, out);
-    let disk = keeper.into_disk();
+    tell_end(alloc, end, keeper.into_disk(), out)
+}
+
+/// Tells how serving ended, with the byte of the image that says so where no number is left for a boot.
+fn tell_end<D: Drop, K: Sink>(alloc: Global, end: Ending, disk: D, out: &mut K) -> Ended<D>
+    ensures prints { PrintsBehind end result.status (K.held out.old) (K.held out.new) (K.faults out.old) (K.faults out.new) }
+    ensures disk { result.disk ≡ disk }
+{
     match end {
         Ending::Spent => refuse(alloc, disk, BOOT_PLACE, out),
-        end => ended(end, disk),
+        end => ended_with(end, disk),
     }
 }
