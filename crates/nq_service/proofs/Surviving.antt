@@ -1,5 +1,5 @@
 -- What a stop within serving leaves, from what one leaves before the store was opened and behind it.
-use Rattle.std.proofs.Common.{◌≡◌, ◌⊎◌, ℕ, List, Option, Some, Result, Ok, Err, IfOk, inl, inr, refl, sym, ap, subst, ◌∙◌}
+use Rattle.std.proofs.Common.{◌≡◌, ◌⊎◌, ℕ, List, Option, Some, Result, Ok, Err, IfOk, inl, inr, refl, ap, subst, ◌∙◌}
 use Rattle.std.specs.Option.{ForSome}
 use Rattle.nq_ending.specs.declared.Ending.{Ending}
 use Rattle.nq_ending.specs.declared.Halt.{Halt}
@@ -109,10 +109,10 @@ module _ {D : Type 0} (told : D → Option (List ℕ)) (faults : D → ℕ) (may
       → ServesStore told faults may_leave follows leaves code longest turns disk left clock clock' link link' held now w w'
   serves_opened longest code turns disk store left clock clock' link link' held now w w' result is stays parts content fresh answers opens like e =
       let keeps : content_of told store ≡ kept_told (told disk) =
-          subst (λ (r : Result (StoredStore D) (OpenFault D)). IfOk r (λ s. content_of told s ≡ kept_told (told disk))) is content in
+      subst (λ (r : Result (StoredStore D) (OpenFault D)). IfOk r (λ s. content_of told s ≡ kept_told (told disk))) is content in
       let goes : follows disk store.disk = subst (λ (r : Result (StoredStore D) (OpenFault D)). FollowsOpen (λ s. s.disk) follows r disk) is opens in
       let still : LeavesLike (told disk) (may_leave disk) (leaves disk store.disk) =
-          subst (λ (r : Result (StoredStore D) (OpenFault D)). LeavesLike (told disk) (may_leave disk) (leaves disk (disk_of (λ s. s.disk) r))) is like in
+      subst (λ (r : Result (StoredStore D) (OpenFault D)). LeavesLike (told disk) (may_leave disk) (leaves disk (disk_of (λ s. s.disk) r))) is like in
       record {
         store = store;
         keeps = keeps;

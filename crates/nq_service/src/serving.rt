@@ -112,10 +112,10 @@ fn serve_store<D: Disk + Drop, L: Link, C: Clock, K: Sink>(
     requires short { longest ≤ 600 }
     ensures serves { EndsServing D.told D.faults D.follows
         (λ ended served. LeavesServing (content_of D.told) (faults_of D.faults) (GoesOn D.follows) (λ first last. LeavesKept (D.leaves first.disk last.disk))
-            longest turns store ended served
-            (clock_told C.floor C.readings clock.old) (clock_told C.floor C.readings clock.new)
-            (link_told L.sent L.waiting L.faults L.receives link.old)
-            (link_told L.sent L.waiting L.faults L.receives link.new))
+        longest turns store ended served
+        (clock_told C.floor C.readings clock.old) (clock_told C.floor C.readings clock.new)
+        (link_told L.sent L.waiting L.faults L.receives link.old)
+        (link_told L.sent L.waiting L.faults L.receives link.new))
         result.status turns store result.disk
         (link_told L.sent L.waiting L.faults L.receives link.old)
         (link_told L.sent L.waiting L.faults L.receives link.new)

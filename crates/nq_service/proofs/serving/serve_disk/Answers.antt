@@ -1,4 +1,4 @@
-use Rattle.std.proofs.Common.{◌≡◌, Result, Err, inl, inr, refl, ap, ◌∙◌}
+use Rattle.std.proofs.Common.{Err, inl, inr, refl, ap, ◌∙◌}
 use Rattle.nq_node.specs.Clocks.{clock_told}
 use Rattle.nq_node.specs.Links.{link_told}
 use Rattle.nq_store.specs.Opening.{disk_of}
