@@ -53,7 +53,8 @@ module _ {X D : Type 0} (held_by : X → D) (told : D → Option (List ℕ)) (fa
       → IsNotOpened told faults code disk left held held w w
   failed code held w is handed status answers = inr (inl (record {
     status = status;
-    rose = subst (λ (d : D). Rose (faults disk) (faults d)) (sym handed) (subst (λ (r : Result X (OpenFault D)). AnswersOpen held_by faults r disk) is answers);
+    rose = subst (λ (d : D). Rose (faults disk) (faults d)) (sym handed) (subst (λ (r : Result X (OpenFault D)). AnswersOpen held_by faults r disk)
+        is answers);
     quiet = (refl, refl);
   }))
 

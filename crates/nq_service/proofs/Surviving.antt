@@ -21,7 +21,8 @@ left-same kept bytes image before stays same (inr e) = e ∙ same bytes stays
 -- a disk that was only opened
 pub stays_same : (told : Option (List ℕ)) (before leaves : List ℕ → Type 0) → ((bytes : List ℕ) → told ≡ Some bytes → before bytes)
     → LeavesLike told before leaves → ForSome told (λ bytes. StaysSame before leaves)
-stays_same told before leaves stays like = λ bytes is kept same image left. left-same kept bytes image before (stays bytes is) same (like bytes is image left)
+stays_same told before leaves stays like = λ bytes is kept same image left. left-same kept bytes image before (stays bytes is) same (like bytes is
+    image left)
 
 -- what is kept at first is left by the boot
 left-first : {K : Type 0} (content : K → Option Kept) (faults : K → ℕ) (follows : K → K → Type 0) (longest turns time : ℕ) (keeper : K)
@@ -36,20 +37,24 @@ left-either : {A B : Type 0} (P : Type 0) → (A → P) → (B → P) → A ⊎ 
 left-either P f g (inl a) = f a
 left-either P f g (inr b) = g b
 
-module _ {D : Type 0} (told : D → Option (List ℕ)) (faults : D → ℕ) (may_leave : D → List ℕ → Type 0) (follows : D → D → Type 0) (leaves : D → D → List ℕ → Type 0) where
+module _ {D : Type 0} (told : D → Option (List ℕ)) (faults : D → ℕ) (may_leave : D → List ℕ → Type 0) (follows : D → D → Type 0)
+    (leaves : D → D → List ℕ → Type 0) where
   survives : (longest turns : ℕ) (disk : D) (store : StoredStore D) (ended : Result Unit Halt) (left : StoredStore D)
       (clock clock' : ClockTold) (link link' : LinkTold)
       → ((bytes : List ℕ) → told disk ≡ Some bytes → may_leave disk bytes)
       → ((image : List ℕ) → leaves disk left.disk image → leaves disk store.disk image ⊎ leaves store.disk left.disk image)
       → LeavesLike (told disk) (may_leave disk) (leaves disk store.disk)
       → content_of told store ≡ kept_told (told disk)
-      → LeavesServing (content_of told) (faults_of faults) (GoesOn follows) (λ first last. LeavesKept (leaves first.disk last.disk)) longest turns store ended left clock clock' link link'
+      → LeavesServing (content_of told) (faults_of faults) (GoesOn follows) (λ first last. LeavesKept (leaves first.disk last.disk)) longest turns
+      store ended left clock clock' link link'
       → Survives told faults may_leave follows leaves longest turns disk store ended left clock clock' link link'
   survives longest turns disk store ended left clock clock' link link' stays parts like keeps s = record {
     serving = s;
     survives = λ bytes is kept same image l.
-        left-either (IsLeftInRuns (content_of told) (faults_of faults) (GoesOn follows) longest turns s.serves.time store ended left s.serves.between clock' link link' s.serves.runs kept (kept_on image))
-        (λ first. left-first (content_of told) (faults_of faults) (GoesOn follows) longest turns s.serves.time store ended left s.serves.between clock' link link' s.serves.runs kept (kept_on image)
+        left-either (IsLeftInRuns (content_of told) (faults_of faults) (GoesOn follows) longest turns s.serves.time store ended left
+        s.serves.between clock' link link' s.serves.runs kept (kept_on image))
+        (λ first. left-first (content_of told) (faults_of faults) (GoesOn follows) longest turns s.serves.time store ended left s.serves.between
+        clock' link link' s.serves.runs kept (kept_on image)
         (left-same kept bytes image (may_leave disk) (stays bytes is) same (like bytes is image first)))
         (λ later. s.only kept (keeps ∙ ap kept_told is ∙ same bytes (stays bytes is)) (kept_on image) (image, later, refl))
         (parts image l);
@@ -78,8 +83,11 @@ module _ {D : Type 0} (told : D → Option (List ℕ)) (faults : D → ℕ) (may
       → ((last : D) (image : List ℕ) → follows store.disk last → leaves disk last image → leaves disk store.disk image ⊎ leaves store.disk last image)
       → LeavesLike (told disk) (may_leave disk) (leaves disk store.disk)
       → content_of told store ≡ kept_told (told disk)
-      → EndsServing told faults follows (λ ended served. LeavesServing (content_of told) (faults_of faults) (GoesOn follows) (λ first last. LeavesKept (leaves first.disk last.disk)) longest turns store ended served clock clock' link link') code turns store left link link' held now w w'
-      → EndsServing told faults follows (λ ended served. Survives told faults may_leave follows leaves longest turns disk store ended served clock clock' link link') code turns store left link link' held now w w'
+      → EndsServing told faults follows (λ ended served. LeavesServing (content_of told) (faults_of faults) (GoesOn follows) (λ first last.
+      LeavesKept (leaves first.disk last.disk)) longest turns store ended served clock clock' link link') code turns store left link link' held
+      now w w'
+      → EndsServing told faults follows (λ ended served. Survives told faults may_leave follows leaves longest turns disk store ended served clock
+      clock' link link') code turns store left link link' held now w w'
   ends_surviving longest code turns disk store left clock clock' link link' held now w w' stays parts like keeps e = record {
     end = e.end;
     served = e.served;
@@ -88,10 +96,12 @@ module _ {D : Type 0} (told : D → Option (List ℕ)) (faults : D → ℕ) (may
     handed = e.handed;
     same = e.same;
     tells = tells-on e.end turns
-        (λ ended. LeavesServing (content_of told) (faults_of faults) (GoesOn follows) (λ first last. LeavesKept (leaves first.disk last.disk)) longest turns store ended e.served clock clock' link link')
+        (λ ended. LeavesServing (content_of told) (faults_of faults) (GoesOn follows) (λ first last. LeavesKept (leaves first.disk last.disk))
+        longest turns store ended e.served clock clock' link link')
         (λ ended. Survives told faults may_leave follows leaves longest turns disk store ended e.served clock clock' link link')
         held e.between w e.count
-        (λ ended s. survives longest turns disk store ended e.served clock clock' link link' stays (λ image. parts e.served.disk image e.same.disk) like keeps s)
+        (λ ended s. survives longest turns disk store ended e.served clock clock' link link' stays (λ image. parts e.served.disk image e.same.disk)
+        like keeps s)
         e.tells;
     cause = e.cause;
     prints = e.prints;
@@ -101,11 +111,14 @@ module _ {D : Type 0} (told : D → Option (List ℕ)) (faults : D → ℕ) (may
   pub serves_opened : (longest code turns : ℕ) (disk : D) (store : StoredStore D) (left : D) (clock clock' : ClockTold) (link link' : LinkTold)
       (held now : Option (List ℕ)) (w w' : ℕ) (result : Result (StoredStore D) (OpenFault D)) → result ≡ Ok store
       → ((bytes : List ℕ) → told disk ≡ Some bytes → may_leave disk bytes)
-      → ((middle last : D) (image : List ℕ) → follows disk middle → follows middle last → leaves disk last image → leaves disk middle image ⊎ leaves middle last image)
+      → ((middle last : D) (image : List ℕ) → follows disk middle → follows middle last → leaves disk last image
+      → leaves disk middle image ⊎ leaves middle last image)
       → IfOk result (λ s. content_of told s ≡ kept_told (told disk)) → IfOk result IsFresh
       → AnswersOpen (λ s. s.disk) faults result disk → FollowsOpen (λ s. s.disk) follows result disk
       → LeavesLike (told disk) (may_leave disk) (leaves disk (disk_of (λ s. s.disk) result))
-      → EndsServing told faults follows (λ ended served. LeavesServing (content_of told) (faults_of faults) (GoesOn follows) (λ first last. LeavesKept (leaves first.disk last.disk)) longest turns store ended served clock clock' link link') code turns store left link link' held now w w'
+      → EndsServing told faults follows (λ ended served. LeavesServing (content_of told) (faults_of faults) (GoesOn follows) (λ first last.
+      LeavesKept (leaves first.disk last.disk)) longest turns store ended served clock clock' link link') code turns store left link link' held
+      now w w'
       → ServesStore told faults may_leave follows leaves code longest turns disk left clock clock' link link' held now w w'
   serves_opened longest code turns disk store left clock clock' link link' held now w w' result is stays parts content fresh answers opens like e =
       let keeps : content_of told store ≡ kept_told (told disk) =
@@ -119,5 +132,6 @@ module _ {D : Type 0} (told : D → Option (List ℕ)) (faults : D → ℕ) (may
         opened = goes;
         fresh = subst (λ (r : Result (StoredStore D) (OpenFault D)). IfOk r IsFresh) is fresh;
         counts = subst (λ (r : Result (StoredStore D) (OpenFault D)). AnswersOpen (λ s. s.disk) faults r disk) is answers;
-        serves = ends_surviving longest code turns disk store left clock clock' link link' held now w w' stays (λ last image next. parts store.disk last image goes next) still keeps e;
+        serves = ends_surviving longest code turns disk store left clock clock' link link' held now w w' stays (λ last image next. parts store.disk
+            last image goes next) still keeps e;
       }
