@@ -1,17 +1,20 @@
 //! The program `nqnfs`: runs what its words say, over the standard input and output, and ends with the status of the
 //! run. `nqnfs replay` reads a schedule and prints its journal. `nqnfs storm` makes a schedule up and runs it. `nqnfs serve` and
-//! `nqnfs client` are real hosts, over UDP, and `nqnfs loop` is a server and its hosts in turns.
+//! `nqnfs client` are real hosts, over UDP, and `nqnfs loop` is a server and its hosts in turns. A server keeps its files in the
+//! file `nqnfs.img`, which `nqnfs format` makes an empty image.
 #![tactic(auto)]
 
-ghost use Rattle.std.specs.Prelude.{◌≡◌, ◌+◌, ℕ, Some, IfOk, length, vec_len};
+ghost use Rattle.std.specs.Prelude.{◌≡◌, ◌+◌, ◌≤◌, ℕ, Some, IfOk, length, vec_len};
 ghost use Rattle.nq_command.specs.Commands.{command_of};
 ghost use Rattle.nq_command.specs.declared.Command.{Command};
 
 use nq_base::{Host, Party};
 use nq_clock::StdClock;
+use nq_disk::FileDisk;
 use nq_keeper::ListKeeper;
 use nq_link::UdpLink;
 use nq_run::{Command, CutFate, Fate, HostileFate, LossyFate, NoMemory, SteadyFate, Words, run};
+use nq_service::{format_disk, serve_disk};
 use nq_streams::{StdSink, StdSource};
 use std::io::ErrorKind;
 use std::process::ExitCode;
@@ -20,14 +23,52 @@ use std::{env, io};
 // The status of a run for which memory was wanting.
 const NO_MEMORY: u8 = 7;
 
+// The file in which a server keeps its files.
+const IMAGE: &str = "nqnfs.img";
+
 fn main(rt: HostRuntime) -> ExitCode {
-    let Ok(words) = words_of(&rt) else {
-        return ExitCode::from(NO_MEMORY);
-    };
-    match run_with_fates(&rt, &words) {
+    match run_words(&rt) {
         Ok(status) => ExitCode::from(status),
         Err(NoMemory::Memory) => ExitCode::from(NO_MEMORY),
     }
+}
+
+/// Runs what the words behind the program's name say; the status.
+fn run_words(rt: &HostRuntime) -> Result<u8, NoMemory> {
+    if is_format(rt)? {
+        return Ok(format_disk(image(rt)?).status);
+    }
+    let words = words_of(rt)?;
+    match words.command() {
+        Some(Command::Serve { turns, longest }) => serve_image(rt, turns, longest),
+        _ => run_with_fates(rt, &words),
+    }
+}
+
+/// The file with the image, as a disk.
+fn image(rt: &HostRuntime) -> Result<FileDisk, NoMemory> {
+    FileDisk::new(rt.alloc(), rt.clone()?, IMAGE)
+}
+
+/// Serves over the image for so many turns; the status.
+fn serve_image(rt: &HostRuntime, turns: u32, longest: u32) -> Result<u8, NoMemory>
+    requires long { 5 ≤ longest }
+    requires short { longest ≤ 600 }
+{
+    let mut link = UdpLink::new(rt.clone()?, Party::Server);
+    let mut clock = StdClock::new(rt.clone()?);
+    let mut out = StdSink::new(io::writer(rt));
+    let served = serve_disk(
+        rt.alloc(),
+        image(rt)?,
+        turns,
+        longest,
+        &mut link,
+        &mut clock,
+        &mut out,
+    );
+    tell_taken(rt, &link);
+    Ok(served.status)
 }
 
 /// Runs what the words say, with the four fates; the status.
@@ -121,6 +162,19 @@ fn opened(link: UdpLink<HostRuntime>) -> UdpLink<HostRuntime> {
     let mut link = link;
     link.open();
     link
+}
+
+/// Whether the only word behind the program's name is `format`.
+fn is_format(rt: &HostRuntime) -> Result<bool, NoMemory> {
+    let mut words = match env::args(rt) {
+        Ok(args) => args.skip(1),
+        Err(error) if error.kind() == ErrorKind::OutOfMemory => return Err(NoMemory::Memory),
+        Err(_) => return Ok(false),
+    };
+    let Some(first) = words.next() else {
+        return Ok(false);
+    };
+    Ok(first.as_str() == "format" && words.next().is_none())
 }
 
 /// The words behind the program's name; none where one of them is not UTF-8.

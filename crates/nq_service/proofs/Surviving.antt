@@ -1,0 +1,137 @@
+-- What a stop within serving leaves, from what one leaves before the store was opened and behind it.
+use Rattle.std.proofs.Common.{◌≡◌, ◌⊎◌, ℕ, List, Option, Some, Result, Ok, Err, IfOk, inl, inr, refl, ap, subst, ◌∙◌}
+use Rattle.std.specs.Option.{ForSome}
+use Rattle.nq_ending.specs.declared.Ending.{Ending}
+use Rattle.nq_ending.specs.declared.Halt.{Halt}
+use Rattle.nq_hosts.specs.Leaving.{IsLeftInRuns, LeavesServing}
+use Rattle.nq_hosts.specs.Serving.{Runs, Tells}
+use Rattle.nq_model.specs.Kept.{Kept}
+use Rattle.nq_node.specs.Clocks.{ClockTold}
+use Rattle.nq_node.specs.Links.{LinkTold}
+use Rattle.nq_service.specs.Serving.{AllStandFor, EndsServing, ServesStore, StaysSame, Survives}
+use Rattle.nq_store.specs.Opening.{AnswersOpen, FollowsOpen, LeavesLike, disk_of}
+use Rattle.nq_store.specs.Storing.{GoesOn, IsFresh, LeavesKept, StoredStore, content_of, faults_of, kept_on, kept_told}
+use Rattle.nq_store.specs.declared.fault.OpenFault.{OpenFault}
+
+left-same : (kept : Kept) (bytes image : List ℕ) (before : List ℕ → Type 0) → before bytes → AllStandFor before kept
+    → before image ⊎ (kept_on image ≡ kept_on bytes) → kept_on image ≡ Some kept
+left-same kept bytes image before stays same (inl b) = same image b
+left-same kept bytes image before stays same (inr e) = e ∙ same bytes stays
+
+-- a disk that was only opened
+pub stays_same : (told : Option (List ℕ)) (before leaves : List ℕ → Type 0) → ((bytes : List ℕ) → told ≡ Some bytes → before bytes)
+    → LeavesLike told before leaves → ForSome told (λ bytes. StaysSame before leaves)
+stays_same told before leaves stays like = λ bytes is kept same image left. left-same kept bytes image before (stays bytes is) same (like bytes is
+    image left)
+
+-- what is kept at first is left by the boot
+left-first : {K : Type 0} (content : K → Option Kept) (faults : K → ℕ) (follows : K → K → Type 0) (longest turns time : ℕ) (keeper : K)
+    (ended : Result Unit Halt) (left : K) (clock clock' : ClockTold) (link link' : LinkTold)
+    (runs : Runs content faults follows longest turns time keeper ended left clock clock' link link') (kept : Kept) (found : Option Kept)
+    → found ≡ Some kept → IsLeftInRuns content faults follows longest turns time keeper ended left clock clock' link link' runs kept found
+left-first content faults follows longest turns time keeper (Ok done) left clock clock' link link' runs kept found e = inl (inl e)
+left-first content faults follows longest turns time keeper (Err why) left clock clock' link link' (inl runs) kept found e = inl (inl e)
+left-first content faults follows longest turns time keeper (Err why) left clock clock' link link' (inr none) kept found e = inl e
+
+left-either : {A B : Type 0} (P : Type 0) → (A → P) → (B → P) → A ⊎ B → P
+left-either P f g (inl a) = f a
+left-either P f g (inr b) = g b
+
+module _ {D : Type 0} (told : D → Option (List ℕ)) (faults : D → ℕ) (may_leave : D → List ℕ → Type 0) (follows : D → D → Type 0)
+    (leaves : D → D → List ℕ → Type 0) where
+  survives : (longest turns : ℕ) (disk : D) (store : StoredStore D) (ended : Result Unit Halt) (left : StoredStore D)
+      (clock clock' : ClockTold) (link link' : LinkTold)
+      → ((bytes : List ℕ) → told disk ≡ Some bytes → may_leave disk bytes)
+      → ((image : List ℕ) → leaves disk left.disk image → leaves disk store.disk image ⊎ leaves store.disk left.disk image)
+      → LeavesLike (told disk) (may_leave disk) (leaves disk store.disk)
+      → content_of told store ≡ kept_told (told disk)
+      → LeavesServing (content_of told) (faults_of faults) (GoesOn follows) (λ first last. LeavesKept (leaves first.disk last.disk)) longest turns
+      store ended left clock clock' link link'
+      → Survives told faults may_leave follows leaves longest turns disk store ended left clock clock' link link'
+  survives longest turns disk store ended left clock clock' link link' stays parts like keeps s = record {
+    serving = s;
+    survives = λ bytes is kept same image l.
+        left-either (IsLeftInRuns (content_of told) (faults_of faults) (GoesOn follows) longest turns s.serves.time store ended left
+        s.serves.between clock' link link' s.serves.runs kept (kept_on image))
+        (λ first. left-first (content_of told) (faults_of faults) (GoesOn follows) longest turns s.serves.time store ended left s.serves.between
+        clock' link link' s.serves.runs kept (kept_on image)
+        (left-same kept bytes image (may_leave disk) (stays bytes is) same (like bytes is image first)))
+        (λ later. s.only kept (keeps ∙ ap kept_told is ∙ same bytes (stays bytes is)) (kept_on image) (image, later, refl))
+        (parts image l);
+  }
+
+  tells-on : (end : Ending) (turns : ℕ) (P Q : Result Unit Halt → Type 0) (held now : Option (List ℕ)) (w w' : ℕ)
+      → ((ended : Result Unit Halt) → P ended → Q ended) → Tells end turns P held now w w' → Tells end turns Q held now w w'
+  tells-on Ending.Done turns P Q held now w w' on t = (on (Ok tt) t.0, t.1, t.2)
+  tells-on Ending.WriteFault turns P Q held now w w' on t = (on (Ok tt) t.0, t.1, t.2)
+  tells-on Ending.KeepFault turns P Q held now w w' on t = (on (Err Halt.Keep) t.0, t.1, t.2)
+  tells-on Ending.Memory turns P Q held now w w' on t = (on (Err Halt.Memory) t.0, t.1, t.2)
+  tells-on Ending.LinkFault turns P Q held now w w' on t = (on (Err Halt.Link) t.0, t.1, t.2)
+  tells-on Ending.Spent turns P Q held now w w' on t = (on (Err Halt.Spent) t.0, t.1, t.2)
+  tells-on Ending.NoAnswer turns P Q held now w w' on t = (on (Err Halt.NoAnswer) t.0, t.1, t.2)
+  tells-on Ending.Usage turns P Q held now w w' on t = t
+  tells-on Ending.Script turns P Q held now w w' on t = t
+  tells-on Ending.Skew turns P Q held now w w' on t = t
+  tells-on Ending.ReadFault turns P Q held now w w' on t = t
+  tells-on Ending.Limit turns P Q held now w w' on t = t
+  tells-on Ending.NotSound turns P Q held now w w' on t = t
+
+  -- a store that was opened on a disk, and served from
+  pub ends_surviving : (longest code turns : ℕ) (disk : D) (store : StoredStore D) (left : D) (clock clock' : ClockTold) (link link' : LinkTold)
+      (held now : Option (List ℕ)) (w w' : ℕ)
+      → ((bytes : List ℕ) → told disk ≡ Some bytes → may_leave disk bytes)
+      → ((last : D) (image : List ℕ) → follows store.disk last → leaves disk last image → leaves disk store.disk image ⊎ leaves store.disk last image)
+      → LeavesLike (told disk) (may_leave disk) (leaves disk store.disk)
+      → content_of told store ≡ kept_told (told disk)
+      → EndsServing told faults follows (λ ended served. LeavesServing (content_of told) (faults_of faults) (GoesOn follows) (λ first last.
+      LeavesKept (leaves first.disk last.disk)) longest turns store ended served clock clock' link link') code turns store left link link' held
+      now w w'
+      → EndsServing told faults follows (λ ended served. Survives told faults may_leave follows leaves longest turns disk store ended served clock
+      clock' link link') code turns store left link link' held now w w'
+  ends_surviving longest code turns disk store left clock clock' link link' held now w w' stays parts like keeps e = record {
+    end = e.end;
+    served = e.served;
+    between = e.between;
+    count = e.count;
+    handed = e.handed;
+    same = e.same;
+    tells = tells-on e.end turns
+        (λ ended. LeavesServing (content_of told) (faults_of faults) (GoesOn follows) (λ first last. LeavesKept (leaves first.disk last.disk))
+        longest turns store ended e.served clock clock' link link')
+        (λ ended. Survives told faults may_leave follows leaves longest turns disk store ended e.served clock clock' link link')
+        held e.between w e.count
+        (λ ended s. survives longest turns disk store ended e.served clock clock' link link' stays (λ image. parts e.served.disk image e.same.disk)
+        like keeps s)
+        e.tells;
+    cause = e.cause;
+    prints = e.prints;
+  }
+
+  -- the same, from what its opening answered
+  pub serves_opened : (longest code turns : ℕ) (disk : D) (store : StoredStore D) (left : D) (clock clock' : ClockTold) (link link' : LinkTold)
+      (held now : Option (List ℕ)) (w w' : ℕ) (result : Result (StoredStore D) (OpenFault D)) → result ≡ Ok store
+      → ((bytes : List ℕ) → told disk ≡ Some bytes → may_leave disk bytes)
+      → ((middle last : D) (image : List ℕ) → follows disk middle → follows middle last → leaves disk last image
+      → leaves disk middle image ⊎ leaves middle last image)
+      → IfOk result (λ s. content_of told s ≡ kept_told (told disk)) → IfOk result IsFresh
+      → AnswersOpen (λ s. s.disk) faults result disk → FollowsOpen (λ s. s.disk) follows result disk
+      → LeavesLike (told disk) (may_leave disk) (leaves disk (disk_of (λ s. s.disk) result))
+      → EndsServing told faults follows (λ ended served. LeavesServing (content_of told) (faults_of faults) (GoesOn follows) (λ first last.
+      LeavesKept (leaves first.disk last.disk)) longest turns store ended served clock clock' link link') code turns store left link link' held
+      now w w'
+      → ServesStore told faults may_leave follows leaves code longest turns disk left clock clock' link link' held now w w'
+  serves_opened longest code turns disk store left clock clock' link link' held now w w' result is stays parts content fresh answers opens like e =
+      let keeps : content_of told store ≡ kept_told (told disk) =
+      subst (λ (r : Result (StoredStore D) (OpenFault D)). IfOk r (λ s. content_of told s ≡ kept_told (told disk))) is content in
+      let goes : follows disk store.disk = subst (λ (r : Result (StoredStore D) (OpenFault D)). FollowsOpen (λ s. s.disk) follows r disk) is opens in
+      let still : LeavesLike (told disk) (may_leave disk) (leaves disk store.disk) =
+      subst (λ (r : Result (StoredStore D) (OpenFault D)). LeavesLike (told disk) (may_leave disk) (leaves disk (disk_of (λ s. s.disk) r))) is like in
+      record {
+        store = store;
+        keeps = keeps;
+        opened = goes;
+        fresh = subst (λ (r : Result (StoredStore D) (OpenFault D)). IfOk r IsFresh) is fresh;
+        counts = subst (λ (r : Result (StoredStore D) (OpenFault D)). AnswersOpen (λ s. s.disk) faults r disk) is answers;
+        serves = ends_surviving longest code turns disk store left clock clock' link link' held now w w' stays (λ last image next. parts store.disk
+            last image goes next) still keeps e;
+      }

@@ -1,0 +1,137 @@
+//! Serving over the image on a disk.
+
+ghost use Rattle.std.specs.Prelude.{◌≡◌, ◌≤◌, IfOk, string_bytes};
+ghost use Rattle.nq_node.specs.Clocks.{clock_told};
+ghost use Rattle.nq_node.specs.Links.{link_told};
+ghost use Rattle.nq_ending.specs.Status.{status_of};
+ghost use Rattle.nq_hosts.specs.Leaving.{LeavesServing};
+ghost use Rattle.nq_service.specs.Serving.{EndsServing, PrintsBehind, ServesDisk, TellsByte, image_line};
+ghost use Rattle.nq_store.specs.Storing.{GoesOn, LeavesKept, content_of, faults_of};
+
+use nq_base::NoMemory;
+use nq_clock::Clock;
+use nq_disk::Disk;
+use nq_ending::Ending;
+use nq_hosts::{Served, serve};
+use nq_io::Sink;
+use nq_link::Link;
+use nq_replay::put_line;
+use nq_store::{OpenFault, Store};
+use std::alloc::Global;
+
+/// Where an image says how many boots there were: the wrong byte where no number is left for another one.
+const BOOT_PLACE: u64 = 8;
+
+/// How a command over a disk ended, and the disk as it left it.
+#[derive(Drop)]
+pub struct Ended<D> {
+    /// The exit status.
+    pub status: u8,
+    /// The disk that was handed in.
+    pub disk: D,
+}
+
+/// Serves over the image on a disk for so many turns, as [`serve`] tells of the store that the disk opens as. What a stop at any
+/// moment of the call may leave on the disk opens, and stands for what was kept at first, or after some of the steps: the boot, and
+/// the ticks and datagrams of the turns.
+///
+/// The status is that of [`serve`]. It is 10, and `image byte P` is printed, where the disk is no image (byte 0), where a field of it
+/// is wrong (the first byte of that field), and where no number is left for a boot (byte 8). It is 6 only where the disk failed.
+pub fn serve_disk<D: Disk + Drop, L: Link, C: Clock, K: Sink>(
+    alloc: Global,
+    disk: D,
+    turns: u32,
+    longest: u32,
+    link: &mut L,
+    clock: &mut C,
+    out: &mut K,
+) -> Ended<D>
+    requires long { 5 ≤ longest }
+    requires short { longest ≤ 600 }
+    ensures serves { ServesDisk D.told D.faults D.may_leave D.follows D.leaves result.status longest turns disk result.disk
+        (clock_told C.floor C.readings clock.old) (clock_told C.floor C.readings clock.new)
+        (link_told L.sent L.waiting L.faults L.receives link.old)
+        (link_told L.sent L.waiting L.faults L.receives link.new)
+        (K.held out.old) (K.held out.new) (K.faults out.old) (K.faults out.new) }
+    ensures follows { D.follows disk result.disk }
+{
+    match Store::open(alloc, disk) {
+        Ok(store) => serve_store(alloc, store, turns, longest, link, clock, out),
+        Err(OpenFault::NotAnImage(disk)) => refuse(alloc, disk, 0, out),
+        Err(OpenFault::BadField(disk, place)) => refuse(alloc, disk, place, out),
+        Err(OpenFault::Failed(disk)) => ended_with(Ending::KeepFault, disk),
+        Err(OpenFault::Memory(disk)) => ended_with(Ending::Memory, disk),
+    }
+}
+
+/// A command that ended so.
+pub(crate) fn ended_with<D>(end: Ending, disk: D) -> Ended<D>
+    ensures status { result.status ≡ status_of end }
+    ensures disk { result.disk ≡ disk }
+{
+    Ended {
+        status: end.status(),
+        disk,
+    }
+}
+
+/// Tells which byte of an image is the first wrong one.
+fn refuse<D: Drop, K: Sink>(alloc: Global, disk: D, place: u64, out: &mut K) -> Ended<D>
+    ensures tells { TellsByte place result.status (K.held out.old) (K.held out.new) (K.faults out.old) (K.faults out.new) }
+    ensures disk { result.disk ≡ disk }
+{
+    let Ok(line) = image_text(alloc, place) else {
+        return ended_with(Ending::Memory, disk);
+    };
+    put_line(out, line.as_bytes());
+    ended_with(Ending::Spent, disk)
+}
+
+/// The line that tells which byte of an image is the first wrong one.
+#[tactic(auto, unfolding(crate::specs::Serving::image_line))]
+fn image_text(alloc: Global, place: u64) -> Result<String, NoMemory>
+    ensures { IfOk result (λ line. string_bytes line ≡ image_line place) }
+{
+    match format!(in alloc; "image byte {place}\n") {
+        Ok(line) => Ok(line),
+        Err(_) => Err(NoMemory::Memory),
+    }
+}
+
+/// Serves over a store, and hands its disk back.
+fn serve_store<D: Disk + Drop, L: Link, C: Clock, K: Sink>(
+    alloc: Global,
+    store: Store<D>,
+    turns: u32,
+    longest: u32,
+    link: &mut L,
+    clock: &mut C,
+    out: &mut K,
+) -> Ended<D>
+    requires long { 5 ≤ longest }
+    requires short { longest ≤ 600 }
+    ensures serves { EndsServing D.told D.faults D.follows
+        (λ ended served. LeavesServing (content_of D.told) (faults_of D.faults) (GoesOn D.follows) (λ first last. LeavesKept (D.leaves first.disk last.disk))
+        longest turns store ended served
+        (clock_told C.floor C.readings clock.old) (clock_told C.floor C.readings clock.new)
+        (link_told L.sent L.waiting L.faults L.receives link.old)
+        (link_told L.sent L.waiting L.faults L.receives link.new))
+        result.status turns store result.disk
+        (link_told L.sent L.waiting L.faults L.receives link.old)
+        (link_told L.sent L.waiting L.faults L.receives link.new)
+        (K.held out.old) (K.held out.new) (K.faults out.old) (K.faults out.new) }
+{
+    let Served { end, keeper } = serve(alloc, store, turns, longest, link, clock, out);
+    tell_end(alloc, end, keeper.into_disk(), out)
+}
+
+/// Tells how serving ended, with the byte of the image that says so where no number is left for a boot.
+fn tell_end<D: Drop, K: Sink>(alloc: Global, end: Ending, disk: D, out: &mut K) -> Ended<D>
+    ensures prints { PrintsBehind end result.status (K.held out.old) (K.held out.new) (K.faults out.old) (K.faults out.new) }
+    ensures disk { result.disk ≡ disk }
+{
+    match end {
+        Ending::Spent => refuse(alloc, disk, BOOT_PLACE, out),
+        end => ended_with(end, disk),
+    }
+}
