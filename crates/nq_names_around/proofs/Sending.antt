@@ -18,7 +18,7 @@ use Rattle.nq_names_around.specs.Around.{AroundOver, flushed_as, flushed_one, on
 drop-at : {X : Type 0} (xs : List X) (i : ℕ) (x : X) → slice_get xs i ≡ Some x → drop i xs ≡ x ∷ drop (i + 1) xs
 drop-at xs i x there = drop_more xs i x (slice_get_within xs i x there) ∙ ap (λ y. y ∷ drop (i + 1) xs) (get_or_from_slice_get xs i x x there)
 
-there : {X : Type 0} (xs : List X) (i : ℕ) → i < length xs → (x : X) × (slice_get xs i ≡ Some x)
+pub there : {X : Type 0} (xs : List X) (i : ℕ) → i < length xs → (x : X) × (slice_get xs i ≡ Some x)
 there [] i less = absurd (omega arith)
 there (x ∷ xs) zero less = (x, refl)
 there (x ∷ xs) (suc i) less = there xs i (omega arith)
@@ -45,7 +45,7 @@ of-datagram packets datagrams k d are there =
 pub next_due : (ds : List (Party × List ℕ)) (k : ℕ) (d : Party × List ℕ) → slice_get ds k ≡ Some d → drop k ds ≡ d ∷ drop (k + 1) ds
 next_due ds k d at = drop-at ds k d at
 
-none-due : (w : World) (ran : List Event) (a : AroundOver) → a.due ≡ [] → once_sent w ran a ≡ over w ran a
+pub none-due : (w : World) (ran : List Event) (a : AroundOver) → a.due ≡ [] → once_sent w ran a ≡ over w ran a
 none-due w ran a none = ap (λ d. with_due a.sender d (over w ran a)) none
 
 flushes : (w : World) (ran : List Event) (a : AroundOver) (due : List (Party × List ℕ)) → a.due ≡ due → shown w ran (flushed_as due a) ≡ shown w ran a

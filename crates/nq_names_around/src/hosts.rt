@@ -1,6 +1,6 @@
 //! What hosts keep of names, as events change it.
 
-ghost use Rattle.std.specs.Prelude.{◌≡◌, ◌<◌, ◌^◌, ◌≤◌, [], ◌++◌, List, length, Some, option_map, slice_get, slice_set, vec_len, IfOk, OnErr, OnOk};
+ghost use Rattle.std.specs.Prelude.{◌≡◌, ◌<◌, ◌^◌, ◌≤◌, ◌↔◌, [], ◌++◌, List, length, Some, option_map, slice_get, slice_set, vec_len, IsTrue, IfOk, OnErr, OnOk};
 ghost use Rattle.nq_base.specs.declared.Event.{Event};
 ghost use Rattle.nq_model.specs.Client.{Client};
 ghost use Rattle.nq_model.specs.World.{World};
@@ -37,10 +37,18 @@ impl Around {
         ensures gone { self.new.gone ≡ self.old.gone }
         ensures refused { OnErr result (self.new ≡ self.old) }
     {
-        if host.0 as usize >= self.sides.len() {
-            return Ok(());
+        if self.is_there(host) {
+            self.hear_there(host, datagram, term, now)
+        } else {
+            Ok(())
         }
-        self.hear_there(host, datagram, term, now)
+    }
+
+    /// Whether a host is there.
+    fn is_there(&self, host: Host) -> bool
+        ensures { IsTrue result ↔ (host < length self.now.sides) }
+    {
+        (host.0 as usize) < self.sides.len()
     }
 
     /// A host that is there takes in a packet.
