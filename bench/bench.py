@@ -129,6 +129,10 @@ CLIENTS = [
 ]
 EXTENTS = ("1-1", "1-32", "1-512", "1-1-of-512", "256-1", "256-32", "256-512")
 
+# Names that a host finds in a list of 1 or 256.
+FINDS = 2_000_000
+NAMES = ("1", "256")
+
 # What a server is asked that keeps 1 or 256 files, with 1 or 2,048 rows.
 SERVER_REQUESTS = 50_000
 SERVERS = [
@@ -147,6 +151,9 @@ def parts(program):
         for way in EXTENTS:
             each = (often(program, [what, way], CLIENT_CALLS)[0] - often(program, [what, way], 0)[0]) / CLIENT_CALLS
             print(f"{name + ', ' + way:36} {each * 1e9:8,.1f} ns {1 / each:14,.0f} per second")
+    for way in NAMES:
+        each = (often(program, ["find", way], FINDS)[0] - often(program, ["find", way], 0)[0]) / FINDS
+        print(f"{'a find, ' + way:36} {each * 1e9:8,.1f} ns {1 / each:14,.0f} per second")
     for name, what in SERVERS:
         for way in KEPT:
             each = (often(program, [what, way], SERVER_REQUESTS)[0] - often(program, [what, way], 0)[0]) / SERVER_REQUESTS

@@ -29,11 +29,12 @@ fn find_often(cache: &NameCache, names: &[Name], times: u64) -> u64 {
     let mut sum: u64 = 0;
     let mut place = 0;
     for _time in 0..times {
+        if place >= names.len() {
+            place = 0;
+        }
         if let Some(name) = names.get(place) {
             sum = sum.wrapping_add(id_found(cache, name));
             place += 1;
-        } else {
-            place = 0;
         }
     }
     sum
