@@ -14,7 +14,7 @@ local MOST_HOSTS = 64
 local procedures = {
     [0] = "NULL", [1] = "ATTACH", [2] = "LOOKUP", [3] = "CREATE", [4] = "GETATTR", [5] = "READ", [6] = "WRITE",
     [7] = "GETLEASE", [8] = "VACATED", [9] = "EVICTED", [10] = "RESIZE", [11] = "REMOVE",
-    [12] = "COMMIT", [14] = "STAGE",
+    [12] = "COMMIT", [13] = "READDIRLOOK", [14] = "STAGE", [15] = "DIREVICTED", [16] = "DIRVACATED",
 }
 local statuses = {
     [0] = "OK", [2] = "NOENT", [17] = "EXIST", [22] = "INVAL", [28] = "NOSPC", [70] = "STALE", [501] = "TRYLATER",
@@ -61,6 +61,10 @@ local f = {
     boot = ProtoField.uint32("nqnfs.boot", "Boot"),
     number = ProtoField.uint64("nqnfs.number", "Number"),
     verifier = ProtoField.uint32("nqnfs.verifier", "Boot that took the body"),
+    prefix = ProtoField.string("nqnfs.prefix", "Directory"),
+    after = ProtoField.uint32("nqnfs.after", "Id behind which the page begins"),
+    count = ProtoField.uint32("nqnfs.count", "Files of the page"),
+    more = ProtoField.uint32("nqnfs.more", "Whether the list goes on"),
     base = ProtoField.uint64("nqnfs.base", "Revision that the push rests on"),
     present = ProtoField.uint32("nqnfs.present", "Present"),
     value = ProtoField.uint32("nqnfs.value", "Number in the first four bytes"),
@@ -264,6 +268,17 @@ arguments[8] = function(r)
     return "file " .. file
 end
 arguments[9] = arguments[8]
+arguments[13] = function(r)
+    local prefix, after = r:text(f.prefix), r:uint(f.after)
+    r:uint(f.term)
+    return "directory /" .. prefix .. " behind " .. after
+end
+arguments[15] = function(r)
+    local prefix = r:text(f.prefix)
+    r:within("Tag", tag)
+    return "directory /" .. prefix
+end
+arguments[16] = arguments[15]
 
 -- What each reply says behind a status that is OK.
 local results = {
@@ -282,6 +297,16 @@ local results = {
     [10] = function(r) return "revision " .. tostring(r:hyper(f.rev)) end,
     [11] = function() return "" end,
     [12] = function(r) return "revision " .. tostring(r:hyper(f.rev)) end,
+    [13] = function(r)
+        local count = r:uint(f.count)
+        for _ = 1, count do
+            r:uint(f.file)
+            r:text(f.name)
+        end
+        local more = r:uint(f.more) == 1
+        local granted = r:optional("Grant", grant)
+        return count .. " files" .. (more and " and more" or "") .. (granted and ", with a lease" or "")
+    end,
     [14] = function(r) return "boot " .. r:uint(f.verifier) end,
 }
 

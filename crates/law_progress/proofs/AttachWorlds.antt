@@ -16,8 +16,10 @@ use Rattle.nq_model.specs.Kept.{host_row}
 use Rattle.nq_model.specs.Lines.{Play, play, play_flow, flow_first, play_hosts, play_rounds, delivered, numbers_from, added}
 use Rattle.nq_model.specs.Message.{Message, Packet, call, reply, datagram_of}
 use Rattle.nq_model.specs.Profile.{patience, inc_end}
-use Rattle.nq_model.specs.Server.{Server, ServerStep, to_host}
-use Rattle.nq_model.specs.ServerStep.{receive, tick}
+use Rattle.nq_model.specs.Stepped.{most_events}
+use Rattle.law_bounds.proofs.WorldNumbers.{drawn-up-to}
+use Rattle.nq_model.specs.Server.{ServerStep, to_host}
+use Rattle.nq_model.specs.ServerStep.{receive}
 use Rattle.nq_model.specs.World.{Head, World, from_host, after_server, after_client, at_client, after_hearing, sending_host, deliver, deliver_to, deliver_to_client, step, run}
 use Rattle.law_leases.proofs.LeaseIntervals.{run-runs}
 use Rattle.walk_client.proofs.ClientFacts.{Alone}
@@ -27,20 +29,17 @@ use Rattle.walk_run.proofs.Packets.{In, in-left, in-right, in-get, Told}
 use Rattle.walk_run.proofs.Steps.{Changes, nothing, by_client, by_server, step-changes}
 use Rattle.walk_run.proofs.Worlds.{Holds, run-holds, get-set-other, set-there, to-told}
 use Rattle.walk_server.proofs.Rows.{same-number, number-same}
-use Rattle.walk_server.proofs.ServerMoves.{tick-moves}
 use Rattle.walk_server.proofs.Tests.{is-below, is-not-below}
-use Rattle.law_progress.specs.AttachedSoon.{CanBeKept, IsAttached, AttachedOnceDelivered, AttachedInRecovery}
-use Rattle.law_progress.specs.CalmRound.{calm_round, calm_rounds, most_deliveries}
-use Rattle.law_deliveries.specs.DeliveryEnds.{calmed}
+use Rattle.law_progress.specs.AttachedSoon.{IsAttached, AttachedSoon}
+use Rattle.law_progress.specs.CalmRound.{calm_round, calm_rounds}
+use Rattle.law_deliveries.specs.DeliveryEnds.{calmed, enough_deliveries, IsDelivered}
 use Rattle.law_progress.specs.CalmRoundsAreLawful.{IsLawful}
-use Rattle.law_progress.specs.DeliveryEnds.{IsDelivered}
-use Rattle.law_progress.specs.QuietDeliveries.{recovers}
 use Rattle.law_progress.proofs.Attaching.{hear-stays, tick-stays, hear-attaches, hears-attach, attach-answered, TickedOff, tick-off}
 use Rattle.law_calm.proofs.ClientCount.{client-count}
-use Rattle.law_progress.proofs.CalmIsLawful.{calm-is-lawful, flows, round, rounds}
+use Rattle.law_progress.proofs.CalmIsLawful.{flows, calm-round, rounds}
 use Rattle.law_calm.proofs.GoingOn.{calls-go-on}
 use Rattle.law_calm.proofs.HostsBelow.{get-below}
-use Rattle.law_progress.proofs.QuietFlows.{delivered-phase, recovering-ends}
+use Rattle.law_progress.proofs.CalmEnds.{calm-delivers}
 
 -- ---- lists
 
@@ -485,10 +484,11 @@ module _ (most : ℕ) (head : Head) (host xid : ℕ) (who : Who) (small : who.in
   ended due n p l none (asked s c) = inl (asked-flows patience n p l (inr s) c none)
   ended due n p l none (waits s) = state-flows due n p l (inr s)
 
-  next-round : (due : ℕ) (p : Play) → IsLawful most head p → State (due + 1) (play_flow (most_deliveries p) p).world → Stage due (calm_round p)
+  next-round : (due : ℕ) (p : Play) → IsLawful most head p → State (due + 1) (play_flow (enough_deliveries p) p).world → Stage due (calm_round p)
+  unfolding calm_round
   next-round due p l s =
-      let q = play_flow (most_deliveries p) p in
-      round-ticks due q (flows most head (most_deliveries p) p l).is_run (there-is (due + 1) q s) (staged (due + 1) q s)
+      let q = play_flow (enough_deliveries p) p in
+      round-ticks due q (flows most head (enough_deliveries p) p l).is_run (there-is (due + 1) q s) (staged (due + 1) q s)
 
   -- who is due asks no more, since he has asked
   over : (p : Play) → IsLawful most head p → Off 0 p.world → On p.world
@@ -507,23 +507,25 @@ module _ (most : ℕ) (head : Head) (host xid : ℕ) (who : Who) (small : who.in
       by true same = subst (λ n. On (play p (Event.ClientTick n)).world) (same-number host h same) (own-on p is_run s)
       by false differs = on-same p.world (step p.world (Event.ClientTick h)) (other-tick p.world h (λ e. let yes : (host == h) ≡ true = number-same host h e in absurd (cc)) (slice_get p.world.clients h)) s
 
+  -- who is attached once all is delivered is so after the round
+  ticked-on : (p : Play) → IsLawful most head p → On (play_flow (enough_deliveries p) p).world → On (calm_round p).world
+  unfolding calm_round
+  ticked-on p l x =
+      let q = play_flow (enough_deliveries p) p in
+      let r = play_hosts (length q.world.clients) 0 q in
+      on-same r.world (step r.world Event.ServerTick) (server-step r.world _)
+      (hosts-on (length q.world.clients) 0 q (flows most head (enough_deliveries p) p l).is_run x)
+
+  rounds-on : (count : ℕ) (p : Play) → IsLawful most head p → On p.world → On (calm_rounds count p).world
+  rounds-on zero p l x = x
+  rounds-on (suc count) p l x = rounds-on count (calm_round p) (calm-round most head p l) (ticked-on p l (on-flows (enough_deliveries p) p l x))
+
   last-round : (p : Play) → IsLawful most head p → IsDelivered p → Stage 0 p → On (calm_round p).world
-  last-round p l none s = by (ended 0 (most_deliveries p) p l none s)
+  last-round p l none s = by (ended 0 (enough_deliveries p) p l none s)
     where
-      q : Play
-      q = play_flow (most_deliveries p) p
-
-      lawful : IsLawful most head q
-      lawful = flows most head (most_deliveries p) p l
-
-      on : On q.world → On (calm_round p).world
-      on x =
-          let r = play_hosts (length q.world.clients) 0 q in
-          on-same r.world (step r.world Event.ServerTick) (server-step r.world _) (hosts-on (length q.world.clients) 0 q lawful.is_run x)
-
-      by : State 0 q.world → On (calm_round p).world
-      by (inl x) = on x
-      by (inr x) = on (over q lawful x)
+      by : State 0 (play_flow (enough_deliveries p) p).world → On (calm_round p).world
+      by (inl x) = ticked-on p l x
+      by (inr x) = ticked-on p l (over (play_flow (enough_deliveries p) p) (flows most head (enough_deliveries p) p l) x)
 
   on-there : (w : World) (c : Client) → slice_get w.clients host ≡ Some c → On w → c.attached ≡ true
   on-there w c at s = subst (λ (d : Client). d.attached ≡ true) (some-same s.c c (sym s.at ∙ at)) s.on
@@ -537,10 +539,10 @@ module _ (most : ℕ) (head : Head) (host xid : ℕ) (who : Who) (small : who.in
   -- three rounds
   three-rounds : (p : Play) → IsLawful most head p → IsDelivered (calm_round p) → IsDelivered (calm_round (calm_round p)) → State patience p.world → On (calm_rounds 3 p).world
   three-rounds p l second third s =
-      let one = round most head (play_flow (most_deliveries p) p) (flows most head (most_deliveries p) p l) in
-      let two = round most head (play_flow (most_deliveries (calm_round p)) (calm_round p)) (flows most head (most_deliveries (calm_round p)) (calm_round p) one) in
-      let a = next-round 1 p l (state-flows patience (most_deliveries p) p l s) in
-      let b = next-round 0 (calm_round p) one (ended 1 (most_deliveries (calm_round p)) (calm_round p) one second a) in
+      let one = calm-round most head p l in
+      let two = calm-round most head (calm_round p) one in
+      let a = next-round 1 p l (state-flows patience (enough_deliveries p) p l s) in
+      let b = next-round 0 (calm_round p) one (ended 1 (enough_deliveries (calm_round p)) (calm_round p) one second a) in
       last-round (calm_round (calm_round p)) two third b
 
 -- ---- all hosts
@@ -550,81 +552,46 @@ get-there [] i below = absurd (omega arith)
 get-there (x ∷ xs) zero below = (x, refl)
 get-there (x ∷ xs) (suc i) below = get-there xs i (omega arith)
 
-module _ (most : ℕ) (head : Head) (p : Play) (l : IsLawful most head p) (can : All CanBeKept p.world.clients) (second : IsDelivered (calm_round p)) (third : IsDelivered (calm_round (calm_round p))) where
-  host-attached : (host : ℕ) (c d : Client) → slice_get p.world.clients host ≡ Some c → slice_get (calm_rounds 3 p).world.clients host ≡ Some d → d.attached ≡ true
-  host-attached host c d at after = by c.attached refl
-    where
-      small : c.who.inc < inc_end
-      small = found-in-all CanBeKept p.world.clients host c at can
-
-      there : slice_get (run head p.events).clients host ≡ Some c
-      there = subst (λ (u : World). slice_get u.clients host ≡ Some c) l.is_run at
-
-      by : (b : Bool) → c.attached ≡ b → d.attached ≡ true
-      by true on = on-there most head host 0 c.who small (calm_rounds 3 p).world d after (three-rounds most head host 0 c.who small p l second third (starts-on most head host 0 c.who small p.world c at on))
-      by false off =
-          let a = (calls-go-on head p.events host c there).attaching off in
-          let past = (((run-holds head p.events).clients host c there).alone.asking.ticketed a.ticket a.under_way).past in
-          on-there most head host a.ticket.xid c.who small (calm_rounds 3 p).world d after (three-rounds most head host a.ticket.xid c.who small p l second third (starts-off most head host a.ticket.xid c.who small p.world c a.ticket at off a.under_way refl a.asks refl past))
-
-  all-attached : All IsAttached (calm_rounds 3 p).world.clients
-  all-attached = all-found IsAttached (calm_rounds 3 p).world.clients (λ i d is.
-      let later = rounds most head 3 p l in
-      let few : length (calm_rounds 3 p).world.clients ≡ head.hosts = ap (λ (w : World). length w.clients) later.is_run ∙ client-count head (calm_rounds 3 p).events in
-      let many : length p.world.clients ≡ head.hosts = ap (λ (w : World). length w.clients) l.is_run ∙ client-count head p.events in
-      let inside = get-below (calm_rounds 3 p).world.clients i d is in
-      let c = get-there p.world.clients i (omega arith) in
-      host-attached i c.0 d c.1 is)
-
-pub attached-once-delivered : AttachedOnceDelivered
-attached-once-delivered most head p l can second third = all-attached most head p l can second third
-
--- ---- in a recovery
-
-rounds-more : (n k : ℕ) (p : Play) → calm_rounds (n + k) p ≡ calm_rounds k (calm_rounds n p)
+pub rounds-more : (n k : ℕ) (p : Play) → calm_rounds (n + k) p ≡ calm_rounds k (calm_rounds n p)
 rounds-more zero k p = let e : zero + k ≡ k = omega arith in ap (λ m. calm_rounds m p) e
 rounds-more (suc n) k p = let e : suc n + k ≡ suc (n + k) = omega arith in ap (λ m. calm_rounds m p) e ∙ rounds-more n k (calm_round p)
 
-tick-before : (s : Server) (now : ℕ) → recovers (tick s now).server.phase ≡ true → recovers s.phase ≡ true
-tick-before s now = tick-moves s now (λ kept phase table. recovers phase ≡ true → recovers s.phase ≡ true) (record {
-  waits = λ until heard last is goes_on e. e;
-  opening = λ until heard last is over e. absurd (cc);
-  ends_reading = λ serves e. e;
-  ending_writing = λ row serves due e. e;
-})
+module _ (most : ℕ) (head : Head) (p : Play) (l : IsLawful most head p) (few : length p.events ≤ most_events) (second : IsDelivered (calm_round p)) (third : IsDelivered (calm_round (calm_round p))) (more : ℕ) where
+  host-attached : (host : ℕ) (c d : Client) → slice_get p.world.clients host ≡ Some c → slice_get (calm_rounds more (calm_rounds 3 p)).world.clients host ≡ Some d → d.attached ≡ true
+  host-attached host c d at after = by c.attached refl
+    where
+      there : slice_get (run head p.events).clients host ≡ Some c
+      there = subst (λ (u : World). slice_get u.clients host ≡ Some c) l.is_run at
 
-client-server : (w : World) (h : ℕ) (o : Option Client) → (at_client w h (λ c. client_tick c (c.now + 1)) o).server ≡ w.server
-unfolding after_client
-client-server w h None = refl
-client-server w h (Some c) = refl
+      small : c.who.inc < inc_end
+      small = let low : c.who.inc ≤ length p.events + 1 = (drawn-up-to head p.events).inc host c there in omega arith
 
-hosts-before : (count h : ℕ) (p : Play) → recovers (play_hosts count h p).world.server.phase ≡ true → recovers p.world.server.phase ≡ true
-hosts-before zero h p e = e
-hosts-before (suc count) h p e = ap (λ (s : Server). recovers s.phase) (sym (client-server p.world h (slice_get p.world.clients h))) ∙ hosts-before count (h + 1) (play p (Event.ClientTick h)) e
+      on : (xid : ℕ) → State most head host xid c.who small patience p.world → d.attached ≡ true
+      on xid s =
+          on-there most head host xid c.who small (calm_rounds more (calm_rounds 3 p)).world d after
+          (rounds-on most head host xid c.who small more (calm_rounds 3 p) (rounds most head 3 p l) (three-rounds most head host xid c.who small p l second third s))
 
-flow-before : (n : ℕ) (p : Play) → recovers (play_flow n p).world.server.phase ≡ true → recovers p.world.server.phase ≡ true
-flow-before zero p e = e
-flow-before (suc n) p e = first p.fresh (flow-before n (flow_first p.fresh p) e)
-  where
-    first : (fresh : List ℕ) → recovers (flow_first fresh p).world.server.phase ≡ true → recovers p.world.server.phase ≡ true
-    first [] g = g
-    first (k ∷ fresh) g = sym (delivered-phase p.world k (slice_get p.world.packets k)) ∙ g
+      by : (b : Bool) → c.attached ≡ b → d.attached ≡ true
+      by true attached = on 0 (starts-on most head host 0 c.who small p.world c at attached)
+      by false off =
+          let a = (calls-go-on head p.events host c there).attaching off in
+          let past = (((run-holds head p.events).clients host c there).alone.asking.ticketed a.ticket a.under_way).past in
+          on a.ticket.xid (starts-off most head host a.ticket.xid c.who small p.world c a.ticket at off a.under_way refl a.asks refl past)
 
-round-before : (p : Play) → recovers (calm_round p).world.server.phase ≡ true → recovers p.world.server.phase ≡ true
-unfolding after_server
-round-before p e =
-    let q = play_flow (most_deliveries p) p in
-    let r = play_hosts (length q.world.clients) 0 q in
-    flow-before (most_deliveries p) p (hosts-before (length q.world.clients) 0 q (tick-before r.world.server (r.world.server.now + 1) e))
+  all-attached : All IsAttached (calm_rounds more (calm_rounds 3 p)).world.clients
+  all-attached = all-found IsAttached (calm_rounds more (calm_rounds 3 p)).world.clients (λ i d is.
+      let later = rounds most head more (calm_rounds 3 p) (rounds most head 3 p l) in
+      let few : length (calm_rounds more (calm_rounds 3 p)).world.clients ≡ head.hosts = ap (λ (w : World). length w.clients) later.is_run ∙ client-count head (calm_rounds more (calm_rounds 3 p)).events in
+      let many : length p.world.clients ≡ head.hosts = ap (λ (w : World). length w.clients) l.is_run ∙ client-count head p.events in
+      let inside = get-below (calm_rounds more (calm_rounds 3 p)).world.clients i d is in
+      let c = get-there p.world.clients i (omega arith) in
+      host-attached i c.0 d c.1 is)
 
-pub attached-in-recovery : AttachedInRecovery
-attached-in-recovery most head events bounds within under_way count all can recovering =
-    let base = calmed head events under_way in
-    let p = calm_rounds count base in
-    let one : calm_rounds (count + 1) base ≡ calm_round p = rounds-more count 1 base in
-    let two : calm_rounds (count + 2) base ≡ calm_round (calm_round p) = rounds-more count 2 base in
-    let late : recovers (calm_round (calm_round p)).world.server.phase ≡ true = ap (λ (r : Play). recovers r.world.server.phase) (sym two) ∙ recovering in
-    let early : recovers (calm_rounds (count + 1) base).world.server.phase ≡ true = ap (λ (r : Play). recovers r.world.server.phase) one ∙ round-before (calm_round p) late in
-    attached-once-delivered most head p (calm-is-lawful most head events bounds within under_way count) can
-    (subst (λ r. IsDelivered r) one (recovering-ends most head events bounds within under_way (count + 1) all early))
-    (subst (λ r. IsDelivered r) two (recovering-ends most head events bounds within under_way (count + 2) all recovering))
+pub attached-soon : AttachedSoon
+unfolding calmed
+attached-soon most head events bounds within few under_way more all =
+    let p = calmed head events under_way in
+    subst (λ (q : Play). All IsAttached q.world.clients) (sym (rounds-more 3 more p))
+    (all-attached most head p (record { is_run = refl; bounds = bounds; within = within }) few
+    (calm-delivers most head events bounds within under_way 1 all)
+    (calm-delivers most head events bounds within under_way 2 all) more)

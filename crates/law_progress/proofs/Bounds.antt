@@ -10,7 +10,7 @@ use Rattle.nq_model.specs.Lines.{Play}
 use Rattle.nq_model.specs.Message.{Message, Packet, call, reply, error}
 use Rattle.nq_model.specs.Settle.{pending}
 use Rattle.nq_model.specs.Table.{is_writing}
-use Rattle.law_progress.specs.CalmRound.{most_deliveries}
+use Rattle.law_progress.specs.DeliveryEnds.{most_deliveries}
 use Rattle.law_calm.specs.Efforts.{writes_to, read_left, lease_left, sent_left, job_left, requests_left, put_delays, may_delay, delays_left, is_idle, effort}
 use Rattle.law_calm.proofs.Efforts.{total, lease_weight, reply_weight, want_weight, request_weight, weight}
 use Rattle.law_calm.proofs.EffortReplies.{two-left}

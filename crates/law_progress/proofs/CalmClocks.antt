@@ -7,11 +7,11 @@ use Rattle.nq_model.specs.Lines.{Play, play, play_flow, flow_first, play_hosts}
 use Rattle.nq_model.specs.Skew.{server_ticks, ticks_of, is_tick_of}
 use Rattle.nq_model.specs.World.{Head, run}
 use Rattle.walk_leases.proofs.WorldClocks.{Clocked, run-clocked}
-use Rattle.law_progress.specs.CalmRound.{calm_round, calm_rounds, most_deliveries}
-use Rattle.law_deliveries.specs.DeliveryEnds.{calmed}
+use Rattle.law_progress.specs.CalmRound.{calm_round, calm_rounds}
+use Rattle.law_deliveries.specs.DeliveryEnds.{calmed, enough_deliveries}
 use Rattle.law_progress.specs.CalmRoundsAreLawful.{IsLawful}
 use Rattle.law_progress.specs.ClocksTickOnce.{ClocksTickOnce}
-use Rattle.law_progress.proofs.CalmIsLawful.{flows, round, calm-is-lawful}
+use Rattle.law_progress.proofs.CalmIsLawful.{flows, calm-round, calm-is-lawful}
 use Rattle.law_calm.proofs.ClientCount.{client-count}
 
 -- ---- deliveries
@@ -84,18 +84,20 @@ hosts-tick (suc count) host p h from below =
 
 module _ (most : ℕ) (head : Head) where
   round-server : (p : Play) → server_ticks (calm_round p).events ≡ server_ticks p.events + 1
+  unfolding calm_round
   round-server p =
-      let q = play_flow (most_deliveries p) p in
+      let q = play_flow (enough_deliveries p) p in
       let hosts = hosts-server (length q.world.clients) 0 q in
-      let flow = flow-server (most_deliveries p) p in
+      let flow = flow-server (enough_deliveries p) p in
       omega arith
 
   round-host : (p : Play) → IsLawful most head p → (h : ℕ) → h < head.hosts → ticks_of h (calm_round p).events ≡ ticks_of h p.events + 1
+  unfolding calm_round
   round-host p l h there =
-      let q = play_flow (most_deliveries p) p in
-      let all : length q.world.clients ≡ head.hosts = ap (λ w. length w.clients) (flows most head (most_deliveries p) p l).is_run ∙ client-count head q.events in
+      let q = play_flow (enough_deliveries p) p in
+      let all : length q.world.clients ≡ head.hosts = ap (λ w. length w.clients) (flows most head (enough_deliveries p) p l).is_run ∙ client-count head q.events in
       let hosts = hosts-tick (length q.world.clients) 0 q h (omega arith) (omega arith) in
-      let flow = flow-host h (most_deliveries p) p in
+      let flow = flow-host h (enough_deliveries p) p in
       omega arith
 
   rounds-server : (count : ℕ) (p : Play) → server_ticks (calm_rounds count p).events ≡ server_ticks p.events + count
@@ -108,7 +110,7 @@ module _ (most : ℕ) (head : Head) where
   rounds-host : (count : ℕ) (p : Play) → IsLawful most head p → (h : ℕ) → h < head.hosts → ticks_of h (calm_rounds count p).events ≡ ticks_of h p.events + count
   rounds-host zero p l h there = omega arith
   rounds-host (suc count) p l h there =
-      let rest = rounds-host count (calm_round p) (round most head (play_flow (most_deliveries p) p) (flows most head (most_deliveries p) p l)) h there in
+      let rest = rounds-host count (calm_round p) (calm-round most head p l) h there in
       let one = round-host p l h there in
       omega arith
 

@@ -8,8 +8,8 @@ use Rattle.nq_model.specs.Skew.{is_server_tick, IsWithinSkew}
 use Rattle.nq_model.specs.World.{Head, step}
 use Rattle.walk_run.proofs.NoCrash.{one-first}
 use Rattle.walk_server.proofs.Rows.{same-number}
-use Rattle.law_progress.specs.CalmRound.{calm_round, calm_rounds, most_deliveries}
-use Rattle.law_deliveries.specs.DeliveryEnds.{calmed}
+use Rattle.law_progress.specs.CalmRound.{calm_round, calm_rounds}
+use Rattle.law_deliveries.specs.DeliveryEnds.{calmed, enough_deliveries}
 use Rattle.law_progress.specs.CalmRoundsAreLawful.{IsLawful, CalmRoundsAreLawful}
 use Rattle.law_calm.proofs.ClientCount.{client-count}
 use Rattle.law_progress.proofs.Skewed.{MayTick, quiet-within, own-may, later-may, ticked-within}
@@ -26,7 +26,7 @@ module _ (most : ℕ) (head : Head) where
   }
 
   -- an event that is no boot and no tick of the server's clock
-  played-quiet : (p : Play) (e : Event) → BootsWithin most e → is_server_tick e ≡ 0 → IsLawful most head p → IsLawful most head (play p e)
+  pub played-quiet : (p : Play) (e : Event) → BootsWithin most e → is_server_tick e ≡ 0 → IsLawful most head p → IsLawful most head (play p e)
   played-quiet p e boots quiet l = played p e boots l (quiet-within head.hosts most e p.events quiet l.within)
 
   first-flows : (fresh : List ℕ) (p : Play) → IsLawful most head p → IsLawful most head (flow_first fresh p)
@@ -63,9 +63,13 @@ module _ (most : ℕ) (head : Head) where
       let ticked : Ticked head.hosts (play_hosts (length p.world.clients) 0 p) = ticked-hosts (length p.world.clients) 0 head.hosts p (omega arith) (omega arith) before in
       played (play_hosts (length p.world.clients) 0 p) Event.ServerTick tt ticked.lawful (ticked-within head.hosts most _ ticked.lawful.within ticked.may)
 
+  pub calm-round : (p : Play) → IsLawful most head p → IsLawful most head (calm_round p)
+  unfolding calm_round
+  calm-round p l = round (play_flow (enough_deliveries p) p) (flows (enough_deliveries p) p l)
+
   pub rounds : (count : ℕ) (p : Play) → IsLawful most head p → IsLawful most head (calm_rounds count p)
   rounds zero p l = l
-  rounds (suc count) p l = rounds count (calm_round p) (round (play_flow (most_deliveries p) p) (flows (most_deliveries p) p l))
+  rounds (suc count) p l = rounds count (calm_round p) (calm-round p l)
 
 pub calm-is-lawful : CalmRoundsAreLawful
 unfolding calmed

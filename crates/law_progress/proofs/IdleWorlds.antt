@@ -15,7 +15,8 @@ use Rattle.walk_client.proofs.ClientMoves.{some-same, none-some}
 use Rattle.law_progress.specs.AnswersStay.{AnswersStay, StoresStay}
 use Rattle.law_progress.specs.CallsAreAnswered.{IsAnswered}
 use Rattle.law_progress.specs.EverythingIsStored.{HasStored}
-use Rattle.law_progress.specs.CalmRound.{calm_round, calm_rounds, most_deliveries}
+use Rattle.law_deliveries.specs.DeliveryEnds.{enough_deliveries}
+use Rattle.law_progress.specs.CalmRound.{calm_round, calm_rounds}
 use Rattle.law_progress.proofs.IdleSteps.{Rests, tick-idles, hear-idles}
 
 all-get : {A : Type 0} (P : A → Type 0) (xs : List A) (i : ℕ) (x : A) → slice_get xs i ≡ Some x → All P xs → P x
@@ -69,11 +70,12 @@ module _ (Premise : Type 0) where
   hosts (suc count) host p all = hosts count (host + 1) (play p (Event.ClientTick host)) (ticking p.world host all (slice_get p.world.clients host) refl)
 
   rounds : (count : ℕ) (p : Play) → AllIdle p.world → AllIdle (calm_rounds count p).world
+  unfolding calm_round
   rounds zero p all = all
   rounds (suc count) p all =
-      let q = play_flow (most_deliveries p) p in
+      let q = play_flow (enough_deliveries p) p in
       let r = play_hosts (length q.world.clients) 0 q in
-      rounds count (calm_round p) (ticked r.world (hosts (length q.world.clients) 0 q (flows (most_deliveries p) p all)))
+      rounds count (calm_round p) (ticked r.world (hosts (length q.world.clients) 0 q (flows (enough_deliveries p) p all)))
 
 resting : (clients : List Client) → All IsAnswered clients → All (Rests ⊥) clients
 resting clients all = λ k c below. let a = all k c below in record { attached = a.attached; answered = a.answered; dirty = λ no. absurd no; push = λ no. absurd no }

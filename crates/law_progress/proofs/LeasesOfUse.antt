@@ -1,14 +1,10 @@
 -- Whoever wants to write is never granted a lease by which no write can be delayed: such a reply would weigh more than the request.
-use Rattle.std.proofs.Common.{◌≡◌, ◌≤◌, ◌⊎◌, ℕ, ◌+◌, Bool, true, false, List, [], ◌∷◌, Option, Some, None, zero, suc, length, refl, sym, ap, ◌∙◌, arith, inl, inr}
+use Rattle.std.proofs.Common.{◌≡◌, ◌≤◌, ℕ, ◌+◌, Bool, true, false, List, [], ◌∷◌, Some, zero, suc, length, refl, ap, ◌∙◌, arith}
 use Rattle.std.specs.Prelude.{slice_get}
-use Rattle.nq_base.specs.declared.Grant.{Grant}
-use Rattle.nq_base.specs.declared.Reply.{Reply}
 use Rattle.nq_base.specs.declared.Request.{Request}
-use Rattle.nq_base.specs.declared.Want.{Want}
-use Rattle.nq_base.specs.declared.Who.{Who}
 use Rattle.nq_model.specs.Ask.{conflicts}
 use Rattle.nq_model.specs.Decide.{in_the_way}
-use Rattle.nq_model.specs.Message.{Message, Packet, call, reply, request}
+use Rattle.nq_model.specs.Message.{call, request}
 use Rattle.nq_model.specs.Server.{Server}
 use Rattle.nq_model.specs.ServerStep.{receive}
 use Rattle.nq_model.specs.Table.{is_writing}
@@ -16,7 +12,6 @@ use Rattle.walk_client.proofs.ClientMoves.{some-same, none-some}
 use Rattle.law_calm.proofs.EffortParts.{filter-shorter}
 use Rattle.law_calm.proofs.Efforts.{total, lease_weight, want_weight, weight}
 use Rattle.law_calm.specs.Efforts.{is_idle}
-use Rattle.law_calm.specs.Turns.{IsOfUse}
 use Rattle.law_progress.proofs.QuietFlows.{notices-most}
 use Rattle.law_progress.proofs.ServerWeights.{packet_weight, packets_weight, Dear, receive-lighter}
 use Rattle.law_progress.specs.LeasesOfUse.{WritersGetLeasesOfUse}

@@ -10,5 +10,7 @@ pub mod SparedSteps
 pub mod QuietFlows
 pub mod CancelFlows
 pub mod Attaching
+pub mod CalmEnds
 pub mod AttachWorlds
+pub mod SoonRounds
 pub mod LeasesOfUse

@@ -33,8 +33,9 @@ use Rattle.law_progress.proofs.ServerWeights.{packets_weight, Dear}
 use Rattle.law_progress.proofs.SparedSteps.{found-all, delivered-spared}
 use Rattle.nq_promises.specs.Bounds.{KeepsBounds}
 use Rattle.nq_model.specs.Skew.{IsWithinSkew}
-use Rattle.law_progress.specs.CalmRound.{calm_round, calm_rounds, most_deliveries}
-use Rattle.law_deliveries.specs.DeliveryEnds.{AreUnderWay, calmed}
+use Rattle.law_progress.specs.CalmRound.{calm_round, calm_rounds}
+use Rattle.law_progress.specs.DeliveryEnds.{most_deliveries}
+use Rattle.law_deliveries.specs.DeliveryEnds.{AreUnderWay, calmed, enough_deliveries}
 use Rattle.law_calm.specs.Spared.{IsSpared}
 use Rattle.law_progress.specs.QuietDeliveries.{recovers, RecoveringDeliveryEnds, SparedDeliveryEnds}
 use Rattle.law_progress.proofs.Bounds.{within-bound}
@@ -49,7 +50,7 @@ pub record Grows (w v : World) : Type 0 where
   pub more : List Packet
   pub is : v.packets ≡ w.packets ++ more
 
-grown : (w v : World) → Changes w v → Grows w v
+pub grown : (w v : World) → Changes w v → Grows w v
 unfolding after_client after_server
 grown w v (nothing is) = record { more = []; is = ap (λ (u : World). u.packets) is ∙ sym (append-nil w.packets) }
 grown w v (by_client host c t at acts to) = record { more = map (from_host host) t.sends; is = ap (λ (u : World). u.packets) to }
@@ -86,11 +87,12 @@ hosts-sent zero host p all = all
 hosts-sent (suc count) host p all = hosts-sent count (host + 1) (play p (Event.ClientTick host)) (played-sent p (Event.ClientTick host) all)
 
 rounds-sent : (count : ℕ) (p : Play) → IsSentAll p → IsSentAll (calm_rounds count p)
+unfolding calm_round
 rounds-sent zero p all = all
 rounds-sent (suc count) p all =
-    let q = play_flow (most_deliveries p) p in
+    let q = play_flow (enough_deliveries p) p in
     let r = play_hosts (length q.world.clients) 0 q in
-    rounds-sent count (calm_round p) (played-sent r Event.ServerTick (hosts-sent (length q.world.clients) 0 q (flow-sent (most_deliveries p) p all)))
+    rounds-sent count (calm_round p) (played-sent r Event.ServerTick (hosts-sent (length q.world.clients) 0 q (flow-sent (enough_deliveries p) p all)))
 
 under-way-sent : (sent : ℕ) (numbers : List ℕ) → AreUnderWay sent numbers → AllSent sent numbers
 under-way-sent sent [] all = tt

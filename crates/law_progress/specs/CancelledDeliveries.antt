@@ -8,7 +8,8 @@ use Rattle.nq_model.specs.Lines.{Play, play_flow, flow_first}
 use Rattle.nq_model.specs.Message.{Message, Packet, call}
 use Rattle.nq_model.specs.World.{World, run}
 use Rattle.law_calm.specs.SendsAgain.{is_cancelled}
-use Rattle.law_progress.specs.CalmRound.{calm_rounds, most_deliveries}
+use Rattle.law_progress.specs.CalmRound.{calm_rounds}
+use Rattle.law_progress.specs.DeliveryEnds.{most_deliveries}
 use Rattle.law_deliveries.specs.DeliveryEnds.{AreUnderWay, calmed}
 
 -- whether a message cancels it

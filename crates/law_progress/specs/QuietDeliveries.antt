@@ -6,7 +6,7 @@ use Rattle.nq_model.specs.World.{run}
 use Rattle.law_calm.specs.Spared.{IsSpared}
 use Rattle.law_progress.specs.CalmRound.{calm_rounds}
 use Rattle.law_deliveries.specs.DeliveryEnds.{AreUnderWay, calmed}
-use Rattle.law_progress.specs.DeliveryEnds.{IsDelivered}
+use Rattle.law_progress.specs.DeliveryEnds.{IsDeliveredSoon}
 
 -- whether the server recovers
 abbrev pub recovers : Phase → Bool
@@ -21,7 +21,7 @@ RecoveringDeliveryEnds =
     (under_way : List ℕ) (count : ℕ)
     → AreUnderWay (length (run head events).packets) under_way
     → recovers (calm_rounds count (calmed head events under_way)).world.server.phase ≡ true
-    → IsDelivered (calm_rounds count (calmed head events under_way)))
+    → IsDeliveredSoon (calm_rounds count (calmed head events under_way)))
 
 -- and so does each in which no call waits for a lease
 abbrev pub SparedDeliveryEnds : Type 0
@@ -30,4 +30,4 @@ SparedDeliveryEnds =
     (under_way : List ℕ) (count : ℕ)
     → AreUnderWay (length (run head events).packets) under_way
     → All IsSpared (calm_rounds count (calmed head events under_way)).world.clients
-    → IsDelivered (calm_rounds count (calmed head events under_way)))
+    → IsDeliveredSoon (calm_rounds count (calmed head events under_way)))

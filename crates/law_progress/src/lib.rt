@@ -3,10 +3,11 @@
 #![tactic(auto)]
 
 ghost use Rattle.law_progress.specs.AnswersStay.{AnswersStay, StoresStay};
-ghost use Rattle.law_progress.specs.AttachedSoon.{AttachedInRecovery, AttachedOnceDelivered};
+ghost use Rattle.law_progress.specs.AttachedSoon.{AttachedSoon};
 ghost use Rattle.law_progress.specs.CalmRoundsAreLawful.{CalmRoundsAreLawful};
 ghost use Rattle.law_progress.specs.CancelledDeliveries.{DeliveryEndsButForCancels};
 ghost use Rattle.law_progress.specs.ClocksTickOnce.{ClocksTickOnce};
+ghost use Rattle.law_progress.specs.DeliveryEnds.{CalmDeliveriesEnd};
 ghost use Rattle.law_progress.specs.LeasesOfUse.{WritersGetLeasesOfUse};
 ghost use Rattle.law_progress.specs.QuietDeliveries.{RecoveringDeliveryEnds, SparedDeliveryEnds};
 ghost use Rattle.law_progress.specs.SomeNeedHalf.{NeedsHalf};
@@ -36,6 +37,11 @@ pub fn clocks_tick_once()
     ensures { ClocksTickOnce }
 {}
 
+/// In every run, whatever is under way: the delivery of each calm round ends.
+pub fn calm_deliveries_end()
+    ensures { CalmDeliveriesEnd }
+{}
+
 /// While the server recovers each calm delivery ends, within the bound that is stated.
 pub fn recovering_deliveries_end()
     ensures { RecoveringDeliveryEnds }
@@ -52,14 +58,9 @@ pub fn deliveries_end_but_for_cancels()
     ensures { DeliveryEndsButForCancels }
 {}
 
-/// Where the deliveries of the second and the third of three calm rounds end, all clients are attached after these rounds.
-pub fn attached_once_delivered()
-    ensures { AttachedOnceDelivered }
-{}
-
-/// Where a server recovers for three calm rounds, all clients are attached after them.
-pub fn attached_in_recovery()
-    ensures { AttachedInRecovery }
+/// In every run, whatever is under way: all clients are attached after three calm rounds, and after any number more.
+pub fn attached_soon()
+    ensures { AttachedSoon }
 {}
 
 /// In every state of the server, whoever wants to write is never granted a lease by which no write can be delayed.

@@ -1,12 +1,14 @@
 //! The program `nq_bench`: does one thing many times, to be timed from outside, and prints a number that stands on
 //! all that came out. Its words are what, which way and how often: `lookup`, `lookup-reply` or `read-reply` with
 //! `encode` or `decode`; `client-read`, `client-read-cached` or `client-write` with 1 or 256, the files held, and 1, 32 or
-//! 512, the blocks read or written, or with 1-1-of-512; or `server-lookup`, `server-read`, `server-read-wanted`,
-//! `server-write` or `server-push` with 1-1, 256-1 or 256-2048, the files and the rows of the server.
+//! 512, the blocks read or written, or with 1-1-of-512; `find` with 1 or 256, the names that a host keeps; or
+//! `server-lookup`, `server-read`, `server-read-wanted`, `server-write` or `server-push` with 1-1, 256-1 or 256-2048, the
+//! files and the rows of the server.
 #![tactic(auto)]
 
 mod clients;
 mod datagrams;
+mod finds;
 mod servers;
 
 use crate::clients::Act;
@@ -43,6 +45,7 @@ fn done(alloc: Global, what: &str, way: &str, times: u64) -> Option<u64> {
         "client-read" => clients::often(alloc, Act::Read, way, times),
         "client-read-cached" => clients::often(alloc, Act::ReadCached, way, times),
         "client-write" => clients::often(alloc, Act::Write, way, times),
+        "find" => finds::often(alloc, way, times),
         "server-lookup" => servers::often(alloc, Ask::Lookup, way, times),
         "server-read" => servers::often(alloc, Ask::Read, way, times),
         "server-read-wanted" => servers::often(alloc, Ask::ReadWanted, way, times),

@@ -35,14 +35,6 @@ fn sink_of(alloc: Global, scene: &str) -> Result<MemSink> {
     Ok(MemSink::new(alloc, ROOM, failing)?)
 }
 
-/// The clock of a scene.
-fn clock_of(alloc: Global, scene: &str) -> Result<MemClock> {
-    if scene.starts_with("fast") {
-        return Ok(MemClock::new(vec![in alloc; Ticks(0), Ticks(100_000)]?));
-    }
-    Ok(MemClock::new(vec![in alloc; Ticks(0), Ticks(1)]?))
-}
-
 /// Runs what words say in a scene; the status, and what was printed.
 pub(crate) fn play(alloc: Global, scene: &str, said: &str, input: &str) -> Result<(u8, MemSink)> {
     let words = words_of(alloc, said)?;
@@ -51,7 +43,7 @@ pub(crate) fn play(alloc: Global, scene: &str, said: &str, input: &str) -> Resul
     let keeper = keeper_of(alloc, scene)?;
     let mut link = link_of(alloc, scene, Party::Client(Host(0)))?;
     let mut links = links_of(alloc, scene, &words)?;
-    let mut clock = clock_of(alloc, scene)?;
+    let mut clock = MemClock::new(vec![in alloc; Ticks(0), Ticks(1)]?);
     let status = status_of(
         alloc,
         &words,

@@ -1,0 +1,5 @@
+use Rattle.law_progress.proofs.AttachWorlds.{attached-soon}
+use Rattle.law_progress.proofs.attached_soon.Goals as goal
+
+pub returns : goal.returns
+returns c = attached-soon

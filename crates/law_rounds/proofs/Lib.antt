@@ -1,0 +1,17 @@
+pub mod Revisions
+pub mod LowValues
+pub mod Fair
+pub mod ServerAnswers
+pub mod LineSteps
+pub mod ClientTickets
+pub mod Lines
+pub mod Asking
+pub mod Coming
+pub mod Flows
+pub mod Dues
+pub mod Quiet
+pub mod Sleeping
+pub mod LastRows
+pub mod Recovering
+pub mod RecoveryRounds
+pub mod SomeRounds

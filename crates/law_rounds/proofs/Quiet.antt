@@ -1,0 +1,113 @@
+-- From the third calm round on all clients are quiet once all is delivered.
+use Rattle.std.proofs.Common.{◌≡◌, ◌<◌, ◌⊎◌, ℕ, ◌+◌, Bool, true, false, zero, suc, List, [], ◌∷◌, Option, Some, None, is_some, length, refl, sym, subst, ap, ◌∙◌, arith, inl, inr}
+use Rattle.std.specs.Prelude.{slice_get, slice_index_or}
+use Rattle.nq_base.specs.declared.Call.{Call}
+use Rattle.nq_base.specs.declared.Push.{Push}
+use Rattle.nq_model.specs.Client.{Client, Notice, UnderWay, notice_on}
+use Rattle.nq_model.specs.Lines.{Play}
+use Rattle.nq_model.specs.World.{Head, World, run}
+use Rattle.law_calm.specs.CallsGoOn.{GoesOn}
+use Rattle.law_calm.proofs.ClientCount.{client-count}
+use Rattle.law_calm.proofs.GoingOn.{calls-go-on}
+use Rattle.law_calm.proofs.HostsBelow.{get-below}
+use Rattle.law_chains.proofs.ChainWorlds.{chain-fits}
+use Rattle.law_deliveries.specs.DeliveryEnds.{calmed, enough_deliveries}
+use Rattle.law_progress.specs.CalmRound.{calm_rounds}
+use Rattle.law_progress.specs.CalmRoundsAreLawful.{IsLawful}
+use Rattle.law_progress.proofs.AttachWorlds.{rounds-more}
+use Rattle.law_progress.proofs.CalmEnds.{IsRising, rounds-rising, calmed-rising}
+use Rattle.law_progress.proofs.CalmIsLawful.{flows, rounds}
+use Rattle.walk_client.proofs.ClientMoves.{none-some}
+use Rattle.walk_client.proofs.SettleCases.{IsSync, of_sync, of_put}
+use Rattle.walk_run.proofs.Worlds.{run-holds}
+use Rattle.law_rounds.specs.RoundsEndQuiet.{IsSmall, all_delivered, waits_to_store, IsQuiet, RoundsEndQuiet}
+use Rattle.law_rounds.proofs.Dues.{NoneDue, run-due}
+use Rattle.law_rounds.proofs.Flows.{Covered, flow-small, none-asks, third-covers}
+
+all-found : {A : Type 0} (P : A → Type 0) (xs : List A) → ((i : ℕ) (x : A) → slice_get xs i ≡ Some x → P x) → (k : ℕ) (d : A) → k < length xs → P (slice_index_or xs k d)
+all-found P [] given k d below = absurd (omega arith)
+all-found P (y ∷ xs) given zero d below = given 0 y refl
+all-found P (y ∷ xs) given (suc k) d below = all-found P xs (λ i x is. given (suc i) x is) k d (omega arith)
+
+module _ (most : ℕ) (head : Head) where
+  -- a client of a run that has no request under way is quiet
+  quiet-client : (p : Play) → IsLawful most head p → (host : ℕ) (c : Client) → slice_get p.world.clients host ≡ Some c → c.ticket ≡ None → IsQuiet c
+  quiet-client p l host c at none = record {
+    attached = on c.attached refl;
+    no_request = none;
+    no_push = pushes c.push refl;
+    no_notice = λ file. notices file (notice_on file c.notices) refl;
+    waits = λ u is. (pausing u is (goes.busy u is), goes.short);
+    no_sync = syncs;
+    held = λ file unclean.
+        let h = (chain-fits most head p.events host c l.bounds l.within there).writes.held file unclean in
+        (h.0, h.1, record { writes = h.2; late = due.ending file h.0 h.1 h.2 unclean });
+  }
+    where
+      there : slice_get (run head p.events).clients host ≡ Some c
+      there = subst (λ (u : World). slice_get u.clients host ≡ Some c) l.is_run at
+
+      goes : GoesOn c
+      goes = calls-go-on head p.events host c there
+
+      pausing : (u : UnderWay) → c.call ≡ Some u → (is_some c.ticket ≡ true) ⊎ (c.now < c.pause) → c.now < c.pause
+      pausing u is (inl asks) = let no : is_some c.ticket ≡ false = ap is_some none in absurd (cc)
+      pausing u is (inr late) = late
+
+      due : NoneDue c
+      due = (run-due head p.events host c there none).0
+
+      syncs : (u : UnderWay) → c.call ≡ Some u → waits_to_store u.written u.call ≡ false
+      syncs u called = by u.written u.call refl refl
+        where
+          none-waits : (file : ℕ) → IsSync u file → ⊥
+          none-waits file is = (run-due head p.events host c there none).1 u file called is
+
+          by : (b : Bool) (op : Call) → u.written ≡ b → u.call ≡ op → waits_to_store b op ≡ false
+          by b (Call.Sync file) e is = absurd (none-waits file (of_sync is))
+          by true (Call.WriteSync file block body) e is = absurd (none-waits file (of_put block body is e))
+          by false (Call.WriteSync file block body) e is = refl
+          by b (Call.Create name blocks) e is = refl
+          by b (Call.Lookup name) e is = refl
+          by b (Call.Attr file) e is = refl
+          by b (Call.Read file block) e is = refl
+          by b (Call.Fetch file block) e is = refl
+          by b (Call.Write file block body) e is = refl
+          by b (Call.Resize file blocks) e is = refl
+          by b (Call.Remove file) e is = refl
+
+      on : (b : Bool) → c.attached ≡ b → c.attached ≡ true
+      on true e = e
+      on false e = let w = ((run-holds head p.events).clients host c there).alone.asking.waiting e in none-some w.request (sym none ∙ w.asks)
+
+      pushes : (o : Option Push) → c.push ≡ o → c.push ≡ None
+      pushes None e = e
+      pushes (Some q) e = let w = ((run-holds head p.events).clients host c there).alone.delaying.under_way q e in none-some w.request (sym none ∙ w.asks)
+
+      notices : (file : ℕ) (o : Option Notice) → notice_on file c.notices ≡ o → notice_on file c.notices ≡ None
+      notices file None e = e
+      notices file (Some n) e = absurd (due.noticed file n e)
+
+  -- all clients of a play whose requests come are so once all is delivered
+  pub ends-quiet : (p : Play) → IsLawful most head p → IsRising p → IsSmall (all_delivered p) → ((host : ℕ) → host < head.hosts → Covered most head host 0 p) → (host : ℕ) (c : Client) → slice_get (all_delivered p).world.clients host ≡ Some c → IsQuiet c
+  ends-quiet p l rising small covers host c at =
+      let lq = flows most head (enough_deliveries p) p l in
+      let below : host < head.hosts =
+      let inside = get-below (all_delivered p).world.clients host c at in
+      let many : length (all_delivered p).world.clients ≡ head.hosts = ap (λ (w : World). length w.clients) lq.is_run ∙ client-count head (all_delivered p).events in
+      omega arith in
+      quiet-client (all_delivered p) lq host c at (none-asks most head host p l rising small (covers host below) c at)
+
+pub rounds-end-quiet : RoundsEndQuiet
+unfolding calmed
+rounds-end-quiet most head events bounds within under_way more all small =
+    let base = calmed head events under_way in
+    let p = calm_rounds (2 + more) base in
+    let l0 : IsLawful most head base = record { is_run = refl; bounds = bounds; within = within } in
+    let l = rounds most head (2 + more) base l0 in
+    let split : calm_rounds (2 + more) base ≡ calm_rounds more (calm_rounds 2 base) = rounds-more 2 more base in
+    let rising = rounds-rising (2 + more) base (calmed-rising head events under_way all) in
+    let before : IsSmall (calm_rounds (2 + more) base) = flow-small (enough_deliveries (calm_rounds (2 + more) base)) (calm_rounds (2 + more) base) small in
+    let fits : IsSmall (calm_rounds more (calm_rounds 2 base)) = subst (λ (q : Play). IsSmall q) split before in
+    all-found IsQuiet (all_delivered p).world.clients (ends-quiet most head p l rising small (λ host below.
+    subst (λ (q : Play). Covered most head host 0 q) (sym split) (third-covers most head host more base l0 below fits)))

@@ -1,0 +1,3 @@
+pub mod RoundsEndQuiet
+pub mod RecoveriesEnd
+pub mod Met

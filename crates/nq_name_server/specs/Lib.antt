@@ -1,0 +1,4 @@
+pub mod Served
+pub mod Serving
+pub mod Sound
+pub mod Sending

@@ -1,0 +1,4 @@
+pub mod Outer
+pub mod Outside
+pub mod Theorem
+pub mod Lasting
