@@ -50,6 +50,7 @@ def echoed(tool, clients, requests):
 
 def served(tool, program, folder, clients, requests, kind):
     """What a server of its own takes, and the share of a processor that it takes afterwards, with nothing to do."""
+    subprocess.run([program, "format"], cwd=folder, check=True)
     server = subprocess.Popen([program, "serve", str(MOST_TURNS)], cwd=folder, stdout=subprocess.DEVNULL)
     try:
         time.sleep(0.5)

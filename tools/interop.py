@@ -88,6 +88,7 @@ def session(program, folder, captures):
         words = ["tcpdump", "-i", "lo", "-U", "-s", "0", "-w", "session.pcap", "udp", "port", "20560"]
         capture = subprocess.Popen(words, cwd=folder, stderr=subprocess.DEVNULL)
         time.sleep(2)
+    subprocess.run([program, "format"], cwd=folder, check=True)
     server = subprocess.Popen([program, "serve", TURNS], cwd=folder, stdout=subprocess.DEVNULL)
     time.sleep(0.5)
     try:

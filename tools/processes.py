@@ -15,6 +15,7 @@ import pathlib
 import re
 import subprocess
 import sys
+import tempfile
 import time
 
 ROOT = pathlib.Path(__file__).resolve().parent.parent
@@ -106,14 +107,16 @@ def main():
     parser.add_argument("--program", default=str(ROOT / "crates/nqnfs/out/nqnfs"))
     program = str(pathlib.Path(parser.parse_args().program).resolve())
     clients = []
-    server = subprocess.Popen([program, "serve", SERVER_TURNS, str(LONGEST)], stdout=subprocess.DEVNULL)
-    try:
-        time.sleep(0.5)
-        fault = session(program, clients)
-    finally:
-        for process in [server, *(client.process for client in clients)]:
-            process.kill()
-            process.wait()
+    with tempfile.TemporaryDirectory() as folder:
+        subprocess.run([program, "format"], cwd=folder, check=True)
+        server = subprocess.Popen([program, "serve", SERVER_TURNS, str(LONGEST)], cwd=folder, stdout=subprocess.DEVNULL)
+        try:
+            time.sleep(0.5)
+            fault = session(program, clients)
+        finally:
+            for process in [server, *(client.process for client in clients)]:
+                process.kill()
+                process.wait()
     if fault:
         sys.exit(fault)
     print("all right: host 1 had the block that host 0 gave up, and host 0 read that of host 1")
