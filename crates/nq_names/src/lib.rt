@@ -4,7 +4,6 @@
 //! What it does is in the definitions of `nq_names_run`.
 #![tactic(auto)]
 
-mod around;
 mod copying;
 mod line;
 mod reading;

@@ -1,11 +1,11 @@
 //! READDIRLOOK, DIRVACATED, and requests that change a directory, as the server's side takes them in.
 
 use crate::world::NameWorld;
-use nq_base::{FileId, Host, Party, Request, Spare, Who};
+use nq_base::{FileId, Host, Request, Spare, Who};
 use nq_datagrams::{Incoming, read_incoming};
 use nq_directory::{FileName, Prefix, directory_of};
 use nq_keeper::{KeepFault, Keeper};
-use nq_listing::{DirTag, MOST_NAMES, ReadDir, later_bytes, read_dir_vacated, read_read_dir};
+use nq_listing::{DirTag, MOST_NAMES, ReadDir, read_dir_vacated, read_read_dir};
 
 /// The most files that a server keeps.
 const MOST_FILES: u32 = 256;
@@ -39,7 +39,7 @@ impl<K: Keeper> NameWorld<K> {
     /// A DIRVACATED, where it is of the host that sent it.
     fn vacated(&mut self, host: Host, vacated: &DirTag) {
         if vacated.who.host == host {
-            self.around.server.vacated(vacated);
+            self.around.vacated(vacated);
         }
     }
 
@@ -52,22 +52,13 @@ impl<K: Keeper> NameWorld<K> {
             return self.put_off(request);
         }
         let leaf = self.leaf(&request.prefix, request.after)?;
-        self.around.sender = Party::Server;
-        let alloc = self.alloc;
-        let around = &mut self.around;
-        around
-            .server
-            .read_dir(alloc, request, &leaf.names, leaf.more, &mut around.due)?;
+        self.around.read_dir(request, &leaf.names, leaf.more)?;
         Ok(())
     }
 
     /// A READDIRLOOK while the server recovers.
     fn put_off(&mut self, request: &ReadDir) -> Result<(), KeepFault> {
-        let reply = later_bytes(self.alloc, request.xid, request.who.inc.0)?;
-        self.around.sender = Party::Server;
-        self.around
-            .due
-            .push(Party::Client(request.who.host), reply)?;
+        self.around.put_off(request)?;
         Ok(())
     }
 
@@ -106,14 +97,7 @@ impl<K: Keeper> NameWorld<K> {
         if changes.who.host != host {
             return Ok(false);
         }
-        self.around.sender = Party::Server;
-        let alloc = self.alloc;
-        let around = &mut self.around;
-        Ok(
-            around
-                .server
-                .hold_up(alloc, changes.who, &changes.prefix, &mut around.due)?,
-        )
+        Ok(self.around.hold_up(changes.who, &changes.prefix)?)
     }
 
     /// Whose request a datagram is that changes a directory: a CREATE, or a REMOVE of a file that is kept.

@@ -6,13 +6,13 @@ ghost use Rattle.nq_names.specs.Playing.{CanComeOutside, PlaysOutside, StepsOuts
 ghost use Rattle.nq_names_run.specs.declared.NameEvent.{NameEvent};
 ghost use Rattle.nq_world.specs.Playing.{CountsFaults, HasSettings};
 
-use crate::around::Travelling;
 use crate::copying::copied;
 use crate::world::NameWorld;
 use nq_base::{Call, Event, Host, NoMemory, Party, Ticks};
 use nq_directory::Prefix;
 use nq_keeper::{KeepFault, Keeper};
 use nq_name_server::NameServer;
+use nq_names_around::Travelling;
 use nq_names_run::NameEvent;
 use nq_world::{Limit, MOST_EVENTS, MOST_SENT, Stepped};
 
@@ -127,16 +127,7 @@ impl<K: Keeper> NameWorld<K> {
     fn ask_for(&mut self, host: Host, prefix: &Prefix) -> Result<(), NoMemory> {
         let now = self.time_of(host)?;
         let term = self.world.term();
-        let alloc = self.alloc;
-        let around = &mut self.around;
-        around.due.reserve(1)?;
-        let Some(side) = around.sides.get_mut(host.0 as usize) else {
-            return Ok(());
-        };
-        let bytes = side.list(alloc, prefix, term, now)?;
-        around.sender = Party::Client(host);
-        around.due.push(Party::Server, bytes).unwrap();
-        Ok(())
+        self.around.ask_for(host, prefix, term, now)
     }
 
     /// The time of a host's clock, which shows no time from 2^62 on.
@@ -151,16 +142,18 @@ impl<K: Keeper> NameWorld<K> {
 
     /// A packet is taken in by its receiver.
     fn deliver(&mut self, number: u64) -> Stepped {
+        if number >= self.around.sent() {
+            return Stepped::NoPacket;
+        }
         match self.around.read(number) {
-            Ok(Some(packet)) => self.take_in(&packet),
-            Ok(None) => Stepped::NoPacket,
+            Ok(packet) => self.take_in(&packet),
             Err(NoMemory::Memory) => Stepped::Memory,
         }
     }
 
     /// A packet is taken in by its receiver.
     fn take_in(&mut self, packet: &Travelling) -> Stepped {
-        match (packet.to, packet.sender) {
+        match (packet.to(), packet.sender()) {
             (Party::Client(host), _) => self.take_in_at(host, packet),
             (Party::Server, Party::Client(host)) => self.serve_packet(host, packet),
             (Party::Server, Party::Server) => Stepped::Done,
@@ -169,10 +162,10 @@ impl<K: Keeper> NameWorld<K> {
 
     /// A packet is taken in by a host.
     fn take_in_at(&mut self, host: Host, packet: &Travelling) -> Stepped {
-        if let Some(number) = packet.inner {
+        if let Some(number) = packet.inner() {
             return self.run(&Event::Deliver(number));
         }
-        match self.hear(host, &packet.bytes) {
+        match self.hear(host, packet.bytes()) {
             Ok(()) => Stepped::Done,
             Err(NoMemory::Memory) => Stepped::Memory,
         }
@@ -180,33 +173,23 @@ impl<K: Keeper> NameWorld<K> {
 
     /// A host takes in a packet that is none of the inner world.
     fn hear(&mut self, host: Host, datagram: &[u8]) -> Result<(), NoMemory> {
-        if host.0 as usize >= self.around.sides.len() {
+        if !self.around.is_there(host) {
             return Ok(());
         }
         let now = self.time_of(host)?;
         let term = self.world.term();
-        let alloc = self.alloc;
-        let around = &mut self.around;
-        around.due.reserve(1)?;
-        let Some(side) = around.sides.get_mut(host.0 as usize) else {
-            return Ok(());
-        };
-        if let Some(bytes) = side.heard(alloc, datagram, term, now)? {
-            around.sender = Party::Client(host);
-            around.due.push(Party::Server, bytes).unwrap();
-        }
-        Ok(())
+        self.around.hear(host, datagram, term, now)
     }
 
     /// A host's packet comes to the server.
     fn serve_packet(&mut self, host: Host, packet: &Travelling) -> Stepped {
-        let Some(number) = packet.inner else {
-            return match self.serve(host, &packet.bytes) {
+        let Some(number) = packet.inner() else {
+            return match self.serve(host, packet.bytes()) {
                 Ok(()) => Stepped::Done,
                 Err(fault) => stepped(fault),
             };
         };
-        match self.hold_up(host, &packet.bytes) {
+        match self.hold_up(host, packet.bytes()) {
             Ok(true) => Stepped::Done,
             Ok(false) => self.run(&Event::Deliver(number)),
             Err(fault) => stepped(fault),
@@ -224,7 +207,7 @@ impl<K: Keeper> NameWorld<K> {
         };
         match self.run(&Event::Crash { longest }) {
             Stepped::Done => {
-                self.around.server = server;
+                self.around.reboot(server);
                 Stepped::Done
             }
             refused => refused,
@@ -257,19 +240,13 @@ impl<K: Keeper> NameWorld<K> {
         match event {
             Event::ServerTick => {
                 let time = self.world.time(Party::Server);
-                self.around.server.tick(time);
+                self.around.tick(time);
             }
             Event::Restart(host) => {
                 let who = self.world.client(*host).who();
-                if let Some(side) = self.around.side(*host) {
-                    side.restart(who);
-                }
+                self.around.restart(*host, who);
             }
-            Event::Call { host, call } => {
-                if let Some(side) = self.around.side(*host) {
-                    side.before_call(call);
-                }
-            }
+            Event::Call { host, call } => self.around.before_call(*host, call),
             Event::Deliver(_) | Event::ClientTick(_) | Event::Crash { .. } => {}
         }
     }

@@ -10,11 +10,11 @@ ghost use Rattle.nq_names_run.specs.Outside.{found, outside_run};
 ghost use Rattle.nq_world.specs.Playing.{Plays};
 ghost use Rattle.nq_world.specs.declared.NewFault.{NewFault};
 
-use crate::around::Around;
 use nq_base::{Host, Journal, Name, NoMemory, Party};
 use nq_keeper::Keeper;
 use nq_name_cache::{Found, NameCache};
 use nq_name_server::NameServer;
+use nq_names_around::Around;
 use nq_net::Packets;
 use nq_script::Schedule;
 use nq_world::{NewFault, World};
@@ -91,10 +91,8 @@ impl<K: Keeper> NameWorld<K> {
         ensures { (head : Head) (events : List NameEvent) (told : Option Kept) → PlaysOutside head events self.now told
             → result ≡ found (outside_run head events) host name.now }
     {
-        match self.around.sides.get(host.0 as usize) {
-            Some(side) => side.find(name, self.world.time(Party::Client(host))),
-            None => Found::Unknown,
-        }
+        let now = self.world.time(Party::Client(host));
+        self.around.find(host, name, now)
     }
 
     /// Sends what was made and has not gone out, and tells how many packets travel.

@@ -45,7 +45,7 @@ impl Around {
     }
 
     /// Whether a host is there.
-    fn is_there(&self, host: Host) -> bool
+    pub fn is_there(&self, host: Host) -> bool
         ensures { IsTrue result ↔ (host < length self.now.sides) }
     {
         (host.0 as usize) < self.sides.len()
