@@ -66,7 +66,7 @@ fn plain_text(alloc: Global, hosts: u32, front: &[u8], body: &[u8]) -> Result<Pl
 }
 
 /// What a line is.
-fn aside(line: &[u8], hosts: u32) -> Aside {
+fn aside_of(line: &[u8], hosts: u32) -> Aside {
     if let Some((host, prefix)) = parse_list(line, hosts) {
         return Aside::List(host, prefix);
     }
@@ -101,7 +101,7 @@ fn push_line(
     hosts: u32,
     line: &[u8],
 ) -> Result<(), NoMemory> {
-    let what = aside(line, hosts);
+    let what = aside_of(line, hosts);
     match what {
         Aside::Plain => bytes.extend_from_slice(line)?,
         Aside::List(..) | Aside::Find(..) => bytes.extend_from_slice(b"flow")?,
