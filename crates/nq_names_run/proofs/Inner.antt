@@ -134,7 +134,7 @@ either-core : (o u : Outside) (b : Bool) → Core u ≡ Core o → Core (if b th
 either-core o u true same = same
 either-core o u false same = refl
 
-core-listing : (o : Outside) (host : ℕ) (prefix : List ℕ) (n : Option Names) (c : Option Client) → Core (lists o host prefix n c) ≡ Core o
+pub core-listing : (o : Outside) (host : ℕ) (prefix : List ℕ) (n : Option Names) (c : Option Client) → Core (lists o host prefix n c) ≡ Core o
 core-listing o host prefix (Some n) (Some c) =
     either-core o (asks_as o host (lists_dir n prefix c.term c.now)) (c.attached && not (is_changing c.call)) (core-asked o host (lists_dir n prefix c.term c.now))
 core-listing o host prefix None c = refl

@@ -12,7 +12,11 @@ use Rattle.nq_model.specs.LeaseInterval.{Claim, HasFitting, claim_of, cover_end}
 use Rattle.nq_model.specs.Server.{Phase, serving, recovering, Server}
 use Rattle.nq_name_cache.specs.Names.{DirList, Names, list_of}
 use Rattle.nq_name_server.specs.Served.{Served, number_of}
+use Rattle.nq_model.specs.World.{Head}
+use Rattle.nq_names_run.specs.declared.event.NameEvent.{NameEvent}
 use Rattle.nq_names_run.specs.Outer.{Outside}
+use Rattle.nq_names_run.specs.Outside.{outside_run}
+use Rattle.nq_names_run.specs.Theorem.{IsNamesSchedule}
 
 -- a host has a whole list of a directory, under a lease that runs by its clock
 pub record IsLive (o : Outside) (host : ℕ) (n : Names) (c : Client) (l : DirList) (lease : Lease) : Type 0 where
@@ -66,3 +70,10 @@ ListsAreKept o =
 pub record Lasts (o : Outside) : Type 0 where
   pub covered : ListsAreCovered o
   pub kept : ListsAreKept o
+
+-- So it is after each schedule with lists of which the theorem speaks.
+abbrev pub EachListLasts : Type 0
+EachListLasts =
+    (most : ℕ) (head : Head) (events : List NameEvent)
+    → IsNamesSchedule most head events
+    → Lasts (outside_run head events)

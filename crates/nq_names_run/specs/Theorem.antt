@@ -1,5 +1,5 @@
 -- What is promised of a world with leased directories.
-use Rattle.std.specs.Prelude.{◌≡◌, ◌≢◌, ◌≤◌, ◌<◌, ◌^◌, ℕ, List, [], ◌∷◌, Option, Some, None, length}
+use Rattle.std.specs.Prelude.{◌≡◌, ◌≢◌, ◌≤◌, ℕ, List, [], ◌∷◌, Option, Some, None, length}
 use Rattle.law_bounds.specs.Within.{AreGiven, IsHeadWithin}
 use Rattle.nq_directory.specs.Prefix.{IsPrefix}
 use Rattle.nq_model.specs.Journal.{Each}
@@ -48,7 +48,6 @@ pub record IsNamesSchedule (most : ℕ) (head : Head) (events : List NameEvent) 
   pub few : length events ≤ most_events
   pub prefixes : Each BringsPrefix events
   pub head_within : IsHeadWithin head
-  pub term : head.term < 2 ^ 32
   pub bounds : KeepsBounds most head (outside_run head events).ran
   pub given : AreGiven head (outside_run head events).ran
   pub skew : IsWithinSkew head.hosts most (outside_run head events).ran
