@@ -78,7 +78,8 @@ for _, field in pairs(f) do
 end
 
 local malformed = ProtoExpert.new("nqnfs.malformed", "The message ends too early, or too late", expert.group.MALFORMED, expert.severity.ERROR)
-nqnfs.experts = { malformed }
+local garbage = ProtoExpert.new("nqnfs.garbage", "The arguments or results are outside their grammar", expert.group.MALFORMED, expert.severity.ERROR)
+nqnfs.experts = { malformed, garbage }
 
 -- Which frames have the calls and replies, by the ports and the number: frames are seen once in order, and then at random.
 local calls, replies = {}, {}
@@ -87,7 +88,8 @@ function nqnfs.init()
     calls, replies = {}, {}
 end
 
--- A reader of XDR (RFC 1014). Each method adds an item to `tree` and gives its value, or raises SHORT.
+-- A reader of XDR (RFC 1014). Each method adds an item to `tree` and gives its value, or raises SHORT. What is read although it is
+-- outside the grammar is noted in `is_garbage`: a server answers such a call GARBAGE_ARGS.
 local SHORT = {}
 local Reader = {}
 Reader.__index = Reader
@@ -113,17 +115,31 @@ function Reader:hyper(field)
     return range:uint64()
 end
 
+-- Notes that what was read is outside the grammar, unless this is so.
+function Reader:wants(is_so)
+    self.is_garbage = self.is_garbage or not is_so
+end
+
 function Reader:opaque()
     local length = self:take(4):uint()
     local range = length > 0 and self:take(length) or nil
-    self:take((4 - length % 4) % 4)
+    local filling = (4 - length % 4) % 4
+    if filling > 0 then
+        self:wants(self:take(filling):uint() == 0)
+    end
     return range
 end
 
+-- A name: 1 to 64 bytes, each from 33 to 126, and none of them a slash.
 function Reader:text(field)
     local range = self:opaque()
+    self:wants(range and range:len() <= 64)
     if range then
         self.tree:add(field, range)
+        for at = 0, range:len() - 1 do
+            local byte = range(at, 1):uint()
+            self:wants(33 <= byte and byte <= 126 and byte ~= 47)
+        end
         return range:string()
     end
     return ""
@@ -140,7 +156,9 @@ end
 
 -- What may be absent: a count of 0 or 1 before it.
 function Reader:optional(title, read)
-    if self:uint(f.present) == 1 then
+    local present = self:uint(f.present)
+    self:wants(present <= 1)
+    if present == 1 then
         self:within(title, read)
         return true
     end
@@ -158,12 +176,13 @@ local function tag(r)
 end
 
 local function want(r)
-    r:uint(f.mode)
+    local mode = r:uint(f.mode)
+    r:wants(mode == 1 or mode == 2)
     r:uint(f.term)
 end
 
 local function grant(r)
-    r:uint(f.mode)
+    r:wants(r:uint(f.mode) <= 2)
     r:uint(f.term)
     r:within("Tag", tag)
     r:within("Tag of the row's first grant", tag)
@@ -178,6 +197,7 @@ end
 
 local function body(r)
     local range = r:opaque()
+    r:wants(range and range:len() == 4096)
     if range then
         r.tree:add(f.body, range)
         if range:len() >= 4 then
@@ -207,9 +227,9 @@ local arguments = {
     [6] = function(r)
         r:hyper(f.seq)
         local file, block = r:uint(f.file), r:uint(f.block)
-        r:hyper(f.first)
-        r:hyper(f.last)
+        local first, last = r:hyper(f.first), r:hyper(f.last)
         local pushes = r:optional("Push", push)
+        r:wants(pushes or first == last)
         return (pushes and "push of " or "") .. "file " .. file .. " block " .. block .. " value " .. body(r)
     end,
     [7] = function(r)
@@ -388,6 +408,9 @@ function nqnfs.dissector(buffer, pinfo, root)
     if not ok or r.at ~= buffer:len() then
         pinfo.cols.info = "malformed message"
         tree:add_proto_expert_info(malformed)
+    elseif r.is_garbage then
+        pinfo.cols.info = said .. " (outside the grammar)"
+        tree:add_proto_expert_info(garbage)
     end
     return buffer:len()
 end

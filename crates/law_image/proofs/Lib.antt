@@ -10,3 +10,4 @@ pub mod Marks
 pub mod Whole
 pub mod Opening
 pub mod Fitting
+pub mod Closed

@@ -1,6 +1,6 @@
 -- A boot: it recovers, or it serves. Below, `told` is what the keeper told of its content before a call and `tells` is what it
 -- tells after it.
-use Rattle.std.specs.Prelude.{◌≡◌, ◌⊎◌, ◌≤◌, ◌<◌, ◌==◌, ℕ, ◌+◌, Option, Some, None, Result, Ok, Err, nat_le, if◌then◌else◌}
+use Rattle.std.specs.Prelude.{◌≡◌, ◌⊎◌, ◌≤◌, ◌<◌, ◌==◌, ℕ, ◌+◌, Option, Some, Result, Ok, Err, nat_le, if◌then◌else◌}
 use Rattle.std.specs.Option.{ForSome}
 use Rattle.nq_base.specs.declared.Heads.{Heads}
 use Rattle.nq_boot.specs.Recovery.{Recovery}
@@ -75,14 +75,6 @@ Finishes r time (Finish.Memory same) told tells before now = (r.until ≤ time) 
 -- the kept state after the end of a recovery was tried at a time: it is as before where the recovery has to wait
 abbrev pub ended_at : Recovery → (time : ℕ) → Kept → Kept
 ended_at r time kept = if nat_le r.until time then opened_by kept r.longest else kept
-
--- a recovery ends, or its owner keeps it: it has to wait exactly until its time
-abbrev pub Ends : Recovery → (time : ℕ) → Result (Option ℕ) KeepFault → (told tells : Option Kept) → (before now : ℕ) → Type 0
-Ends r time (Ok (Some serving)) told tells before now =
-    (r.until ≤ time) × (serving ≡ r.boot) × ForSome told (λ kept. tells ≡ Some (opened_by kept r.longest)) × (now ≡ before)
-Ends r time (Ok None) told tells before now = (time < r.until) × (tells ≡ told) × (now ≡ before)
-Ends r time (Err KeepFault.Memory) told tells before now = (r.until ≤ time) × (tells ≡ told) × (now ≡ before)
-Ends r time (Err KeepFault.Failed) told tells before now = (r.until ≤ time) × StaysOrEnds told tells × Rose before now
 
 -- a boot that recovers has this longest term
 abbrev pub IsOfTerm : (longest : ℕ) → Started → Type 0

@@ -2,7 +2,7 @@
 
 ghost use Rattle.std.specs.Prelude.{◌≡◌, ◌<◌, ◌≤◌, ◌^◌, ℕ, IfOk};
 ghost use Rattle.std.specs.Option.{ForSome};
-ghost use Rattle.nq_boot.specs.Booting.{Opens, Starts, Finishes, Ends, LeavesThen, IsOfTerm, ended_at, heads_after_boot, last_boot, started_of, opened_by, start_fault};
+ghost use Rattle.nq_boot.specs.Booting.{Opens, Starts, Finishes, LeavesThen, IsOfTerm, ended_at, heads_after_boot, last_boot, started_of, opened_by, start_fault};
 ghost use Rattle.nq_boot.specs.Recovery.{IsTerm};
 ghost use Rattle.nq_keeper.specs.Keeping.{Commits, LeavesTwo};
 ghost use Rattle.nq_model.specs.Change.{AreHeadsWithin, Fits, IsChangeWithin, change_of_heads, heads_of};
@@ -145,7 +145,7 @@ impl Recovering {
     pub fn finish<K: Keeper>(self, keeper: &mut K, now: Ticks) -> Finish
         ensures finishes { Finishes self now result (K.content keeper.old) (K.content keeper.new) (K.faults keeper.old) (K.faults keeper.new) }
         ensures follows { K.follows keeper.old keeper.new }
-        ensures leaves { LeavesThen (λ kept. opened_by kept self.longest) (K.content keeper.old) (K.leaves keeper.old keeper.new) }
+        ensures leaves { LeavesThen (ended_at self now) (K.content keeper.old) (K.leaves keeper.old keeper.new) }
     {
         if now < self.until() {
             keeper.pause();
@@ -156,21 +156,6 @@ impl Recovering {
             Err(KeepFault::Failed) => Finish::Fault(self),
             Err(KeepFault::Memory) => Finish::Memory(self),
         }
-    }
-
-    /// Ends the recovery as [`finish`](Recovering::finish) does, for an owner that keeps it where it goes on; None where it
-    /// has to wait.
-    pub fn end<K: Keeper>(&self, keeper: &mut K, now: Ticks) -> Result<Option<Serving>, KeepFault>
-        ensures ends { Ends self.now now result (K.content keeper.old) (K.content keeper.new) (K.faults keeper.old) (K.faults keeper.new) }
-        ensures follows { K.follows keeper.old keeper.new }
-        ensures leaves { LeavesThen (ended_at self.now now) (K.content keeper.old) (K.leaves keeper.old keeper.new) }
-    {
-        if now < self.until() {
-            keeper.pause();
-            return Ok(None);
-        }
-        open(keeper, self.longest())?;
-        Ok(Some(Serving::new(self.boot())))
     }
 }
 

@@ -1,4 +1,6 @@
 -- The text of a page.
+use Rattle.nq_chart.specs.declared.parts.Part.{Part}
+use Rattle.std.specs.Fmt.{decimal}
 use Rattle.std.specs.Prelude.{◌≡◌, ℕ, List, ◌++◌, ◌∷◌, [], codes, ◌==◌, if◌then◌else◌}
 
 -- what stood there before stands in front, and more may stand behind it
@@ -14,3 +16,8 @@ escaped_byte byte =
     else (if byte == 62 then codes "&gt;"
     else (if byte == 34 then codes "&quot;"
     else byte ∷ [])))
+
+-- a part of a text as it is written
+abbrev pub spelled : Part → List ℕ
+spelled (Part.Text text) = text.now
+spelled (Part.Number number) = decimal number

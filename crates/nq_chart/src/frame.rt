@@ -7,8 +7,9 @@ use crate::chart::Chart;
 use crate::columns::edge;
 use crate::layout::Layout;
 use crate::legend::{ENTRIES, Entry, Place, SAMPLE, Sample};
+use crate::parts::{Part, put_all, put_within};
 use crate::style::{CLOCK, HEADS, STYLE};
-use crate::text::{escape, put};
+use crate::text::put;
 use std::alloc::Global;
 
 /// Begins the page.
@@ -22,24 +23,35 @@ pub(crate) fn open(
 {
     let width = layout.posts.width;
     let height = layout.steps.end.saturating_add(16);
-    let mark = format!(in alloc;
-        "<svg xmlns=\"http://www.w3.org/2000/svg\" width=\"{width}\" height=\"{height}\" viewBox=\"0 0 {width} {height}\" role=\"img\">\n"
+    put_all(
+        alloc,
+        page,
+        &[
+            Part::Text("<svg xmlns=\"http://www.w3.org/2000/svg\" width=\""),
+            Part::Number(width),
+            Part::Text("\" height=\""),
+            Part::Number(height),
+            Part::Text("\" viewBox=\"0 0 "),
+            Part::Number(width),
+            Part::Text(" "),
+            Part::Number(height),
+            Part::Text("\" role=\"img\">\n"),
+            Part::Text(STYLE),
+            Part::Text(HEADS),
+        ],
     )?;
-    put(page, mark.as_str())?;
-    put(page, STYLE)?;
-    put(page, HEADS)?;
-    titles(page, chart)
+    titles(alloc, page, chart)
 }
 
 /// The title, for those who see the page and for those who hear it.
-fn titles(page: &mut Vec<u8>, chart: &Chart) -> Result<(), NoMemory>
+fn titles(alloc: Global, page: &mut Vec<u8>, chart: &Chart) -> Result<(), NoMemory>
     ensures { Extends page.old.items page.new.items }
 {
-    put(page, "\n<title>")?;
-    escape(page, chart.title.as_str())?;
-    put(page, "</title>\n<text class=\"h\" x=\"8\" y=\"22\">")?;
-    escape(page, chart.title.as_str())?;
-    put(page, "</text>\n")
+    let title = chart.title.as_str();
+    let heard = Part::Text("\n<title>");
+    put_within(alloc, page, &[heard], title, "</title>\n")?;
+    let seen = Part::Text("<text class=\"h\" x=\"8\" y=\"22\">");
+    put_within(alloc, page, &[seen], title, "</text>\n")
 }
 
 /// The legend.
@@ -63,22 +75,59 @@ fn legend_entry(
 ) -> Result<(), NoMemory>
     ensures { Extends page.old.items page.new.items }
 {
-    let Place { x, y } = place;
-    let name = entry.name;
-    let beyond = x.saturating_add(SAMPLE);
-    let text = format!(in alloc; "<text x=\"{beyond}\" y=\"{y}\">{name}</text>\n")?;
-    let upper = y.saturating_sub(10);
-    let middle = y.saturating_sub(4);
-    let sample = match entry.sample {
-        Sample::Bar(class) => format!(in alloc;
-            "<rect class=\"{class}\" x=\"{x}\" y=\"{upper}\" width=\"26\" height=\"12\"/>"
-        )?,
-        Sample::Arrow(class) => format!(in alloc;
-            "<path class=\"{class}\" d=\"M{x} {middle}h26\"/>"
-        )?,
-    };
-    put(page, sample.as_str())?;
-    put(page, text.as_str())
+    put_sample(alloc, page, entry.sample, place)?;
+    put_all(
+        alloc,
+        page,
+        &[
+            Part::Text("<text x=\""),
+            Part::Number(place.x.saturating_add(SAMPLE)),
+            Part::Text("\" y=\""),
+            Part::Number(place.y),
+            Part::Text("\">"),
+            Part::Text(entry.name),
+            Part::Text("</text>\n"),
+        ],
+    )
+}
+
+/// A sample of a bar or an arrow.
+fn put_sample(
+    alloc: Global,
+    page: &mut Vec<u8>,
+    sample: Sample,
+    place: Place,
+) -> Result<(), NoMemory>
+    ensures { Extends page.old.items page.new.items }
+{
+    match sample {
+        Sample::Bar(class) => put_all(
+            alloc,
+            page,
+            &[
+                Part::Text("<rect class=\""),
+                Part::Text(class),
+                Part::Text("\" x=\""),
+                Part::Number(place.x),
+                Part::Text("\" y=\""),
+                Part::Number(place.y.saturating_sub(10)),
+                Part::Text("\" width=\"26\" height=\"12\"/>"),
+            ],
+        ),
+        Sample::Arrow(class) => put_all(
+            alloc,
+            page,
+            &[
+                Part::Text("<path class=\""),
+                Part::Text(class),
+                Part::Text("\" d=\"M"),
+                Part::Number(place.x),
+                Part::Text(" "),
+                Part::Number(place.y.saturating_sub(4)),
+                Part::Text("h26\"/>"),
+            ],
+        ),
+    }
 }
 
 /// The names and lines of the parties.
@@ -109,21 +158,31 @@ fn party(
     let (Some(column), Some(post)) = (chart.columns.get(place), layout.posts.get(place)) else {
         return Ok(());
     };
-    let x = post.x;
-    let clock = clock_at(place);
     let name = column.name.as_str();
     let top = layout.legend.end;
-    let end = layout.steps.end;
     let above = top.saturating_sub(10);
-    let line = format!(in alloc;
-        "<path class=\"v\" d=\"M{x} {top}V{end}\"/><text class=\"p\" x=\"{x}\" y=\"{above}\">"
-    )?;
-    let watch = format!(in alloc; "</text><text class=\"d e\" x=\"{clock}\" y=\"{above}\">")?;
-    put(page, line.as_str())?;
-    escape(page, name)?;
-    put(page, watch.as_str())?;
-    escape(page, name)?;
-    put(page, "</text>\n")
+    let line = [
+        Part::Text("<path class=\"v\" d=\"M"),
+        Part::Number(post.x),
+        Part::Text(" "),
+        Part::Number(top),
+        Part::Text("V"),
+        Part::Number(layout.steps.end),
+        Part::Text("\"/><text class=\"p\" x=\""),
+        Part::Number(post.x),
+        Part::Text("\" y=\""),
+        Part::Number(above),
+        Part::Text("\">"),
+    ];
+    put_within(alloc, page, &line, name, "</text>")?;
+    let watch = [
+        Part::Text("<text class=\"d e\" x=\""),
+        Part::Number(clock_at(place)),
+        Part::Text("\" y=\""),
+        Part::Number(above),
+        Part::Text("\">"),
+    ];
+    put_within(alloc, page, &watch, name, "</text>\n")
 }
 
 /// Where the clock of a party ends at the edge, in pixels.

@@ -7,9 +7,9 @@ use crate::chart::{Chart, Note, Row, Side, Sign};
 use crate::columns::Post;
 use crate::frame::clock_at;
 use crate::layout::Layout;
+use crate::parts::{Part, put_all, put_within};
 use crate::rows::Step;
 use crate::style::LINE;
-use crate::text::{escape, put};
 use std::alloc::Global;
 
 /// The class of a note.
@@ -65,14 +65,16 @@ fn name(
 ) -> Result<(), NoMemory>
     ensures { Extends page.old.items page.new.items }
 {
-    let top = step.top;
-    let y = step.arrive.saturating_add(12);
-    let mark = format!(in alloc;
-        "<path class=\"r\" d=\"M0 {top}H{width}\"/><text class=\"d\" x=\"8\" y=\"{y}\">"
-    )?;
-    put(page, mark.as_str())?;
-    escape(page, row.name.as_str())?;
-    put(page, "</text>\n")
+    let mark = [
+        Part::Text("<path class=\"r\" d=\"M0 "),
+        Part::Number(step.top),
+        Part::Text("H"),
+        Part::Number(width),
+        Part::Text("\"/><text class=\"d\" x=\"8\" y=\""),
+        Part::Number(step.arrive.saturating_add(12)),
+        Part::Text("\">"),
+    ];
+    put_within(alloc, page, &mark, row.name.as_str(), "</text>\n")
 }
 
 /// What the clocks show.
@@ -97,10 +99,16 @@ fn clock(
 ) -> Result<(), NoMemory>
     ensures { Extends page.old.items page.new.items }
 {
-    let x = clock_at(place);
-    let y = step.arrive.saturating_add(12);
-    let text = format!(in alloc; "<text class=\"d e\" x=\"{x}\" y=\"{y}\">{time}</text>")?;
-    put(page, text.as_str())
+    let parts = [
+        Part::Text("<text class=\"d e\" x=\""),
+        Part::Number(clock_at(place)),
+        Part::Text("\" y=\""),
+        Part::Number(step.arrive.saturating_add(12)),
+        Part::Text("\">"),
+        Part::Number(time),
+        Part::Text("</text>"),
+    ];
+    put_all(alloc, page, &parts)
 }
 
 /// The notes of all moments, each beside the party that acts.
@@ -130,10 +138,16 @@ fn dot(alloc: Global, page: &mut Vec<u8>, row: &Row, post: Post, step: Step) -> 
         Some(note) => class(note.sign),
         None => "d",
     };
-    let x = post.x;
-    let y = step.arrive.saturating_add(8);
-    let mark = format!(in alloc; "<circle class=\"{class}\" cx=\"{x}\" cy=\"{y}\" r=\"4\"/>")?;
-    put(page, mark.as_str())
+    let mark = [
+        Part::Text("<circle class=\""),
+        Part::Text(class),
+        Part::Text("\" cx=\""),
+        Part::Number(post.x),
+        Part::Text("\" cy=\""),
+        Part::Number(step.arrive.saturating_add(8)),
+        Part::Text("\" r=\"4\"/>"),
+    ];
+    put_all(alloc, page, &mark)
 }
 
 /// The notes on a side, one below the other.
@@ -161,19 +175,19 @@ fn side_notes(
 fn note(alloc: Global, page: &mut Vec<u8>, shown: &Note, post: Post, y: u64) -> Result<(), NoMemory>
     ensures { Extends page.old.items page.new.items }
 {
-    let class = class(shown.sign);
     let from = post.text_from(shown.side);
-    let mark = match shown.side {
-        Side::Left => {
-            let x = post.x.saturating_sub(from);
-            format!(in alloc; "<text class=\"{class} e\" x=\"{x}\" y=\"{y}\">")?
-        }
-        Side::Right => {
-            let x = post.x.saturating_add(from);
-            format!(in alloc; "<text class=\"{class}\" x=\"{x}\" y=\"{y}\">")?
-        }
+    let (ending, x) = match shown.side {
+        Side::Left => (" e\" x=\"", post.x.saturating_sub(from)),
+        Side::Right => ("\" x=\"", post.x.saturating_add(from)),
     };
-    put(page, mark.as_str())?;
-    escape(page, shown.text.as_str())?;
-    put(page, "</text>\n")
+    let mark = [
+        Part::Text("<text class=\""),
+        Part::Text(class(shown.sign)),
+        Part::Text(ending),
+        Part::Number(x),
+        Part::Text("\" y=\""),
+        Part::Number(y),
+        Part::Text("\">"),
+    ];
+    put_within(alloc, page, &mark, shown.text.as_str(), "</text>\n")
 }

@@ -6,8 +6,8 @@ use crate::NoMemory;
 use crate::chart::{Bar, Chart, Packet, Side, Tint};
 use crate::columns::Post;
 use crate::layout::Layout;
+use crate::parts::{Part, put_within};
 use crate::style::{BAR, LANE};
-use crate::text::{escape, put};
 use std::alloc::Global;
 
 /// How long the arrow of a lost packet is, in pixels.
@@ -85,12 +85,20 @@ fn arrow(
 ) -> Result<(), NoMemory>
     ensures { Extends page.old.items page.new.items }
 {
-    let (x, y) = from;
-    let (end, below) = to;
-    let mark = format!(in alloc; "<path class=\"{class}\" d=\"M{x} {y}L{end} {below}\"><title>")?;
-    put(page, mark.as_str())?;
-    escape(page, text)?;
-    put(page, "</title></path>\n")
+    let mark = [
+        Part::Text("<path class=\""),
+        Part::Text(class),
+        Part::Text("\" d=\"M"),
+        Part::Number(from.0),
+        Part::Text(" "),
+        Part::Number(from.1),
+        Part::Text("L"),
+        Part::Number(to.0),
+        Part::Text(" "),
+        Part::Number(to.1),
+        Part::Text("\"><title>"),
+    ];
+    put_within(alloc, page, &mark, text, "</title></path>\n")
 }
 
 /// The arrow of a lost packet.
@@ -163,13 +171,20 @@ fn bar(
     };
     let y = first.arrive;
     let high = last.send.saturating_sub(y);
-    let class = class(shown.tint);
-    let mark = format!(in alloc;
-        "<rect class=\"{class}\" x=\"{x}\" y=\"{y}\" width=\"{BAR}\" height=\"{high}\" rx=\"2\"><title>"
-    )?;
-    put(page, mark.as_str())?;
-    escape(page, shown.text.as_str())?;
-    put(page, "</title></rect>\n")?;
+    let mark = [
+        Part::Text("<rect class=\""),
+        Part::Text(class(shown.tint)),
+        Part::Text("\" x=\""),
+        Part::Number(x),
+        Part::Text("\" y=\""),
+        Part::Number(y),
+        Part::Text("\" width=\""),
+        Part::Number(BAR),
+        Part::Text("\" height=\""),
+        Part::Number(high),
+        Part::Text("\" rx=\"2\"><title>"),
+    ];
+    put_within(alloc, page, &mark, shown.text.as_str(), "</title></rect>\n")?;
     letters(alloc, page, shown, x, y, high)
 }
 
@@ -190,12 +205,12 @@ fn letters(
     if long > high {
         return Ok(());
     }
-    let left = x.saturating_add(3);
-    let top = y.saturating_add(3);
-    let mark = format!(in alloc;
-        "<text class=\"b\" transform=\"translate({left} {top})rotate(90)\">"
-    )?;
-    put(page, mark.as_str())?;
-    escape(page, shown.text.as_str())?;
-    put(page, "</text>\n")
+    let mark = [
+        Part::Text("<text class=\"b\" transform=\"translate("),
+        Part::Number(x.saturating_add(3)),
+        Part::Text(" "),
+        Part::Number(y.saturating_add(3)),
+        Part::Text(")rotate(90)\">"),
+    ];
+    put_within(alloc, page, &mark, shown.text.as_str(), "</text>\n")
 }

@@ -1,14 +1,20 @@
 //! Text of a page.
 
-ghost use Rattle.std.specs.Prelude.{◌≡◌, ◌++◌, OnOk};
+ghost use Rattle.std.specs.Prelude.{◌≡◌, ◌++◌, OnErr, OnOk};
 ghost use Rattle.std.specs.List.{flat_map};
 ghost use Rattle.nq_chart.specs.Page.{Extends, escaped_byte};
 
 use crate::NoMemory;
 
 /// Appends text as it stands.
-pub(crate) fn put(page: &mut Vec<u8>, text: &str) -> Result<(), NoMemory>
-    ensures { Extends page.old.items page.new.items }
+///
+/// # Errors
+///
+/// Only want of memory. Then nothing was appended.
+pub fn put(page: &mut Vec<u8>, text: &str) -> Result<(), NoMemory>
+    ensures written { OnOk result (page.new.items ≡ page.old.items ++ text.now) }
+    ensures refused { OnErr result (page.new.items ≡ page.old.items) }
+    ensures extends { Extends page.old.items page.new.items }
 {
     page.extend_from_slice(text.as_bytes())?;
     Ok(())

@@ -1,5 +1,5 @@
 -- The laws of a disk, of one in memory.
-use Rattle.std.proofs.Common.{◌≡◌, ◌⊎◌, ℕ, ◌+◌, ◌-◌, ◌<◌, ◌≤◌, List, [], ◌∷◌, ◌++◌, length, drop, Option, Some, refl, sym, ap, subst, ◌∙◌, inl, inr, ⊎_elim, arith, length-append, append_assoc}
+use Rattle.std.proofs.Common.{◌≡◌, ◌⊎◌, ℕ, ◌+◌, ◌-◌, ◌<◌, ◌≤◌, List, [], ◌∷◌, ◌++◌, length, drop, Option, Some, None, refl, sym, ap, subst, ◌∙◌, inl, inr, ⊎_elim, arith, length-append, append_assoc}
 use Rattle.std.proofs.lemmas.Bool.{cases_lt}
 use Rattle.std.proofs.lemmas.List.{drop_at, drop-drop}
 use Rattle.nq_disk.specs.BytesLaws.{torn-same, torn-written}
@@ -15,6 +15,10 @@ goes-on-further first second third one two = record {
   same = two.same ∙ one.same;
   rises = omega (arith, one.rises, two.rises);
 }
+
+-- a disk in memory tells always
+pub never-silent : (first last : StoredDisk) → GoesOn first last → Some (reads first) ≡ None → Some (reads last) ≡ None
+never-silent first last goes none = cc
 
 -- the bytes as they read are an image
 pub reads-image : (first : List ℕ) (events : List Event) → Image first events (bytes_of first events)

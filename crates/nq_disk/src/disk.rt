@@ -1,7 +1,8 @@
 //! The trait of a disk.
 
-ghost use Rattle.std.specs.Prelude.{◌≡◌, ◌⊎◌, ◌≤◌, ℕ, List, Option, Some, length, drop, IfOk, OnOk};
+ghost use Rattle.std.specs.Prelude.{◌≡◌, ◌⊎◌, ◌≤◌, ℕ, List, Option, Some, None, length, drop, IfOk, OnOk};
 ghost use Rattle.std.specs.Option.{ForSome};
+ghost use Rattle.nq_disk.specs.Bytes.{AreBytes};
 ghost use Rattle.nq_disk.specs.Calling.{Counts, LeavesNoMore, LeavesTorn, ReadsFront, IsAllThatIsLeft, Writes};
 
 /// Why a disk did not do what it was asked.
@@ -29,9 +30,10 @@ pub trait Disk {
     /// The bytes that a stop at some moment between these two may leave, within a call or between two calls.
     ghost leaves: { Self → Self → List ℕ → Type 0 };
 
-    /// How many bytes it has.
+    /// How many bytes it has. What it tells are bytes.
     fn size(&mut self) -> Result<u64, DiskFault>
         ensures told { ForSome (told self.old) (λ disk. IfOk result (λ size. size ≡ length disk)) }
+        ensures bytes { OnOk result (ForSome (told self.old) AreBytes) }
         ensures same { told self.new ≡ told self.old }
         ensures cause { Counts result (faults self.old) (faults self.new) }
         ensures follows { follows self.old self.new }
@@ -71,6 +73,9 @@ pub trait Disk {
 
     /// The count of faults never falls.
     ghost rises: { (first last : Self) → follows first last → faults first ≤ faults last };
+
+    /// A disk that tells nothing goes on telling nothing.
+    ghost silent: { (first last : Self) → follows first last → told first ≡ None → told last ≡ None };
 
     /// A disk as it reads may be left.
     ghost told_may_stay: { (disk : Self) (bytes : List ℕ) → told disk ≡ Some bytes → may_leave disk bytes };

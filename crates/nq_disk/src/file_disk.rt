@@ -201,6 +201,8 @@ impl Disk for FileDisk {
 
     ghost rises = { λ first last goes. goes };
 
+    ghost silent = { λ _ _ _ none. none };
+
     ghost told_may_stay = { λ _ _ _. tt };
 
     ghost leaves_now = { λ _ _ _. tt };

@@ -4,10 +4,10 @@ ghost use Rattle.std.specs.Prelude.{◌≡◌, ◌+◌, ◌-◌, ◌<◌, ◌≤
 ghost use Rattle.std.specs.List.{list_any};
 ghost use Rattle.std.specs.Option.{ForSome};
 ghost use Rattle.nq_io.specs.Faults.{Rose};
-ghost use Rattle.nq_disk.specs.Bytes.{padded, written};
+ghost use Rattle.nq_disk.specs.Bytes.{AreBytes, padded, written};
 ghost use Rattle.nq_disk.specs.Calling.{Counts, LeavesNoMore, LeavesTorn, ReadsFront, IsAllThatIsLeft, Writes};
 ghost use Rattle.nq_disk.specs.MemDisk.{GoesOn, Image, Left, after_call, after_fault, after_reading, after_refusal, after_syncing, after_writing, is_refused, is_stopped, passes_room, reads};
-ghost use Rattle.nq_disk.specs.MemLaws.{goes-on-itself, goes-on-further, reads-may-stay, left-now, left-ends, left-parts, left-joins};
+ghost use Rattle.nq_disk.specs.MemLaws.{goes-on-itself, goes-on-further, never-silent, reads-may-stay, left-now, left-ends, left-parts, left-joins};
 
 use crate::copying::copy_in;
 use crate::tape::Tape;
@@ -74,6 +74,14 @@ fn write_over(disk: &mut Vec<u8>, place: usize, bytes: &[u8])
     copy_in(disk, place, bytes);
 }
 
+/// How many bytes these are.
+fn count_of(bytes: &[u8]) -> u64
+    ensures size { result ≡ length bytes.now }
+    ensures bytes { AreBytes bytes.now }
+{
+    bytes.len() as u64
+}
+
 /// Whether a call's number is at the stop, or past it.
 fn is_stopped(made: u32, stop: Option<u32>) -> bool
     ensures { result ≡ is_stopped made stop }
@@ -128,6 +136,14 @@ impl MemDisk {
         ensures { result.now ≡ reads self.now }
     {
         &self.bytes
+    }
+
+    /// How many bytes it has.
+    fn len(&self) -> u64
+        ensures size { result ≡ length (reads self.now) }
+        ensures bytes { AreBytes (reads self.now) }
+    {
+        count_of(self.bytes())
     }
 
     /// How many calls were made, those that failed included. The count stands still at `u32::MAX`.
@@ -240,6 +256,8 @@ impl Disk for MemDisk {
 
     ghost rises = { λ first last goes. goes.rises };
 
+    ghost silent = { never-silent };
+
     ghost told_may_stay = { reads-may-stay };
 
     ghost leaves_now = { left-now };
@@ -253,6 +271,7 @@ impl Disk for MemDisk {
     fn size(&mut self) -> Result<u64, DiskFault>
         // As of any disk.
         ensures told { ForSome (Some (reads self.old)) (λ disk. IfOk result (λ size. size ≡ length disk)) }
+        ensures bytes { OnOk result (ForSome (Some (reads self.old)) AreBytes) }
         ensures same { Some (reads self.new) ≡ Some (reads self.old) }
         ensures cause { Counts result self.old.faults self.new.faults }
         ensures follows { GoesOn self.old self.new }
@@ -266,7 +285,7 @@ impl Disk for MemDisk {
             return Err(self.fail());
         }
         self.count_call();
-        Ok(self.bytes.len() as u64)
+        Ok(self.len())
     }
 
     fn read(&mut self, place: u64, into: &mut [u8]) -> Result<usize, DiskFault>

@@ -1,8 +1,8 @@
 -- Why serving ends as it does.
-use Rattle.std.proofs.Common.{◌≡◌, ◌∙◌, ◌⊎◌, ◌+◌, ◌*◌, ◌<◌, ◌≤◌, ℕ, zero, suc, List, Result, Ok, Err, Option, Some, inl, inr, refl, sym, ap, subst, arith}
+use Rattle.std.proofs.Common.{◌≡◌, ◌∙◌, ◌+◌, ◌*◌, ◌<◌, ◌≤◌, ℕ, zero, suc, List, Result, Ok, Err, Option, Some, inl, inr, refl, sym, ap, subst, arith}
 use Rattle.nq_ending.specs.declared.Ending.{Ending}
 use Rattle.nq_ending.specs.declared.Halt.{Halt}
-use Rattle.nq_hosts.specs.Serving.{Between, EndsBy, Goes, GoesOn, HaltsBy, PrintsTurns, RanBooted, RanNone, Runs, StopsEarly, StopsTurn, Tells, TellsTurns, Turns, between, turns_line}
+use Rattle.nq_hosts.specs.Serving.{Between, EndsBy, Goes, GoesOn, HaltsBy, RanBooted, Runs, StopsEarly, Tells, TellsTurns, Turns, between, turns_line}
 use Rattle.nq_io.specs.Faults.{Rose}
 use Rattle.nq_model.specs.Kept.{Kept}
 use Rattle.nq_model.specs.Profile.{most_taken_by_server}
@@ -11,7 +11,6 @@ use Rattle.nq_node.specs.Links.{LinkTold}
 use Rattle.nq_node.specs.ServerTurn.{TurnKeep, TurnLink}
 use Rattle.nq_node.specs.declared.Turn.{Turn}
 use Rattle.nq_node.proofs.ServerCounts.{turn_few, turn_keep, turn_link, turn_spent}
-use Rattle.nq_server.specs.Holding.{Holding}
 
 -- ---- telling
 

@@ -1,7 +1,8 @@
 //! Serving for a number of turns.
 
 ghost use Rattle.std.specs.Prelude.{◌≡◌, ◌<◌, ◌≤◌, ◌^◌, Err, IfOk, string_bytes};
-ghost use Rattle.nq_hosts.specs.Serving.{EndsBy, PrintsTurns, Ran, Runs, Serves, Tells, TellsTurns, end_of, halt_of, turns_line};
+ghost use Rattle.nq_hosts.specs.Leaving.{LeavesRunning, LeavesRuns, LeavesServing};
+ghost use Rattle.nq_hosts.specs.Serving.{EndsBy, PrintsTurns, Tells, TellsTurns, end_of, halt_of, turns_line};
 ghost use Rattle.nq_node.specs.Clocks.{clock_told};
 ghost use Rattle.nq_node.specs.Links.{link_told};
 ghost use Rattle.nq_server.specs.Holding.{keeper_in};
@@ -19,7 +20,8 @@ use std::alloc::Global;
 
 /// Boots a server over a keeper at the time of one reading of the clock, takes so many turns of it over a link, and prints
 /// `turns TURNS`. The longest term that the server grants is 5 to 600 ticks. The keeper is handed back, with what the boot and the
-/// turns made of what it keeps.
+/// turns made of what it keeps. What a stop at any moment of the call leaves is what was kept when the keeper was handed in, or what was
+/// kept after the boot and some of the ticks and datagrams of the turns, one after the other; a step that failed may be among them.
 ///
 /// # Errors
 ///
@@ -37,7 +39,7 @@ pub fn serve<K: Keeper, L: Link, C: Clock, S: Sink>(
 ) -> Served<K>
     requires long { 5 ≤ longest }
     requires short { longest ≤ 600 }
-    ensures serves { Tells result.end turns (λ ended. Serves K.content K.faults K.follows longest turns keeper ended result.keeper
+    ensures serves { Tells result.end turns (λ ended. LeavesServing K.content K.faults K.follows K.leaves longest turns keeper ended result.keeper
         (clock_told C.floor C.readings clock.old) (clock_told C.floor C.readings clock.new)
         (link_told L.sent L.waiting L.faults L.receives link.old)
         (link_told L.sent L.waiting L.faults L.receives link.new))
@@ -46,6 +48,7 @@ pub fn serve<K: Keeper, L: Link, C: Clock, S: Sink>(
     ensures cause { EndsBy result.end (K.content keeper) (K.faults keeper) (K.faults result.keeper)
         (L.faults link.old) (L.faults link.new) (S.faults out.old) (S.faults out.new) }
 {
+    keeper.pause();
     let now = clock.now();
     let Ok(line) = turns_text(alloc, turns) else {
         return Served {
@@ -115,7 +118,7 @@ fn boot_and_run<K: Keeper, L: Link, C: Clock>(
     requires long { 5 ≤ longest }
     requires short { longest ≤ 600 }
     requires early { now < 2 ^ 62 }
-    ensures runs { Runs K.content K.faults K.follows longest turns now keeper result.ended result.keeper
+    ensures runs { LeavesRuns K.content K.faults K.follows K.leaves longest turns now keeper result.ended result.keeper
         (clock_told C.floor C.readings clock.old) (clock_told C.floor C.readings clock.new)
         (link_told L.sent L.waiting L.faults L.receives link.old)
         (link_told L.sent L.waiting L.faults L.receives link.new) }
@@ -156,7 +159,7 @@ fn run_server<K: Keeper, L: Link, C: Clock>(
     link: &mut L,
     clock: &mut C,
 ) -> Turned<K>
-    ensures ran { Ran K.content K.faults K.follows turns server result.ended result.keeper
+    ensures ran { LeavesRunning K.content K.faults K.follows K.leaves turns server result.ended result.keeper
         (clock_told C.floor C.readings clock.old) (clock_told C.floor C.readings clock.new)
         (link_told L.sent L.waiting L.faults L.receives link.old)
         (link_told L.sent L.waiting L.faults L.receives link.new) }

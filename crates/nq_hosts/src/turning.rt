@@ -1,6 +1,8 @@
 //! Turns of a server, one after another.
 
-ghost use Rattle.nq_hosts.specs.Serving.{TakesTurn, TakesTurns, between};
+ghost use Rattle.std.specs.Prelude.{◌≡◌};
+ghost use Rattle.nq_hosts.specs.Leaving.{LeavesTaking, LeavesTurns, ended_of};
+ghost use Rattle.nq_hosts.specs.Serving.{between};
 ghost use Rattle.nq_node.specs.Clocks.{clock_told};
 ghost use Rattle.nq_node.specs.Links.{link_told};
 
@@ -23,7 +25,7 @@ pub(crate) fn take_turns<K: Keeper, L: Link, C: Clock>(
     log: &mut Journal,
     turns: u32,
 ) -> Result<(), Halt>
-    ensures turns { TakesTurns K.content K.faults turns result
+    ensures turns { LeavesTurns K.content K.faults K.follows K.leaves turns result
         (between server.old log.old next.old (clock_told C.floor C.readings clock.old)
         (link_told L.sent L.waiting L.faults L.receives link.old))
         (between server.new log.new next.new (clock_told C.floor C.readings clock.new)
@@ -48,14 +50,21 @@ fn take_turn<K: Keeper, L: Link, C: Clock>(
     next: &mut u64,
     log: &mut Journal,
 ) -> Result<(), Halt>
-    ensures turn { TakesTurn K.content K.faults result
+    ensures turn { LeavesTaking K.content K.faults K.follows K.leaves result
         (between server.old log.old next.old (clock_told C.floor C.readings clock.old)
         (link_told L.sent L.waiting L.faults L.receives link.old))
         (between server.new log.new next.new (clock_told C.floor C.readings clock.new)
         (link_told L.sent L.waiting L.faults L.receives link.new)) }
     ensures follows { K.follows server.old.keeper server.new.keeper }
 {
-    match serve_turn(alloc, server, link, clock, next, log) {
+    ended_by(serve_turn(alloc, server, link, clock, next, log))
+}
+
+/// Whether a turn with this answer stopped, and why.
+fn ended_by(turn: Turn) -> Result<(), Halt>
+    ensures { result ≡ ended_of turn }
+{
+    match turn {
         Turn::Took | Turn::Quiet => Ok(()),
         Turn::Link => Err(Halt::Link),
         Turn::Keep => Err(Halt::Keep),

@@ -1,6 +1,6 @@
 //! A link over UDP.
 
-ghost use Rattle.std.specs.Prelude.{◌≡◌, ◌↔◌, ◌<◌, ◌≤◌, ◌≢◌, nat_lt, None, Some, IsTrue, IfOk, length, if◌then◌else◌};
+ghost use Rattle.std.specs.Prelude.{◌≡◌, ◌↔◌, ◌<◌, ◌≤◌, ◌≢◌, nat_lt, None, Some, IsTrue, IfOk, IfSome, length, if◌then◌else◌};
 ghost use Rattle.nq_base.specs.declared.Party.{Party};
 ghost use Rattle.nq_io.specs.Faults.{Rose, count_up};
 ghost use Rattle.nq_link.specs.Link.{Comes, CountsReceive, CountsSend, Sends};
@@ -24,17 +24,21 @@ const FIRST_HOST_PORT: u16 = 20561;
 /// How many hosts there may be.
 const MOST_HOSTS: u16 = 64;
 
-/// How many milliseconds a receive waits.
+/// For how many milliseconds a receive asks the machine to wait.
 const WAIT: u64 = 5;
 
-/// A party's UDP socket on 127.0.0.1: the server's port is 20560, and that of host h is 20561 + h. It is bound at the first use. A
-/// receive waits at most 5 milliseconds. A datagram from another port or address is taken and counts as nothing. Each error of
-/// the socket is a fault. Contracts see whose link it is and its counts, which stand still at `u64::MAX`.
+/// A party's UDP socket on 127.0.0.1: the server's port is 20560, and that of host h is 20561 + h. It is bound at the first use, or
+/// before it by [`open`](UdpLink::open). Where nothing has come, a receive asks the machine to wait for 5 milliseconds; a machine
+/// counts them in ticks of its own, and one that ticks 250 times a second waits for up to 12. A datagram from another port or
+/// address is taken and counts as nothing. Each error of the socket is a fault. Contracts see whose link it is and its counts,
+/// which stand still at `u64::MAX`.
 #[derive(Drop)]
 pub struct UdpLink<R> {
     net: R,
     me: Party,
+    wait: Option<Duration>,
     socket: Option<UdpSocket>,
+    is_taken: bool,
     faults: u64,
     receives: u64,
 }
@@ -114,13 +118,16 @@ fn party_of(port: u16) -> Option<Party>
     }
 }
 
-/// A socket at the address of a party, which waits a little in each receive.
-fn bound<R: Net>(net: &R, me: Party) -> io::Result<UdpSocket> {
+/// A socket at the address of a party, which waits for so long in each receive, or not at all.
+fn bound<R: Net>(net: &R, me: Party, wait: Option<Duration>) -> io::Result<UdpSocket> {
     let Some(address) = address_of(me) else {
         return Err(io::Error::from(ErrorKind::InvalidInput));
     };
     let socket = UdpSocket::bind(net, address)?;
-    socket.set_read_timeout(Some(Duration::from_millis(WAIT)))?;
+    match wait {
+        Some(wait) => socket.set_read_timeout(Some(wait))?,
+        None => socket.set_nonblocking(true)?,
+    }
     Ok(socket)
 }
 
@@ -140,9 +147,37 @@ impl<R: Net> UdpLink<R> {
         UdpLink {
             net,
             me,
+            wait: Some(Duration::from_millis(WAIT)),
             socket: None,
+            is_taken: false,
             faults: 0,
             receives: 0,
+        }
+    }
+
+    /// A link of this party whose receives do not wait, for somebody who looks after many links in turn. It takes no memory.
+    pub fn without_wait(net: R, me: Party) -> UdpLink<R>
+        ensures { result ≡ record { me = me; faults = 0; receives = 0 } }
+    {
+        UdpLink {
+            net,
+            me,
+            wait: None,
+            socket: None,
+            is_taken: false,
+            faults: 0,
+            receives: 0,
+        }
+    }
+
+    /// The port of this party, where another socket had it when this link tried to bind its own.
+    pub fn taken_port(&self) -> Option<u16>
+        ensures { IfSome result (λ port. port_of self.now.me ≡ Some port) }
+    {
+        if self.is_taken {
+            port_of(self.me)
+        } else {
+            None
         }
     }
 
@@ -163,14 +198,31 @@ impl<R: Net> UdpLink<R> {
 }
 
 impl<R: Net> UdpLink<R> {
+    /// Binds the socket now, so that it keeps what comes before the first use. Where the machine refuses, nothing is counted: the
+    /// first use tries again, and counts its fault.
+    pub fn open(&mut self)
+        ensures { self.new ≡ self.old }
+    {
+        let _tried = self.bind();
+    }
+
     /// Binds the socket, if that was not done yet.
     fn bind(&mut self) -> io::Result<()>
         ensures { self.new ≡ self.old }
     {
-        if self.socket.is_none() {
-            self.socket = Some(bound(&self.net, self.me)?);
+        if self.socket.is_some() {
+            return Ok(());
         }
-        Ok(())
+        match bound(&self.net, self.me, self.wait) {
+            Ok(socket) => {
+                self.socket = Some(socket);
+                Ok(())
+            }
+            Err(error) => {
+                self.is_taken = error.kind() == ErrorKind::AddrInUse;
+                Err(error)
+            }
+        }
     }
 
     /// Sends a datagram, and says how many of its bytes were sent. A party without an address is an error.

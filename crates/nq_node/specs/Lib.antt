@@ -1,4 +1,5 @@
 pub mod ClientTurn
 pub mod Clocks
+pub mod Leaving
 pub mod Links
 pub mod ServerTurn

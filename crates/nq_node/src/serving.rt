@@ -4,7 +4,8 @@ ghost use Rattle.std.specs.Prelude.{◌≡◌, ◌<◌, ◌≤◌, ◌^◌, ◌|
 ghost use Rattle.nq_base.specs.declared.Party.{Party};
 ghost use Rattle.nq_node.specs.Clocks.{clock_told};
 ghost use Rattle.nq_node.specs.Links.{Letter, link_told, most_bytes};
-ghost use Rattle.nq_node.specs.ServerTurn.{GoesOn, Moment, Receives, SendsOut, ServesTurn, Stages, Takes, given_by, goes_on, outcome, taken, tick_due, turn_of};
+ghost use Rattle.nq_node.specs.Leaving.{IsLeftAt, LeavesBehind, LeavesOnly, LeavesReceiving, LeavesStages, LeavesTurn};
+ghost use Rattle.nq_node.specs.ServerTurn.{Moment, SendsOut, Takes, given_by, goes_on, outcome, taken, tick_due, turn_of};
 
 use crate::sending::send_all;
 use crate::turns::{Halt, MOST_BYTES, Turn};
@@ -19,7 +20,8 @@ use std::alloc::Global;
 /// A turn of a server. It reads the clock once. Where the reading is above the server's time, the server takes in one tick to that
 /// time. It asks the link for one receive. The server takes in the datagram that came, cut to 4401 bytes; one that no host sent is
 /// dropped. Then all that came out is sent, in order. `next` is the number of the next datagram that the server makes; it rises by
-/// one for each, and stops at `u64::MAX`.
+/// one for each, and stops at `u64::MAX`. What a stop at any moment of the turn leaves is kept as before it, as after the tick, or as
+/// after the datagram.
 ///
 /// # Errors
 ///
@@ -34,7 +36,7 @@ pub fn serve_turn<K: Keeper, L: Link, C: Clock>(
     next: &mut u64,
     log: &mut Journal,
 ) -> Turn
-    ensures turn { ServesTurn K.content K.faults result next.old next.new
+    ensures turn { LeavesTurn K.content K.faults K.follows K.leaves result next.old next.new
         (clock_told C.floor C.readings clock.old) (clock_told C.floor C.readings clock.new)
         (link_told L.sent L.waiting L.faults L.receives link.old)
         (link_told L.sent L.waiting L.faults L.receives link.new)
@@ -70,7 +72,7 @@ fn serve<K: Keeper, L: Link, C: Clock>(
     out: &mut Outbox,
     log: &mut Journal,
 ) -> Result<bool, Halt>
-    ensures stages { Stages K.content K.faults result (clock_told C.floor C.readings clock.old) (clock_told C.floor C.readings clock.new)
+    ensures stages { LeavesStages K.content K.faults K.follows K.leaves result (clock_told C.floor C.readings clock.old) (clock_told C.floor C.readings clock.new)
         (link_told L.sent L.waiting L.faults L.receives link.old)
         (link_told L.sent L.waiting L.faults L.receives link.new)
         (record { server = server.old; out = out.old; log = log.old })
@@ -93,7 +95,7 @@ fn go_on<K: Keeper, L: Link>(
     out: &mut Outbox,
     log: &mut Journal,
 ) -> Result<bool, Halt>
-    ensures goes { GoesOn K.content K.faults (Ok tt) result ticked
+    ensures goes { LeavesBehind K.content K.faults K.follows K.leaves (Ok tt) result ticked
         (link_told L.sent L.waiting L.faults L.receives link.old)
         (link_told L.sent L.waiting L.faults L.receives link.new)
         (record { server = server.old; out = out.old; log = log.old })
@@ -137,6 +139,9 @@ fn tick_to<K: Keeper>(
         (record { server = server.old; out = out.old; log = log.old })
         (record { server = server.new; out = out.new; log = log.new }) }
     ensures rose { IfOk result (λ ticked. ticked ≡ nat_lt server.old.beside.time reading) }
+    ensures leaves { LeavesOnly K.content K.follows K.leaves server.old.keeper server.new.keeper
+        (IsLeftAt K.content (tick_due server.old.beside.time reading)
+        (record { server = server.old; out = out.old; log = log.old })) }
     ensures follows { K.follows server.old.keeper server.new.keeper }
 {
     if reading <= server.time() {
@@ -155,7 +160,7 @@ fn take_from<K: Keeper, L: Link>(
     out: &mut Outbox,
     log: &mut Journal,
 ) -> Result<bool, Halt>
-    ensures receives { Receives K.content K.faults result
+    ensures receives { LeavesReceiving K.content K.faults K.follows K.leaves result
         (link_told L.sent L.waiting L.faults L.receives link.old)
         (link_told L.sent L.waiting L.faults L.receives link.new)
         (record { server = server.old; out = out.old; log = log.old })
@@ -176,7 +181,7 @@ fn take_through<K: Keeper, L: Link>(
     log: &mut Journal,
 ) -> Result<bool, Halt>
     requires { length buffer.old ≡ most_bytes }
-    ensures receives { Receives K.content K.faults result
+    ensures receives { LeavesReceiving K.content K.faults K.follows K.leaves result
         (link_told L.sent L.waiting L.faults L.receives link.old)
         (link_told L.sent L.waiting L.faults L.receives link.new)
         (record { server = server.old; out = out.old; log = log.old })
@@ -219,6 +224,9 @@ fn take_in<K: Keeper>(
     ensures takes { Takes K.content K.faults (given_by (sender, datagram.now)) result
         (record { server = server.old; out = out.old; log = log.old })
         (record { server = server.new; out = out.new; log = log.new }) }
+    ensures leaves { LeavesOnly K.content K.follows K.leaves server.old.keeper server.new.keeper
+        (IsLeftAt K.content (given_by (sender, datagram.now))
+        (record { server = server.old; out = out.old; log = log.old })) }
     ensures follows { K.follows server.old.keeper server.new.keeper }
 {
     match sender {

@@ -1,4 +1,5 @@
 pub mod Held
+pub mod Reading
 pub mod Finding
 pub mod Placing
 pub mod Ranges

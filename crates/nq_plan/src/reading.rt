@@ -1,17 +1,26 @@
 //! The tables of an image of version 2, from its first bytes and the bytes of its tables.
 
-ghost use Rattle.std.specs.Prelude.{◌≡◌, ◌<◌, ◌≤◌, ◌+◌, ◌*◌, ◌^◌, All, IfOk, length, vec_len};
+ghost use Rattle.std.specs.Prelude.{◌≡◌, ◌<◌, ◌≤◌, ◌+◌, ◌*◌, ◌^◌, ℕ, List, All, IfOk, OnOk, drop, length, slice_index_or, take};
+ghost use Rattle.nq_image.specs.Check.{tested};
+ghost use Rattle.nq_image.specs.Image.{ids_in, image_two, no_marks, rows_in};
+ghost use Rattle.nq_image.specs.Layout.{block_place as place_of_block, are_zeros as all_zeros, piece as piece_at};
+ghost use Rattle.nq_image.specs.Reading.{Reads};
 ghost use Rattle.nq_image.specs.Rows.{blocks_of as blocks_at};
+ghost use Rattle.nq_image.specs.Seen.{seen_rows};
+ghost use Rattle.nq_image.specs.Tables.{tables_blocks, tables_checks, tables_marks};
+ghost use Rattle.nq_image.specs.declared.Version.TheVariants.{Two};
+ghost use Rattle.nq_plan.specs.Reading.{ArePartsOf, HoldsIn, IsMoved, row_from, rows_of};
 
 use crate::block_table::BlockTable;
 use crate::stored_file::StoredFile;
 use crate::tables::Tables;
-use nq_base::{FileId, Heads, HostRow};
+use nq_base::{FileId, Heads};
 use nq_image::{
-    Front, ImageFault, PHYSICAL_BLOCKS, Slot, Version, block_place, check_held, read_hosts,
-    read_ids, read_rows, read_table,
+    Front, ImageFault, PHYSICAL_BLOCKS, Rows, Slot, Version, block_place, check_held, read_hosts,
+    read_ids, read_rows, read_tables,
 };
-use std::alloc::Global;
+use nq_memory::NoMemory;
+use std::alloc::{AllocError, Global};
 
 /// How many hosts there are.
 const HOSTS: usize = 64;
@@ -19,116 +28,85 @@ const HOSTS: usize = 64;
 /// How many bytes the tables of the files have, without the ids.
 const FILE_TABLES: usize = 1_048_576;
 
-fn are_zeros(bytes: &[u8]) -> bool {
+fn are_zeros(bytes: &[u8]) -> bool
+    ensures { result ≡ all_zeros bytes.now }
+{
     bytes.iter().all(|byte| *byte == 0)
 }
 
-/// The rows of the hosts.
-fn read_all_hosts(alloc: Global, head: &[u8]) -> Result<Vec<HostRow>, ImageFault>
-    requires { length head.now ≡ 28672 }
-    ensures { IfOk result (λ hosts. length hosts.items ≡ 64) }
+/// So many bytes from a place on.
+#[tactic(auto, unfolding(nq_image::specs::Layout::piece))]
+fn piece(bytes: &[u8], place: usize, size: usize) -> &[u8]
+    requires { place + size ≤ length bytes.now }
+    ensures bytes { result.now ≡ piece_at place size bytes.now }
+    ensures size { length result.now ≡ size }
 {
-    let hosts = read_hosts(alloc, &head[64..2112], HOSTS, 64)?;
+    &bytes[place..place + size]
+}
+
+/// A mark for each of so many physical blocks: none was given.
+#[tactic(auto, unfolding(nq_image::specs::Image::no_marks))]
+fn fresh_marks(alloc: Global, count: usize) -> Result<Vec<bool>, AllocError>
+    ensures marks { IfOk result (λ marks. marks.items ≡ no_marks count) }
+    ensures size { IfOk result (λ marks. length marks.items ≡ count) }
+{
+    vec![in alloc; false; count]
+}
+
+/// The rows of hosts and files, where the zeros behind them are right too.
+#[tactic(auto, unfolding(nq_image::specs::Image::rows_in))]
+fn read_all_rows(alloc: Global, head: &[u8]) -> Result<Rows, ImageFault>
+    requires { length head.now ≡ 28672 }
+    ensures told { Reads seen_rows result (rows_in Two head.now) }
+    ensures hosts { IfOk result (λ rows. length rows.hosts.items ≡ 64) }
+    ensures all { IfOk result (λ rows. length rows.slots.items ≡ 256) }
+    ensures short { IfOk result (λ rows. All (λ slot. blocks_at slot ≤ 1024) rows.slots.items) }
+{
+    let hosts = read_hosts(alloc, piece(head, 64, 2048), HOSTS, 64)?;
+    let slots = read_rows(alloc, Version::Two, piece(head, 2112, 24576), 256, 2112)?;
+    if !are_zeros(piece(head, 26688, 1984)) {
+        return Err(ImageFault::BadField(26688));
+    }
     if hosts.len() != HOSTS {
         return Err(ImageFault::Memory);
     }
-    Ok(hosts)
+    Ok(Rows { hosts, slots })
 }
 
-/// The rows of the files, where the zeros behind them are right too.
-fn read_slots(alloc: Global, head: &[u8]) -> Result<Vec<Option<Slot>>, ImageFault>
-    requires { length head.now ≡ 28672 }
-    ensures all { IfOk result (λ slots. length slots.items ≡ 256) }
-    ensures short { IfOk result (λ slots. All (λ slot. blocks_at slot ≤ 1024) slots.items) }
+/// A fault whose place is counted from another one on.
+fn moved(fault: ImageFault, start: u64) -> ImageFault
+    ensures { IsMoved start fault result }
 {
-    let slots = read_rows(alloc, Version::Two, &head[2112..26688], 256, 2112)?;
-    if !are_zeros(&head[26688..28672]) {
-        return Err(ImageFault::BadField(26688));
+    match fault {
+        ImageFault::BadField(place) => match start.checked_add(place) {
+            Some(at) => ImageFault::BadField(at),
+            None => ImageFault::Memory,
+        },
+        ImageFault::NotAnImage => ImageFault::NotAnImage,
+        ImageFault::Memory => ImageFault::Memory,
     }
-    Ok(slots)
 }
 
-/// The file of a row with its blocks. Its id stands elsewhere.
-fn read_file(
-    alloc: Global,
-    slot: &Option<Slot>,
-    number: u32,
-    table: &[u8],
-    place: u64,
-    tables: u32,
-    marks: &mut [bool],
-) -> Result<Option<StoredFile>, ImageFault>
-    requires size { length table.now ≡ 4096 }
-    requires short { blocks_at slot.now ≤ 1024 }
-    requires room { place + 4096 < 2 ^ 64 }
-    requires marks { length marks.old ≡ 16641 }
-    requires near { tables ≤ 16384 }
-{
-    let Some(slot) = slot else {
-        return Ok(None);
-    };
-    let blocks = read_table(alloc, table, slot.blocks as usize, place, tables, marks)?;
-    let Some(blocks) = BlockTable::new(blocks) else {
-        return Err(ImageFault::BadField(place));
-    };
-    Ok(Some(StoredFile {
-        id: FileId(0),
-        name: slot.name,
-        rev: slot.rev,
-        slot: number,
-        blocks,
-    }))
-}
-
-/// The files of these rows with their blocks, from their tables, which stand at the front of these bytes.
-fn read_files(
+/// The physical blocks of the files in these rows, row after row, from the bytes of the tables.
+fn read_all_blocks(
     alloc: Global,
     window: &[u8],
     slots: &[Option<Slot>],
     tables: u32,
     marks: &mut [bool],
-) -> Result<Vec<Option<StoredFile>>, ImageFault>
+) -> Result<Vec<u32>, ImageFault>
     requires few { length slots.now ≡ 256 }
     requires short { All (λ slot. blocks_at slot ≤ 1024) slots.now }
     requires marks { length marks.old ≡ 16641 }
     requires near { tables ≤ 16384 }
-    ensures { IfOk result (λ rows. length rows.items ≡ 256) }
+    ensures told { (bytes : List ℕ) → window.now ≡ piece_at (place_of_block tables) 1052672 bytes
+        → Reads (λ blocks. blocks.items) result (tested (tables_checks tables (place_of_block tables) slots.now marks.old bytes) (tables_blocks (place_of_block tables) slots.now bytes)) }
+    ensures marks { OnOk result ((bytes : List ℕ) → window.now ≡ piece_at (place_of_block tables) 1052672 bytes
+        → marks.new ≡ tables_marks (place_of_block tables) slots.now marks.old bytes) }
 {
-    let mut rows = Vec::with_capacity(alloc, slots.len())?;
-    let mut rest = window;
-    let mut number: u32 = 0;
-    for slot in slots {
-        let place = block_place(tables + number);
-        if rest.len() < 4096 {
-            return Err(ImageFault::BadField(place));
-        }
-        let (table, behind) = rest.split_at(4096);
-        let row = read_file(alloc, slot, number, table, place, tables, marks)?;
-        rows.push(row)?;
-        rest = behind;
-        number += 1;
-    }
-    Ok(rows)
-}
-
-/// The file in a row gets its id.
-fn set_id(rows: &mut Vec<Option<StoredFile>>, slot: usize, id: u32)
-    requires { slot < vec_len rows.old }
-    ensures { vec_len rows.new ≡ vec_len rows.old }
-{
-    match &mut rows[slot] {
-        Some(file) => file.set_id(FileId(id)),
-        None => {}
-    }
-}
-
-/// The files of rows get their ids.
-fn set_ids(rows: &mut Vec<Option<StoredFile>>, ids: &[u32])
-    requires { length ids.now ≤ vec_len rows.old }
-    ensures { vec_len rows.new ≡ vec_len rows.old }
-{
-    for (slot, id) in ids.iter().enumerate() {
-        set_id(rows, slot, *id);
+    match read_tables(alloc, window, 0, slots, tables, marks) {
+        Ok(blocks) => Ok(blocks),
+        Err(fault) => Err(moved(fault, block_place(tables))),
     }
 }
 
@@ -137,27 +115,106 @@ fn read_all_ids(
     alloc: Global,
     window: &[u8],
     slots: &[Option<Slot>],
+    tables: u32,
     next: u32,
-    place: u64,
 ) -> Result<Vec<u32>, ImageFault>
     requires all { length slots.now ≡ 256 }
-    requires room { place + 4096 < 2 ^ 64 }
-    ensures { IfOk result (λ ids. length ids.items ≡ 256) }
+    requires near { tables ≤ 16384 }
+    ensures told { (bytes : List ℕ) → window.now ≡ piece_at (place_of_block tables) 1052672 bytes
+        → Reads (λ ids. ids.items) result (ids_in (place_of_block tables + 1048576) next slots.now bytes) }
+    ensures all { IfOk result (λ ids. length ids.items ≡ 256) }
 {
+    let place = block_place(tables + 256);
     if window.len() < FILE_TABLES + 4096 {
         return Err(ImageFault::BadField(place));
     }
-    read_ids(
-        alloc,
-        &window[FILE_TABLES..FILE_TABLES + 4096],
-        slots,
-        next,
-        place,
-    )
+    read_ids(alloc, piece(window, FILE_TABLES, 4096), slots, next, place)
+}
+
+/// How many blocks the file of a row has.
+fn count_of(slot: &Option<Slot>) -> usize
+    ensures { result ≡ blocks_at slot.now }
+{
+    match slot {
+        Some(slot) => slot.blocks as usize,
+        None => 0,
+    }
+}
+
+/// The first of these blocks, so many or as many as there are, and those behind them.
+fn split_blocks(blocks: &[u32], count: usize) -> (&[u32], &[u32])
+    ensures own { result.0.now ≡ take count blocks.now }
+    ensures behind { result.1.now ≡ drop count blocks.now }
+{
+    blocks.split_at(count.min(blocks.len()))
+}
+
+fn first_of(ids: &[u32]) -> u32
+    requires { 1 ≤ length ids.now }
+    ensures { result ≡ slice_index_or ids.now 0 0 }
+{
+    ids[0]
+}
+
+/// The file of a row, with its id and its blocks.
+fn file_from(
+    alloc: Global,
+    number: u32,
+    slot: &Option<Slot>,
+    id: u32,
+    blocks: &[u32],
+) -> Result<Option<StoredFile>, NoMemory>
+    ensures { IfOk result (λ row. row ≡ row_from number slot.now id blocks.now) }
+{
+    let Some(slot) = slot else {
+        return Ok(None);
+    };
+    let own = Vec::from_slice(alloc, blocks)?;
+    let Some(blocks) = BlockTable::new(own) else {
+        return Err(NoMemory::Memory);
+    };
+    Ok(Some(StoredFile {
+        id: FileId(id),
+        name: slot.name,
+        rev: slot.rev,
+        slot: number,
+        blocks,
+    }))
+}
+
+/// The files of these rows, with their ids, and their blocks, which stand one behind another.
+fn files_of(
+    alloc: Global,
+    slots: &[Option<Slot>],
+    ids: &[u32],
+    blocks: &[u32],
+) -> Result<Vec<Option<StoredFile>>, NoMemory>
+    requires few { length slots.now ≡ 256 }
+    requires all { length ids.now ≡ 256 }
+    ensures told { IfOk result (λ rows. rows.items ≡ rows_of 0 slots.now ids.now blocks.now) }
+    ensures all { IfOk result (λ rows. length rows.items ≡ 256) }
+{
+    let mut rows = Vec::new(alloc);
+    let mut rest = blocks;
+    let mut left = ids;
+    let mut number: u32 = 0;
+    for slot in slots {
+        let id = first_of(left);
+        let (own, behind) = split_blocks(rest, count_of(slot));
+        let row = file_from(alloc, number, slot, id, own)?;
+        rows.push(row)?;
+        rest = behind;
+        let (_, others) = left.split_at(1);
+        left = others;
+        number += 1;
+    }
+    Ok(rows)
 }
 
 /// The numbers of the server.
-fn heads_of(front: &Front) -> Heads {
+fn heads_of(front: &Front) -> Heads
+    ensures { result ≡ record { boot = front.now.boot; opened = front.now.opened; longest = front.now.longest; next = front.now.next } }
+{
     Heads {
         boot: front.boot,
         opened: front.opened,
@@ -182,20 +239,19 @@ impl Tables {
     ) -> Result<Tables, ImageFault>
         requires near { front.now.tables ≤ 16384 }
         requires head { length head.now ≡ 28672 }
+        ensures { (bytes : List ℕ) → ArePartsOf bytes front.now head.now window.now size → HoldsIn bytes result (image_two (no_marks 16641) bytes) }
     {
-        let hosts = read_all_hosts(alloc, head)?;
-        let slots = read_slots(alloc, head)?;
-        let mut marks = vec![in alloc; false; PHYSICAL_BLOCKS as usize]?;
-        let mut rows = read_files(alloc, window, &slots, front.tables, &mut marks)?;
-        let place = block_place(front.tables + 256);
-        let ids = read_all_ids(alloc, window, &slots, front.next, place)?;
+        let rows = read_all_rows(alloc, head)?;
+        let mut marks = fresh_marks(alloc, PHYSICAL_BLOCKS as usize)?;
+        let blocks = read_all_blocks(alloc, window, &rows.slots, front.tables, &mut marks)?;
+        let ids = read_all_ids(alloc, window, &rows.slots, front.tables, front.next)?;
         check_held(size, &marks)?;
-        set_ids(&mut rows, &ids);
+        let files = files_of(alloc, &rows.slots, &ids, &blocks)?;
         Ok(Tables {
             heads: heads_of(front),
             tables: front.tables,
-            hosts,
-            rows,
+            hosts: rows.hosts,
+            rows: files,
             marks,
         })
     }

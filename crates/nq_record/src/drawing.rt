@@ -3,12 +3,12 @@
 ghost use Rattle.std.specs.Prelude.{◌≡◌, ◌+◌, ◌≤◌, vec_len, IfOk};
 
 use crate::NoMemory;
-use crate::picture_rows::{Rows, rows_of};
+use crate::picture_rows::{Rows, packet_words, rows_of};
 use crate::record::{Record, Sent};
 use crate::spans::{Kind, Span};
 use crate::text::party_name;
 use nq_base::{Host, Mode, Party};
-use nq_chart::{Bar, Chart, Column, Packet, Side, Tint};
+use nq_chart::{Bar, Chart, Column, Packet, Part, Side, Tint, text_of};
 use std::alloc::Global;
 
 /// How many hosts stand left of the server.
@@ -110,8 +110,7 @@ fn packets(alloc: Global, record: &Record, shown: &Rows) -> Result<Vec<Packet>, 
         let row = shown.row_of(sent.sent);
         let is_lost = sent.arrivals.is_empty() && row.is_some();
         if is_lost || !arrivals.is_empty() {
-            let words = sent.words.as_str();
-            let text = format!(in alloc; "{number}: {words}")?;
+            let text = packet_words(alloc, number as u64, sent, "")?;
             packets.push(Packet {
                 from: place_of(record.hosts, sent.from),
                 to: place_of(record.hosts, sent.to),
@@ -166,17 +165,19 @@ fn bar(alloc: Global, hosts: u32, span: &Span, first: usize, last: usize) -> Res
 fn bar_text(alloc: Global, kind: Kind) -> Result<String, NoMemory> {
     match kind {
         Kind::Recovery => Ok(String::from_str(alloc, "recovery")?),
-        Kind::Lease { file, mode } => {
-            let letter = letter(mode);
-            let file = file.0;
-            Ok(format!(in alloc; "{letter}{file}")?)
-        }
-        Kind::Row { file, host, mode } => {
-            let letter = letter(mode);
-            let file = file.0;
-            let host = host.0;
-            Ok(format!(in alloc; "{letter}{file} h{host}")?)
-        }
+        Kind::Lease { file, mode } => text_of(
+            alloc,
+            &[Part::Text(letter(mode)), Part::Number(file.0 as u64)],
+        ),
+        Kind::Row { file, host, mode } => text_of(
+            alloc,
+            &[
+                Part::Text(letter(mode)),
+                Part::Number(file.0 as u64),
+                Part::Text(" h"),
+                Part::Number(host.0 as u64),
+            ],
+        ),
     }
 }
 

@@ -7,7 +7,7 @@ use crate::NoMemory;
 use crate::record::Noted;
 use crate::text::{mode_word, named};
 use nq_base::{Entry, Said, Spans, Told};
-use nq_chart::Sign;
+use nq_chart::{Part, Sign, text_of};
 use std::alloc::Global;
 
 /// An entry in words.
@@ -64,13 +64,32 @@ fn block_words(alloc: Global, entry: &Entry) -> Result<String, NoMemory> {
             ..
         } => {
             let word = if served.is_some() { "serves" } else { "has" };
-            let file = file.0;
-            let block = block.0;
-            let value = *value;
-            Ok(format!(in alloc; "{word} {file}:{block} = {value}")?)
+            read_words(alloc, word, file.0, block.0, *value)
         }
         _ => stored_words(alloc, entry),
     }
+}
+
+/// A value that is read.
+fn read_words(
+    alloc: Global,
+    word: &str,
+    file: u32,
+    block: u32,
+    value: u32,
+) -> Result<String, NoMemory> {
+    text_of(
+        alloc,
+        &[
+            Part::Text(word),
+            Part::Text(" "),
+            Part::Number(file as u64),
+            Part::Text(":"),
+            Part::Number(block as u64),
+            Part::Text(" = "),
+            Part::Number(value as u64),
+        ],
+    )
 }
 
 /// A write.
@@ -82,7 +101,20 @@ fn written_words(
     value: u32,
     number: u64,
 ) -> Result<String, NoMemory> {
-    Ok(format!(in alloc; "{word} {file}:{block} = {value}, write {number}")?)
+    text_of(
+        alloc,
+        &[
+            Part::Text(word),
+            Part::Text(" "),
+            Part::Number(file as u64),
+            Part::Text(":"),
+            Part::Number(block as u64),
+            Part::Text(" = "),
+            Part::Number(value as u64),
+            Part::Text(", write "),
+            Part::Number(number),
+        ],
+    )
 }
 
 /// A store or a loss.
@@ -115,7 +147,20 @@ fn span_words(
     first: u64,
     last: u64,
 ) -> Result<String, NoMemory> {
-    Ok(format!(in alloc; "{word} {file}:{block}, writes {first}-{last}")?)
+    text_of(
+        alloc,
+        &[
+            Part::Text(word),
+            Part::Text(" "),
+            Part::Number(file as u64),
+            Part::Text(":"),
+            Part::Number(block as u64),
+            Part::Text(", writes "),
+            Part::Number(first),
+            Part::Text("-"),
+            Part::Number(last),
+        ],
+    )
 }
 
 /// A grant, an end in silence, or another length.
@@ -127,24 +172,41 @@ fn file_words(alloc: Global, entry: &Entry) -> Result<String, NoMemory> {
             mode,
             term,
             ..
-        } => {
-            let host = who.host.0;
-            let file = file.0;
-            let mode = mode_word(*mode);
-            let term = *term;
-            Ok(format!(in alloc; "grants host {host} {mode} on {file}, {term} ticks")?)
-        }
-        Entry::F { who, file, .. } => {
-            let host = who.host.0;
-            let file = file.0;
-            Ok(format!(in alloc; "fences host {host} on {file}")?)
-        }
-        Entry::Z { file, from, to, .. } => {
-            let file = file.0;
-            let from = *from;
-            let to = *to;
-            Ok(format!(in alloc; "file {file} from {from} to {to} blocks")?)
-        }
+        } => text_of(
+            alloc,
+            &[
+                Part::Text("grants host "),
+                Part::Number(who.host.0 as u64),
+                Part::Text(" "),
+                Part::Text(mode_word(*mode)),
+                Part::Text(" on "),
+                Part::Number(file.0 as u64),
+                Part::Text(", "),
+                Part::Number(*term as u64),
+                Part::Text(" ticks"),
+            ],
+        ),
+        Entry::F { who, file, .. } => text_of(
+            alloc,
+            &[
+                Part::Text("fences host "),
+                Part::Number(who.host.0 as u64),
+                Part::Text(" on "),
+                Part::Number(file.0 as u64),
+            ],
+        ),
+        Entry::Z { file, from, to, .. } => text_of(
+            alloc,
+            &[
+                Part::Text("file "),
+                Part::Number(file.0 as u64),
+                Part::Text(" from "),
+                Part::Number(*from as u64),
+                Part::Text(" to "),
+                Part::Number(*to as u64),
+                Part::Text(" blocks"),
+            ],
+        ),
         _ => Ok(String::new(alloc)),
     }
 }
@@ -152,18 +214,25 @@ fn file_words(alloc: Global, entry: &Entry) -> Result<String, NoMemory> {
 /// A start, a boot, or the end of a recovery.
 fn start_words(alloc: Global, entry: &Entry) -> Result<String, NoMemory> {
     match entry {
-        Entry::B { who } => {
-            let inc = who.inc.0;
-            Ok(format!(in alloc; "starts again, incarnation {inc}")?)
-        }
-        Entry::X { boot, .. } => {
-            let boot = *boot;
-            Ok(format!(in alloc; "boots again, boot {boot}")?)
-        }
-        Entry::O { boot, .. } => {
-            let boot = *boot;
-            Ok(format!(in alloc; "recovery of boot {boot} ends")?)
-        }
+        Entry::B { who } => text_of(
+            alloc,
+            &[
+                Part::Text("starts again, incarnation "),
+                Part::Number(who.inc.0 as u64),
+            ],
+        ),
+        Entry::X { boot, .. } => text_of(
+            alloc,
+            &[Part::Text("boots again, boot "), Part::Number(*boot as u64)],
+        ),
+        Entry::O { boot, .. } => text_of(
+            alloc,
+            &[
+                Part::Text("recovery of boot "),
+                Part::Number(*boot as u64),
+                Part::Text(" ends"),
+            ],
+        ),
         _ => Ok(String::new(alloc)),
     }
 }
@@ -190,12 +259,30 @@ fn told_words(alloc: Global, told: &Told) -> Result<String, NoMemory> {
 
 /// A call with a file.
 fn called(alloc: Global, word: &str, file: u32) -> Result<String, NoMemory> {
-    Ok(format!(in alloc; "call {word} {file}")?)
+    text_of(
+        alloc,
+        &[
+            Part::Text("call "),
+            Part::Text(word),
+            Part::Text(" "),
+            Part::Number(file as u64),
+        ],
+    )
 }
 
 /// A call with a file and a block.
 fn called_block(alloc: Global, word: &str, file: u32, block: u32) -> Result<String, NoMemory> {
-    Ok(format!(in alloc; "call {word} {file} {block}")?)
+    text_of(
+        alloc,
+        &[
+            Part::Text("call "),
+            Part::Text(word),
+            Part::Text(" "),
+            Part::Number(file as u64),
+            Part::Text(" "),
+            Part::Number(block as u64),
+        ],
+    )
 }
 
 /// A call with a file, a block and a value.
@@ -206,21 +293,37 @@ fn called_value(
     block: u32,
     value: u32,
 ) -> Result<String, NoMemory> {
-    Ok(format!(in alloc; "call {word} {file} {block} {value}")?)
+    text_of(
+        alloc,
+        &[
+            Part::Text("call "),
+            Part::Text(word),
+            Part::Text(" "),
+            Part::Number(file as u64),
+            Part::Text(" "),
+            Part::Number(block as u64),
+            Part::Text(" "),
+            Part::Number(value as u64),
+        ],
+    )
 }
 
 /// An answer.
 fn said_words(alloc: Global, said: &Said) -> Result<String, NoMemory> {
     match said {
-        Said::OkValue(value) => {
-            let value = *value;
-            Ok(format!(in alloc; "answer ok {value}")?)
-        }
-        Said::OkBy { value, packet } => {
-            let value = *value;
-            let packet = *packet;
-            Ok(format!(in alloc; "answer ok {value} by {packet}")?)
-        }
+        Said::OkValue(value) => text_of(
+            alloc,
+            &[Part::Text("answer ok "), Part::Number(*value as u64)],
+        ),
+        Said::OkBy { value, packet } => text_of(
+            alloc,
+            &[
+                Part::Text("answer ok "),
+                Part::Number(*value as u64),
+                Part::Text(" by "),
+                Part::Number(*packet as u64),
+            ],
+        ),
         Said::Lost(spans) => lost_words(alloc, spans),
         Said::Ok => Ok(String::from_str(alloc, "answer ok")?),
         Said::Busy => Ok(String::from_str(alloc, "answer busy")?),
@@ -238,13 +341,32 @@ fn lost_words(alloc: Global, spans: &Spans) -> Result<String, NoMemory> {
     let Some(span) = spans.get(0) else {
         return Ok(String::from_str(alloc, "answer lost")?);
     };
-    let block = span.block.0;
-    let first = span.first.0;
-    let last = span.last.0;
     let more = spans.len().saturating_sub(1);
+    let mut text = text_of(
+        alloc,
+        &[
+            Part::Text("answer lost "),
+            Part::Number(span.block.0 as u64),
+            Part::Text(":"),
+            Part::Number(span.first.0),
+            Part::Text("-"),
+            Part::Number(span.last.0),
+        ],
+    )?;
     if more > 0 {
-        Ok(format!(in alloc; "answer lost {block}:{first}-{last} and {more} more")?)
-    } else {
-        Ok(format!(in alloc; "answer lost {block}:{first}-{last}")?)
+        text.push_str(more_words(alloc, more)?.as_str())?;
     }
+    Ok(text)
+}
+
+/// How many more losses there are.
+fn more_words(alloc: Global, more: usize) -> Result<String, NoMemory> {
+    text_of(
+        alloc,
+        &[
+            Part::Text(" and "),
+            Part::Number(more as u64),
+            Part::Text(" more"),
+        ],
+    )
 }

@@ -1,4 +1,5 @@
 //! Packets in words.
+#![tactic(auto, using(nq_chart::proofs::Joined::ended))]
 
 ghost use Rattle.std.specs.Prelude.{◌≡◌, ◌++◌, codes, string_bytes, Some, IfOk};
 ghost use Rattle.nq_record.specs.Words.{SaysRequest, filed, granted, lease_granted, lease_words, plain_read, read_words, refusal_word, reply_text, resize_words, revised, wanting_read, with_grant, write_words};
@@ -6,6 +7,7 @@ ghost use Rattle.nq_record.specs.Words.{SaysRequest, filed, granted, lease_grant
 use crate::NoMemory;
 use crate::text::{mode_word, named};
 use nq_base::{Grant, Mode, Refusal, Reply, Request, Want};
+use nq_chart::{Part, text_of};
 use std::alloc::Global;
 
 /// A request or a notice in words: its procedure, and the fields that matter.
@@ -41,19 +43,34 @@ pub fn request_words(alloc: Global, request: &Request) -> Result<String, NoMemor
 }
 
 /// A RESIZE.
-#[tactic(auto, unfolding(crate::specs::Words::resize_words))]
+#[tactic(auto, using(nq_chart::proofs::Joined::ended), unfolding(crate::specs::Words::resize_words))]
 fn resize_words(alloc: Global, file: u32, blocks: u32) -> Result<String, NoMemory>
     ensures { IfOk result (λ text. string_bytes text ≡ resize_words file blocks) }
 {
-    Ok(format!(in alloc; "RESIZE {file} to {blocks}")?)
+    text_of(
+        alloc,
+        &[
+            Part::Text("RESIZE "),
+            Part::Number(file as u64),
+            Part::Text(" to "),
+            Part::Number(blocks as u64),
+        ],
+    )
 }
 
 /// A procedure and its file.
-#[tactic(auto, unfolding(crate::specs::Words::filed))]
+#[tactic(auto, using(nq_chart::proofs::Joined::ended), unfolding(crate::specs::Words::filed))]
 fn filed(alloc: Global, procedure: &str, file: u32) -> Result<String, NoMemory>
     ensures { IfOk result (λ text. string_bytes text ≡ filed procedure.now file) }
 {
-    Ok(format!(in alloc; "{procedure} {file}")?)
+    text_of(
+        alloc,
+        &[
+            Part::Text(procedure),
+            Part::Text(" "),
+            Part::Number(file as u64),
+        ],
+    )
 }
 
 /// A READ.
@@ -67,24 +84,41 @@ fn read_words(alloc: Global, file: u32, block: u32, want: Option<Want>) -> Resul
 }
 
 /// A READ that wants no lease.
-#[tactic(auto, unfolding(crate::specs::Words::plain_read))]
+#[tactic(auto, using(nq_chart::proofs::Joined::ended), unfolding(crate::specs::Words::plain_read))]
 fn plain_read(alloc: Global, file: u32, block: u32) -> Result<String, NoMemory>
     ensures { IfOk result (λ text. string_bytes text ≡ plain_read file block) }
 {
-    Ok(format!(in alloc; "READ {file}:{block}")?)
+    text_of(
+        alloc,
+        &[
+            Part::Text("READ "),
+            Part::Number(file as u64),
+            Part::Text(":"),
+            Part::Number(block as u64),
+        ],
+    )
 }
 
 /// A READ that wants a lease.
-#[tactic(auto, unfolding(crate::specs::Words::wanting_read))]
+#[tactic(auto, using(nq_chart::proofs::Joined::ended), unfolding(crate::specs::Words::wanting_read))]
 fn wanting_read(alloc: Global, file: u32, block: u32, mode: Mode) -> Result<String, NoMemory>
     ensures { IfOk result (λ text. string_bytes text ≡ wanting_read file block mode) }
 {
-    let word = mode_word(mode);
-    Ok(format!(in alloc; "READ {file}:{block} want {word}")?)
+    text_of(
+        alloc,
+        &[
+            Part::Text("READ "),
+            Part::Number(file as u64),
+            Part::Text(":"),
+            Part::Number(block as u64),
+            Part::Text(" want "),
+            Part::Text(mode_word(mode)),
+        ],
+    )
 }
 
 /// A WRITE.
-#[tactic(auto, unfolding(crate::specs::Words::write_words))]
+#[tactic(auto, using(nq_chart::proofs::Joined::ended), unfolding(crate::specs::Words::write_words))]
 fn write_words(
     alloc: Global,
     file: u32,
@@ -96,19 +130,48 @@ fn write_words(
     ensures { IfOk result (λ text. string_bytes text ≡ write_words file block first last pushed) }
 {
     if pushed {
-        Ok(format!(in alloc; "WRITE {file}:{block} delayed {first}-{last}")?)
+        text_of(
+            alloc,
+            &[
+                Part::Text("WRITE "),
+                Part::Number(file as u64),
+                Part::Text(":"),
+                Part::Number(block as u64),
+                Part::Text(" delayed "),
+                Part::Number(first),
+                Part::Text("-"),
+                Part::Number(last),
+            ],
+        )
     } else {
-        Ok(format!(in alloc; "WRITE {file}:{block} through {last}")?)
+        text_of(
+            alloc,
+            &[
+                Part::Text("WRITE "),
+                Part::Number(file as u64),
+                Part::Text(":"),
+                Part::Number(block as u64),
+                Part::Text(" through "),
+                Part::Number(last),
+            ],
+        )
     }
 }
 
 /// A GETLEASE.
-#[tactic(auto, unfolding(crate::specs::Words::lease_words))]
+#[tactic(auto, using(nq_chart::proofs::Joined::ended), unfolding(crate::specs::Words::lease_words))]
 fn lease_words(alloc: Global, file: u32, want: &Want) -> Result<String, NoMemory>
     ensures { IfOk result (λ text. string_bytes text ≡ lease_words file want.now) }
 {
-    let mode = mode_word(want.mode);
-    Ok(format!(in alloc; "GETLEASE {file} want {mode}")?)
+    text_of(
+        alloc,
+        &[
+            Part::Text("GETLEASE "),
+            Part::Number(file as u64),
+            Part::Text(" want "),
+            Part::Text(mode_word(want.mode)),
+        ],
+    )
 }
 
 /// A reply in words: its procedure, its status, and the fields that matter.
@@ -126,19 +189,29 @@ pub fn reply_words(alloc: Global, reply: &Reply) -> Result<String, NoMemory>
         Reply::GetLease { grant, .. } => lease_granted(alloc, *grant),
         Reply::Resize { rev, .. } => revised(alloc, "RESIZE ok", rev.0),
         Reply::Remove { .. } => Ok(String::from_str(alloc, "REMOVE ok")?),
-        Reply::Refused { status, .. } => {
-            let word = refusal_word(*status);
-            Ok(format!(in alloc; "refused {word}")?)
-        }
+        Reply::Refused { status, .. } => refused(alloc, *status),
     }
 }
 
+/// A refusal.
+fn refused(alloc: Global, status: Refusal) -> Result<String, NoMemory>
+    ensures { IfOk result (λ text. string_bytes text ≡ codes "refused " ++ refusal_word status) }
+{
+    text_of(
+        alloc,
+        &[Part::Text("refused "), Part::Text(refusal_word(status))],
+    )
+}
+
 /// A status and a revision.
-#[tactic(auto, unfolding(crate::specs::Words::revised))]
+#[tactic(auto, using(nq_chart::proofs::Joined::ended), unfolding(crate::specs::Words::revised))]
 fn revised(alloc: Global, status: &str, rev: u64) -> Result<String, NoMemory>
     ensures { IfOk result (λ text. string_bytes text ≡ revised status.now rev) }
 {
-    Ok(format!(in alloc; "{status} rev {rev}")?)
+    text_of(
+        alloc,
+        &[Part::Text(status), Part::Text(" rev "), Part::Number(rev)],
+    )
 }
 
 /// A status, a revision and a grant, if there is one.

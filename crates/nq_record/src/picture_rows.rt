@@ -2,9 +2,9 @@
 
 use crate::NoMemory;
 use crate::drawing::{outer, place_of};
-use crate::record::{Act, Moment, Record};
+use crate::record::{Act, Moment, Record, Sent};
 use nq_base::Party;
-use nq_chart::{Note, Row, Side, Sign};
+use nq_chart::{Note, Part, Row, Side, Sign, text_of};
 use std::alloc::Global;
 
 /// The rows of a chart, and in which of them each event stands.
@@ -162,21 +162,23 @@ impl Idle {
 
     /// How they are named at the edge.
     fn name(&self, alloc: Global) -> Result<String, NoMemory> {
-        let first = self.first;
+        let first = Part::Number(self.first as u64);
         if self.count == 1 {
-            return Ok(format!(in alloc; "{first}")?);
+            return text_of(alloc, &[first]);
         }
-        let last = first.saturating_add(self.count).saturating_sub(1);
-        Ok(format!(in alloc; "{first}-{last}")?)
+        let last = self.first.saturating_add(self.count).saturating_sub(1);
+        text_of(alloc, &[first, Part::Text("-"), Part::Number(last as u64)])
     }
 
     /// What is told of them.
     fn text(&self, alloc: Global) -> Result<String, NoMemory> {
-        let count = self.count;
-        if count == 1 {
-            return Ok(String::from_str(alloc, "tick")?);
+        if self.count == 1 {
+            return text_of(alloc, &[Part::Text("tick")]);
         }
-        Ok(format!(in alloc; "{count} ticks")?)
+        text_of(
+            alloc,
+            &[Part::Number(self.count as u64), Part::Text(" ticks")],
+        )
     }
 
     /// Gives them a row, if there are any.
@@ -224,7 +226,7 @@ fn event_row(
     clocks: &mut Clocks,
 ) -> Result<(), NoMemory> {
     let notes = notes(alloc, record, moment)?;
-    let name = format!(in alloc; "{place}")?;
+    let name = text_of(alloc, &[Part::Number(place as u64)])?;
     let told = clocks.take(alloc)?;
     let row = shown.rows.len();
     shown.places.push(row)?;
@@ -245,8 +247,7 @@ fn notes(alloc: Global, record: &Record, moment: &Moment) -> Result<Vec<Note>, N
         if let Some(sent) = record.packets.get(number as usize) {
             let toward = toward(record.hosts, moment.party, sent.from);
             side = other(toward);
-            let words = sent.words.as_str();
-            let text = format!(in alloc; "{number}: {words}")?;
+            let text = packet_words(alloc, number, sent, "")?;
             notes.push(Note {
                 side: toward,
                 sign: Sign::Packet,
@@ -265,6 +266,24 @@ fn notes(alloc: Global, record: &Record, moment: &Moment) -> Result<Vec<Note>, N
         })?;
     }
     Ok(notes)
+}
+
+/// The number of a packet and what it says, with an end.
+pub(crate) fn packet_words<'a>(
+    alloc: Global,
+    number: u64,
+    sent: &'a Sent,
+    end: &'a str,
+) -> Result<String, NoMemory> {
+    text_of(
+        alloc,
+        &[
+            Part::Number(number),
+            Part::Text(": "),
+            Part::Text(sent.words.as_str()),
+            Part::Text(end),
+        ],
+    )
 }
 
 /// What an event is called that has no other note.
@@ -311,8 +330,7 @@ fn lost_notes(
     for number in moment.packets..end {
         if let Some(sent) = record.packets.get(number as usize) {
             if sent.arrivals.is_empty() {
-                let words = sent.words.as_str();
-                let text = format!(in alloc; "{number}: {words}, lost")?;
+                let text = packet_words(alloc, number, sent, ", lost")?;
                 notes.push(Note {
                     side: toward(record.hosts, moment.party, sent.to),
                     sign: Sign::Loss,

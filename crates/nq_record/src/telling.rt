@@ -3,9 +3,10 @@
 ghost use Rattle.nq_chart.specs.Page.{Extends};
 
 use crate::NoMemory;
-use crate::record::{Act, Moment, Record};
+use crate::record::{Act, Moment, Record, Sent};
 use crate::spans::{Change, Kind};
-use crate::text::{mode_word, party_name, put};
+use crate::text::{mode_word, party_name};
+use nq_chart::{Part, put, put_all, text_of};
 use std::alloc::Global;
 
 /// Appends a line for each event: its number, who acts and what the clock of that party shows, what happens, how many rows the server
@@ -54,18 +55,63 @@ fn tell_act(
 ) -> Result<(), NoMemory>
     ensures { Extends out.old.items out.new.items }
 {
-    let party = party_name(alloc, moment.party)?;
-    let who = party.as_str();
-    let clock = moment.clock.0;
-    let act = act_words(alloc, record, place, moment.act)?;
-    let what = act.as_str();
-    let first = format!(in alloc; "{place:>6} {who:<8}{clock:>7}  {what:<52}")?;
-    let rows = moment.rows;
-    let leases = moment.leases;
-    let dirty = moment.dirty;
-    let counts = format!(in alloc; " rows {rows:>3} leases {leases:>3} delayed {dirty:>4}")?;
-    put(out, first.as_str())?;
-    put(out, counts.as_str())
+    let number = digits_in(alloc, place as u64, 6)?;
+    let party = padded(party_name(alloc, moment.party)?, 8)?;
+    let clock = digits_in(alloc, moment.clock.0, 7)?;
+    let act = padded(act_words(alloc, record, place, moment.act)?, 52)?;
+    put_all(
+        alloc,
+        out,
+        &[
+            Part::Text(number.as_str()),
+            Part::Text(" "),
+            Part::Text(party.as_str()),
+            Part::Text(clock.as_str()),
+            Part::Text("  "),
+            Part::Text(act.as_str()),
+        ],
+    )?;
+    tell_counts(alloc, moment, out)
+}
+
+/// Appends how many rows, leases and blocks with delayed writes there then are.
+fn tell_counts(alloc: Global, moment: &Moment, out: &mut Vec<u8>) -> Result<(), NoMemory>
+    ensures { Extends out.old.items out.new.items }
+{
+    let rows = digits_in(alloc, moment.rows as u64, 3)?;
+    let leases = digits_in(alloc, moment.leases as u64, 3)?;
+    let dirty = digits_in(alloc, moment.dirty as u64, 4)?;
+    put_all(
+        alloc,
+        out,
+        &[
+            Part::Text(" rows "),
+            Part::Text(rows.as_str()),
+            Part::Text(" leases "),
+            Part::Text(leases.as_str()),
+            Part::Text(" delayed "),
+            Part::Text(dirty.as_str()),
+        ],
+    )
+}
+
+/// A number behind so many blanks that it fills a column.
+fn digits_in(alloc: Global, number: u64, width: usize) -> Result<String, NoMemory> {
+    let digits = text_of(alloc, &[Part::Number(number)])?;
+    let mut text = String::new(alloc);
+    for _ in digits.len()..width {
+        text.push(' ')?;
+    }
+    text.push_str(digits.as_str())?;
+    Ok(text)
+}
+
+/// A text with so many blanks behind it that it fills a column.
+fn padded(mut text: String, width: usize) -> Result<String, NoMemory> {
+    for _ in text.len()..width {
+        text.push(' ')?;
+    }
+    Ok(text)
 }
 
 /// What happens, in words.
@@ -87,14 +133,21 @@ fn arrival_words(
     number: u64,
 ) -> Result<String, NoMemory> {
     match record.packets.get(number as usize) {
-        None => Ok(format!(in alloc; "deliver {number}")?),
+        None => text_of(alloc, &[Part::Text("deliver "), Part::Number(number)]),
         Some(sent) => {
-            let words = sent.words.as_str();
             let again = match sent.arrivals.first() {
-                Some(first) if *first < place => " again",
-                _ => "",
+                Some(first) if *first < place => " again: ",
+                _ => ": ",
             };
-            Ok(format!(in alloc; "deliver {number}{again}: {words}")?)
+            text_of(
+                alloc,
+                &[
+                    Part::Text("deliver "),
+                    Part::Number(number),
+                    Part::Text(again),
+                    Part::Text(sent.words.as_str()),
+                ],
+            )
         }
     }
 }
@@ -112,40 +165,50 @@ fn tell_changes(
     let end = moment.changes.saturating_add(moment.changed);
     for place in moment.changes..end {
         if let Some(change) = record.changes.get(place) {
-            let text = change_words(alloc, change)?;
-            put(out, text.as_str())?;
+            tell_change(alloc, change, out)?;
         }
     }
     match moment.delays {
         None => Ok(()),
-        Some(blocks) => {
-            let text = format!(in alloc; " | delayed {blocks}")?;
-            put(out, text.as_str())
-        }
+        Some(blocks) => put_all(
+            alloc,
+            out,
+            &[Part::Text(" | delayed "), Part::Number(blocks as u64)],
+        ),
     }
 }
 
-/// A change in words, behind a bar.
-fn change_words(alloc: Global, change: &Change) -> Result<String, NoMemory> {
-    let sign = if change.begins { "+" } else { "-" };
-    kind_words(alloc, sign, change.kind)
-}
-
-/// What begins or ends in words, behind a bar and a sign.
-fn kind_words(alloc: Global, sign: &str, kind: Kind) -> Result<String, NoMemory> {
-    match kind {
-        Kind::Recovery => Ok(format!(in alloc; " | {sign} recovery")?),
-        Kind::Lease { file, mode } => {
-            let word = mode_word(mode);
-            let file = file.0;
-            Ok(format!(in alloc; " | {sign} lease {word} {file}")?)
-        }
-        Kind::Row { file, host, mode } => {
-            let word = mode_word(mode);
-            let file = file.0;
-            let host = host.0;
-            Ok(format!(in alloc; " | {sign} row {word} {file} of host {host}")?)
-        }
+/// Appends a change in words, behind a bar and a sign.
+fn tell_change(alloc: Global, change: &Change, out: &mut Vec<u8>) -> Result<(), NoMemory>
+    ensures { Extends out.old.items out.new.items }
+{
+    let sign = if change.begins { " | + " } else { " | - " };
+    match change.kind {
+        Kind::Recovery => put_all(alloc, out, &[Part::Text(sign), Part::Text("recovery")]),
+        Kind::Lease { file, mode } => put_all(
+            alloc,
+            out,
+            &[
+                Part::Text(sign),
+                Part::Text("lease "),
+                Part::Text(mode_word(mode)),
+                Part::Text(" "),
+                Part::Number(file.0 as u64),
+            ],
+        ),
+        Kind::Row { file, host, mode } => put_all(
+            alloc,
+            out,
+            &[
+                Part::Text(sign),
+                Part::Text("row "),
+                Part::Text(mode_word(mode)),
+                Part::Text(" "),
+                Part::Number(file.0 as u64),
+                Part::Text(" of host "),
+                Part::Number(host.0 as u64),
+            ],
+        ),
     }
 }
 
@@ -161,14 +224,42 @@ fn tell_packets(
     let end = moment.packets.saturating_add(moment.sent);
     for number in moment.packets..end {
         if let Some(sent) = record.packets.get(number as usize) {
-            let to = party_name(alloc, sent.to)?;
-            let whom = to.as_str();
-            let words = sent.words.as_str();
-            let text = format!(in alloc; " | sends {number} to {whom}: {words}")?;
-            put(out, text.as_str())?;
+            tell_packet(alloc, number, sent, out)?;
         }
     }
     Ok(())
+}
+
+/// Appends a packet that is sent, behind a bar.
+fn tell_packet(alloc: Global, number: u64, sent: &Sent, out: &mut Vec<u8>) -> Result<(), NoMemory>
+    ensures { Extends out.old.items out.new.items }
+{
+    let to = party_name(alloc, sent.to)?;
+    tell_letter(alloc, number, to.as_str(), sent.words.as_str(), out)
+}
+
+/// Appends the number of a packet, to whom it goes, and what it says.
+fn tell_letter<'a>(
+    alloc: Global,
+    number: u64,
+    to: &'a str,
+    words: &'a str,
+    out: &mut Vec<u8>,
+) -> Result<(), NoMemory>
+    ensures { Extends out.old.items out.new.items }
+{
+    put_all(
+        alloc,
+        out,
+        &[
+            Part::Text(" | sends "),
+            Part::Number(number),
+            Part::Text(" to "),
+            Part::Text(to),
+            Part::Text(": "),
+            Part::Text(words),
+        ],
+    )
 }
 
 /// Appends the entries that an event makes.
@@ -184,8 +275,7 @@ fn tell_entries(
     for place in moment.entries..end {
         if let Some(entry) = record.entries.get(place) {
             let words = entry.words.as_str();
-            let text = format!(in alloc; " | {words}")?;
-            put(out, text.as_str())?;
+            put_all(alloc, out, &[Part::Text(" | "), Part::Text(words)])?;
         }
     }
     Ok(())

@@ -6,15 +6,8 @@ ghost use Rattle.nq_record.specs.Words.{mode_word};
 
 use crate::NoMemory;
 use nq_base::{Mode, Name, Party};
+use nq_chart::{Part, text_of};
 use std::alloc::Global;
-
-/// Appends text.
-pub(crate) fn put(out: &mut Vec<u8>, text: &str) -> Result<(), NoMemory>
-    ensures { Extends out.old.items out.new.items }
-{
-    out.extend_from_slice(text.as_bytes())?;
-    Ok(())
-}
 
 /// Appends a name, which is printable ASCII, behind a word.
 pub(crate) fn named(alloc: Global, word: &str, name: &Name) -> Result<String, NoMemory>
@@ -43,9 +36,6 @@ pub(crate) fn mode_word(mode: Mode) -> &'static str
 pub(crate) fn party_name(alloc: Global, party: Party) -> Result<String, NoMemory> {
     match party {
         Party::Server => Ok(String::from_str(alloc, "server")?),
-        Party::Client(host) => {
-            let number = host.0;
-            Ok(format!(in alloc; "host {number}")?)
-        }
+        Party::Client(host) => text_of(alloc, &[Part::Text("host "), Part::Number(host.0 as u64)]),
     }
 }

@@ -1,3 +1,4 @@
+pub mod Finding
 pub mod Commands
 pub mod HostPromises
 pub mod LoopPromises

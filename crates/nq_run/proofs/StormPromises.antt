@@ -8,6 +8,7 @@ use Rattle.nq_ending.specs.Status.{WithStatus, status_of}
 use Rattle.nq_ending.specs.declared.Ending.{Ending}
 use Rattle.nq_replay.specs.Lines.{PrintsLine, usage_line}
 use Rattle.nq_run.proofs.Promises.{faultless, holds_throughout}
+use Rattle.nq_run.specs.Fates.{AsksInStorm, FateTold}
 use Rattle.nq_run.specs.Storming.{DoesStorm, NeverRuns, RunsNothing, RunsStorm, StormsLawfully, StormsUnlessFault}
 use Rattle.nq_storm.specs.Heads.{storm_head}
 use Rattle.nq_storm.specs.Kinds.{IsFirstOf, LackKind, TellOthers}
@@ -92,6 +93,14 @@ storm_does said status kind start count kind' start' count' told held now w w' i
     subst (λ n. WithStatus status (λ end. DoesStorm end kind' start' n told held now w w')) counts
     (subst (λ n. WithStatus status (λ end. DoesStorm end kind' n count told held now w w')) starts
     (subst (λ n. WithStatus status (λ end. DoesStorm end n start count told held now w w')) kinds does))
+
+pub storm_asks : (said : Option Command) (status kind start count kind' start' count' : ℕ) (old new : List FateTold) → said ≡ Some (Command.Storm kind start count) → said ≡ Some (Command.Storm kind' start' count')
+    → WithStatus status (λ end. AsksInStorm end kind count old new) → WithStatus status (λ end. AsksInStorm end kind' count' old new)
+storm_asks said status kind start count kind' start' count' old new is same asks =
+    let kinds : kind ≡ kind' = cc in
+    let counts : count ≡ count' = cc in
+    subst (λ n. WithStatus status (λ end. AsksInStorm end kind' n old new)) counts
+    (subst (λ n. WithStatus status (λ end. AsksInStorm end n count old new)) kinds asks)
 
 pub storm_lawful : (status kind start count : ℕ) (told : List (Option Rule)) (held now : Option (List ℕ)) (w w' : ℕ) → WithStatus status (λ end. DoesStorm end kind start count told held now w w') → status ≡ status_of Ending.Done
     → StormsLawfully kind start count told held now

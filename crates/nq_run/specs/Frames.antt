@@ -27,3 +27,8 @@ reads_clock (Some (Command.Serve turns longest)) = true
 reads_clock (Some (Command.Client host inc turns)) = true
 reads_clock (Some (Command.Loop hosts turns)) = true
 reads_clock other = false
+
+-- a storm asks a fate
+abbrev pub uses_fates : Option Command → Bool
+uses_fates (Some (Command.Storm kind start events)) = true
+uses_fates other = false

@@ -5,19 +5,21 @@ use Rattle.nq_base.specs.declared.Who.{Who}
 use Rattle.nq_calls.specs.Lines.{AreCalls}
 use Rattle.nq_ending.specs.Status.{status_of}
 use Rattle.nq_ending.specs.declared.Ending.{Ending}
-use Rattle.nq_hosts.specs.Serving.{EndsBy as ServesBy, Serves, Tells}
+use Rattle.nq_hosts.specs.Leaving.{LeavesServing}
+use Rattle.nq_hosts.specs.Serving.{EndsBy as ServesBy, Tells}
 use Rattle.nq_model.specs.Kept.{Kept}
 use Rattle.nq_node.specs.Clocks.{ClockTold}
 use Rattle.nq_node.specs.Links.{LinkTold}
 use Rattle.nq_user.specs.Using.{EndsBy as UsesBy, Uses}
 
--- a server over this very keeper took its turns, or ended before, and this keeper was left; the status is that of the end, which has its
--- cause
-pub record ServesFor {P : Type 0} (content : P → Option Kept) (faults : P → ℕ) (follows : P → P → Type 0) (code longest turns : ℕ) (keeper : P) (clock clock' : ClockTold) (link link' : LinkTold) (held now : Option (List ℕ)) (w w' : ℕ) : Type 0 where
+-- A server over this very keeper took its turns, or ended before, and this keeper was left; the status is that of the end, which has its
+-- cause. Where the keeper told what it kept at first, whatever a stop at any moment leaves is that, or what was kept after a prefix of the
+-- steps: the boot, and the ticks and datagrams of the turns
+pub record ServesFor {P : Type 0} (content : P → Option Kept) (faults : P → ℕ) (follows : P → P → Type 0) (leaves : P → P → Option Kept → Type 0) (code longest turns : ℕ) (keeper : P) (clock clock' : ClockTold) (link link' : LinkTold) (held now : Option (List ℕ)) (w w' : ℕ) : Type 0 where
   pub end : Ending
   pub left : P
   pub status : code ≡ status_of end
-  pub tells : Tells end turns (λ ended. Serves content faults follows longest turns keeper ended left clock clock' link link') held now w w'
+  pub tells : Tells end turns (λ ended. LeavesServing content faults follows leaves longest turns keeper ended left clock clock' link link') held now w w'
   pub same : follows keeper left
   pub cause : ServesBy end (content keeper) (faults keeper) (faults left) link.faults link'.faults w w'
 

@@ -1,3 +1,4 @@
+pub mod Fates
 pub mod Promised
 pub mod Hosting
 pub mod Storming

@@ -1,6 +1,7 @@
 //! The top call of the program: it runs what the words say, and its contract has the headline.
 #![tactic(auto)]
 
+mod fates;
 mod staged;
 mod top;
 

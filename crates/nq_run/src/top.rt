@@ -17,7 +17,8 @@ ghost use Rattle.nq_replay.specs.Judging.{IsSaidUnlessFault, Judges};
 ghost use Rattle.nq_replay.specs.Lines.{PrintsLine, usage_line};
 ghost use Rattle.nq_replay.specs.Replay.{BreaksSkew, FaultyLine, OfInput, Passes, Runs};
 ghost use Rattle.nq_replay.specs.declared.Bound.{Bound};
-ghost use Rattle.nq_run.specs.Frames.{reads_clock, reads_input, uses_link, uses_links};
+ghost use Rattle.nq_run.specs.Fates.{AsksInStorm, fate_told};
+ghost use Rattle.nq_run.specs.Frames.{reads_clock, reads_input, uses_fates, uses_link, uses_links};
 ghost use Rattle.nq_run.specs.Hosting.{Attends, ServesFor};
 ghost use Rattle.nq_run.specs.Looping.{LoopsFor, LoopsLawfully};
 ghost use Rattle.nq_run.specs.Promised.{PrintsLawfully, PrintsSound, most_bytes};
@@ -25,6 +26,7 @@ ghost use Rattle.nq_run.specs.Staging.{StagesFor};
 ghost use Rattle.nq_run.specs.Storming.{DoesStorm, NeverRuns, RunsNothing, StormsLawfully, StormsUnlessFault};
 ghost use Rattle.nq_script.specs.declared.heads.Head.{Head};
 
+use crate::fates::place_of;
 use crate::staged::staged;
 use nq_base::{Host, Inc, Who};
 use nq_clock::Clock;
@@ -36,7 +38,7 @@ use nq_keeper::Keeper;
 use nq_link::Link;
 use nq_loop::run_loop;
 use nq_replay::{judge, put_line, replay};
-use nq_storm::{first_of, run_storm};
+use nq_storm::run_storm;
 use nq_storm_rules::Fate;
 use nq_user::{Plan, client};
 use std::alloc::Global;
@@ -50,7 +52,7 @@ const MOST_BYTES: usize = 16_777_216;
 /// which the server's is the first, as [`run_loop`] tells. The headline of `nq_laws` holds at each moment of the run whose journal
 /// `replay`, `storm`, `loop` or `staged` printed, and that journal is sound for `check`: leases, ticks, restarts and crashes included. That
 /// the schedule is within skew and keeps to the bounds is no premise, since the run itself tests it. What the words have no use for stays
-/// as it was: the input, the link, the links of a loop, the clock.
+/// as it was: the input, the link, the links of a loop, the clock, the fates. The keeper is handed over.
 ///
 /// The answer is the exit status. `docs/commands.md` says when each comes, and what is printed then.
 #[tactic(auto, using(crate::proofs::Commands::says_replay, crate::proofs::Commands::says_check, crate::proofs::Commands::says_staged), unfolding(crate::specs::Promised::most_bytes))]
@@ -63,7 +65,7 @@ pub fn run<S: Source, K: Sink, P: Keeper + Drop, L: Link, C: Clock>(
     link: &mut L,
     links: &mut [L],
     clock: &mut C,
-    fates: Vec<Box<dyn Fate>>,
+    fates: &mut [Box<dyn Fate>],
 ) -> u8
     requires links { (hosts turns : ℕ) → command_of words.now ≡ Some (Command.Loop hosts turns) → length links.old ≡ hosts + 1 }
     ensures ends { IsReplay words.now
@@ -82,8 +84,8 @@ pub fn run<S: Source, K: Sink, P: Keeper + Drop, L: Link, C: Clock>(
     ensures judged_said { IsCheck words.now → (text : List ℕ) → S.left input.old ≡ Some text → length text ≤ most_bytes → IsJournal text
         → WithStatus result (λ end. IsSaidUnlessFault end
         (S.faults input.old) (S.faults input.new) (K.faults out.old) (K.faults out.new)) }
-    ensures usage { result ≡ status_of Ending.Usage → RunsNothing (command_of words.now) (map (λ fate. told fate) fates.items) }
-    ensures never { NeverRuns (command_of words.now) (map (λ fate. told fate) fates.items) → result ≡ status_of Ending.Usage }
+    ensures usage { result ≡ status_of Ending.Usage → RunsNothing (command_of words.now) (map (λ fate. told fate) fates.old) }
+    ensures never { NeverRuns (command_of words.now) (map (λ fate. told fate) fates.old) → result ≡ status_of Ending.Usage }
     ensures nothing { result ≡ status_of Ending.Usage
         → (S.left input.new ≡ S.left input.old) × PrintsLine usage_line (K.held out.old) (K.held out.new) (K.faults out.old) (K.faults out.new) }
     ensures limit { IsReplay words.now → (text : List ℕ) → S.left input.old ≡ Some text → most_bytes < length text
@@ -113,7 +115,7 @@ pub fn run<S: Source, K: Sink, P: Keeper + Drop, L: Link, C: Clock>(
         → StagesFor most_bytes result (S.left input.old) (S.left input.new) (K.held out.old) (K.held out.new)
         (S.faults input.old) (S.faults input.new) (K.faults out.old) (K.faults out.new) }
     ensures serves { (turns longest : ℕ) → command_of words.now ≡ Some (Command.Serve turns longest)
-        → ServesFor P.content P.faults P.follows result longest turns keeper (clock_told C.floor C.readings clock.old) (clock_told C.floor C.readings clock.new)
+        → ServesFor P.content P.faults P.follows P.leaves result longest turns keeper (clock_told C.floor C.readings clock.old) (clock_told C.floor C.readings clock.new)
         (link_told L.sent L.waiting L.faults L.receives link.old)
         (link_told L.sent L.waiting L.faults L.receives link.new)
         (K.held out.old) (K.held out.new) (K.faults out.old) (K.faults out.new) }
@@ -123,12 +125,12 @@ pub fn run<S: Source, K: Sink, P: Keeper + Drop, L: Link, C: Clock>(
         (link_told L.sent L.waiting L.faults L.receives link.old)
         (link_told L.sent L.waiting L.faults L.receives link.new) }
     ensures storms { (kind start events : ℕ) → command_of words.now ≡ Some (Command.Storm kind start events)
-        → WithStatus result (λ end. DoesStorm end kind start events (map (λ fate. told fate) fates.items)
+        → WithStatus result (λ end. DoesStorm end kind start events (map (λ fate. told fate) fates.old)
         (K.held out.old) (K.held out.new) (K.faults out.old) (K.faults out.new)) }
     ensures stormed { (kind start events : ℕ) → command_of words.now ≡ Some (Command.Storm kind start events)
         → WithStatus result (λ end. StormsUnlessFault end (K.faults out.old) (K.faults out.new)) }
     ensures lawful { (kind start events : ℕ) → command_of words.now ≡ Some (Command.Storm kind start events) → result ≡ status_of Ending.Done
-        → StormsLawfully kind start events (map (λ fate. told fate) fates.items) (K.held out.old) (K.held out.new) }
+        → StormsLawfully kind start events (map (λ fate. told fate) fates.old) (K.held out.old) (K.held out.new) }
     ensures loops { (hosts turns : ℕ) → command_of words.now ≡ Some (Command.Loop hosts turns)
         → LoopsFor result hosts turns (clock_told C.floor C.readings clock.old) (clock_told C.floor C.readings clock.new)
         (map (told_of L.sent L.waiting L.faults L.receives) links.old) (map (told_of L.sent L.waiting L.faults L.receives) links.new)
@@ -140,10 +142,14 @@ pub fn run<S: Source, K: Sink, P: Keeper + Drop, L: Link, C: Clock>(
         → LoopsLawfully hosts turns (clock_told C.floor C.readings clock.old) (clock_told C.floor C.readings clock.new)
         (map (told_of L.sent L.waiting L.faults L.receives) links.old) (map (told_of L.sent L.waiting L.faults L.receives) links.new)
         (K.held out.old) (K.held out.new) }
+    ensures asked { (kind start events : ℕ) → command_of words.now ≡ Some (Command.Storm kind start events)
+        → WithStatus result (λ end. AsksInStorm end kind events (map (λ fate. fate_told (told fate) (asks fate)) fates.old)
+        (map (λ fate. fate_told (told fate) (asks fate)) fates.new)) }
     ensures input { reads_input (command_of words.now) ≡ false → input.new ≡ input.old }
     ensures link { uses_link (command_of words.now) ≡ false → link.new ≡ link.old }
     ensures hosts { uses_links (command_of words.now) ≡ false → links.new ≡ links.old }
     ensures clock { reads_clock (command_of words.now) ≡ false → clock.new ≡ clock.old }
+    ensures fates { uses_fates (command_of words.now) ≡ false → fates.new ≡ fates.old }
 {
     match words.command() {
         Some(Command::Replay) => replay(alloc, input, out, MOST_BYTES).status(),
@@ -187,7 +193,7 @@ fn served<P: Keeper + Drop, L: Link, C: Clock, K: Sink>(
 ) -> u8
     requires long { 5 ≤ longest }
     requires short { longest ≤ 600 }
-    ensures { ServesFor P.content P.faults P.follows result longest turns keeper
+    ensures { ServesFor P.content P.faults P.follows P.leaves result longest turns keeper
         (clock_told C.floor C.readings clock.old) (clock_told C.floor C.readings clock.new)
         (link_told L.sent L.waiting L.faults L.receives link.old)
         (link_told L.sent L.waiting L.faults L.receives link.new)
@@ -203,17 +209,19 @@ fn served<P: Keeper + Drop, L: Link, C: Clock, K: Sink>(
 /// Runs a storm of the first fate of a kind, if there is one; the status.
 fn storm<K: Sink>(
     alloc: Global,
-    fates: Vec<Box<dyn Fate>>,
+    fates: &mut [Box<dyn Fate>],
     kind: u8,
     start: u64,
     events: u32,
     out: &mut K,
 ) -> u8
-    ensures { WithStatus result (λ end. DoesStorm end kind start events (map (λ fate. told fate) fates.items)
+    ensures does { WithStatus result (λ end. DoesStorm end kind start events (map (λ fate. told fate) fates.old)
         (K.held out.old) (K.held out.new) (K.faults out.old) (K.faults out.new)) }
+    ensures asks { WithStatus result (λ end. AsksInStorm end kind events (map (λ fate. fate_told (told fate) (asks fate)) fates.old)
+        (map (λ fate. fate_told (told fate) (asks fate)) fates.new)) }
 {
-    match first_of(fates, kind) {
-        Some(mut fate) => run_storm(alloc, &mut *fate, start, events, out).status(),
+    match place_of(fates, kind) {
+        Some(place) => run_storm(alloc, &mut *fates[place], start, events, out).status(),
         None => usage(out),
     }
 }

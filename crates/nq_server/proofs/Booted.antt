@@ -20,7 +20,7 @@ use Rattle.nq_server.specs.declared.booting.Begun.{Begun}
 use Rattle.nq_server.specs.declared.received.Received.{Received}
 use Rattle.nq_server.specs.Holding.{Holding, Boots, Reboots}
 use Rattle.nq_server.specs.Sound.{RowsRun, IsOfBoot}
-use Rattle.nq_server.specs.State.{Beside, beside, beside_of, phase_of}
+use Rattle.nq_server.specs.State.{Beside, beside, beside_of, heard_of, phase_of, until_of}
 use Rattle.nq_server.specs.declared.state.Phase.{Phase as Held}
 use Rattle.nq_server.specs.declared.state.Phase.TheVariants as held
 use Rattle.nq_server.specs.declared.state.State.{State}
@@ -129,9 +129,9 @@ remembers p opened longest now last h = by p (opened == 0) h
     by (held.Serving number) false e = absurd (cc)
     by (held.Recovering recovery before) true e = absurd (cc)
     by (held.Recovering recovery before) false e =
-        let until : recovery.until ≡ now + longest + 8 = cc in
-        let heard : recovery.heard ≡ now = cc in
-        ap (λ u. recovering u recovery.heard last) until ∙ ap (λ t. recovering (now + longest + 8) t last) heard
+        let until : until_of recovery ≡ now + longest + 8 = cc in
+        let heard : heard_of recovery ≡ now = cc in
+        ap (λ u. recovering u (heard_of recovery) last) until ∙ ap (λ t. recovering (now + longest + 8) t last) heard
 
 -- a boot that remembers the last table later
 pub beside-remembered : (kept : Kept) (longest now : ℕ) (last : Option Table) (s : State) → beside_of s ≡ beside (boot kept longest now None) → beside_of (record s { phase = with_last s.phase last }) ≡ beside (boot kept longest now last)

@@ -141,7 +141,7 @@ recovery-keeps (Write w seq file block first last push body) now recovery = refl
 recovery-keeps other now recovery = refl
 
 -- a boot that recovers has its longest term, and no row
-pub of-recovering : (longest : ℕ) (phase : Held) (rows : List Row) (recovery : Recovery) (last : Option Table) → phase ≡ Recovering recovery last → IsOfBoot longest phase rows → (recovery.longest ≡ longest) × (rows ≡ [])
+pub of-recovering : (longest : ℕ) (phase : Held) (rows : List Row) (recovery : Recovery) (last : Option Table) → phase ≡ Recovering (Some recovery) last → IsOfBoot longest phase rows → (recovery.longest ≡ longest) × (rows ≡ [])
 of-recovering longest phase rows recovery last is h = subst (λ p. IsOfBoot longest p rows) is h
 
 -- ---- memory that is taken before a request is decided

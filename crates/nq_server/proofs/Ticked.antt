@@ -1,14 +1,14 @@
 -- What a tick does is the protocol's step.
 use Rattle.std.proofs.Common.{◌≡◌, ◌⊎◌, ◌<◌, ◌≤◌, ℕ, Bool, true, false, List, [], ◌∷◌, ◌++◌, Option, Some, None, Ok, Err, if◌then◌else◌, refl, sym, ◌∙◌, ap, subst, arith, append-nil, inl, inr}
-use Rattle.std.specs.Prelude.{IfOk, OnErr, Result, nat_le, reverse}
+use Rattle.std.specs.Prelude.{IfOk, IsSome, OnErr, Result, nat_le, reverse}
 use Rattle.std.specs.List.{find}
-use Rattle.std.specs.Option.{IfSome, option_map}
+use Rattle.std.specs.Option.{ForSome, IfSome, option_map}
 use Rattle.std.proofs.lemmas.Bool.Decides.{nat_tests}
 use Rattle.std.proofs.lemmas.List.Elements.{All-nil}
 use Rattle.nq_base.specs.declared.Entry.{Entry}
 use Rattle.nq_base.specs.declared.Row.{Row}
 use Rattle.nq_base.specs.declared.RowKey.{RowKey}
-use Rattle.nq_boot.specs.Booting.{ended_at, opened_by}
+use Rattle.nq_boot.specs.Booting.{LeavesThen, ended_at, opened_by}
 use Rattle.nq_boot.specs.Recovery.{Recovery}
 use Rattle.nq_datagrams.specs.Sent.{FitsPacket}
 use Rattle.nq_expire.specs.Ending.{Fences, fence_of, fenced, fenced_if, has_ended, table_after}
@@ -25,10 +25,11 @@ use Rattle.nq_server.specs.declared.received.Taken.TheVariants.{Done}
 use Rattle.nq_server.specs.declared.ticks.Opened.{Opened}
 use Rattle.nq_server.specs.declared.state.Phase.{Phase as Held}
 use Rattle.nq_server.specs.declared.state.Phase.TheVariants as held
-use Rattle.nq_server.specs.Sound.{IsOfBoot, RowsRun}
-use Rattle.nq_server.specs.State.{Beside, server_of, phase_of}
-use Rattle.nq_server.specs.Stepping.{Takes, Makes, outcome_of}
-use Rattle.nq_server.specs.Ticking.{EndsRow, EndsFirst, OpensAt, at_tick, at_tick_opened, ended, fence_entries, opened_entries, halt_of}
+use Rattle.nq_server.specs.Sound.{IsOfBoot, IsThere, RowsRun}
+use Rattle.nq_server.specs.State.{Beside, beside_of, server_of, phase_of}
+use Rattle.nq_server.specs.declared.state.State.{State}
+use Rattle.nq_server.specs.Stepping.{LeavesStep, Takes, Makes, outcome_of}
+use Rattle.nq_server.specs.Ticking.{EndsRow, EndsFirst, OpensAt, at_tick, at_tick_opened, ended, fence_entries, halt_of}
 use Rattle.nq_server.proofs.TickedRows.{due-after-reading, filters-commute, run-later, some-run}
 use Rattle.nq_wire.specs.Outbox.{Datagrams}
 
@@ -183,9 +184,13 @@ pub serves-of-boot : (longest : ℕ) (phase : Held) (rows : List Row) → phase_
 serves-of-boot longest (held.Serving number) rows is = tt
 serves-of-boot longest (held.Recovering recovery last) rows is = absurd (cc)
 
--- one that recovers has its longest term, and no row
-pub of-recovering : (longest : ℕ) (phase : Held) (recovery : Recovery) (last : Option Table) (rows : List Row) → phase ≡ held.Recovering recovery last → IsOfBoot longest phase rows → (recovery.longest ≡ longest) × (rows ≡ [])
+-- one that recovers has its recovery, with its longest term, and no row
+pub of-recovering : (longest : ℕ) (phase : Held) (recovery : Option Recovery) (last : Option Table) (rows : List Row) → phase ≡ held.Recovering recovery last → IsOfBoot longest phase rows → IsThere longest recovery × (rows ≡ [])
 of-recovering longest phase recovery last rows is h = subst (λ p. IsOfBoot longest p rows) is h
+
+pub is-some-there : (longest : ℕ) (recovery : Option Recovery) → IsThere longest recovery → IsSome recovery
+is-some-there longest None there = absurd there
+is-some-there longest (Some r) there = refl
 
 -- ---- while the server recovers
 
@@ -215,27 +220,47 @@ module _ (s : Beside) (r : Recovery) (last : Option Table) (is : s.phase ≡ rec
       ap (λ p. tick_in (at_time (server_of s kept) now) p) is ∙ ap (λ b. if b then opens (at_time (server_of s kept) now) r.until r.heard else quiet (at_time (server_of s kept) now)) (reached r.until now h) ∙ ap (λ n. made (record { phase = serving; table = s.table; longest = s.longest; notice = s.notice; time = now }) (record kept { opened = kept.boot; longest = n }) (Entry.O kept.boot r.until r.heard now ∷ [])) (sym longest)
 
   -- what is kept after it
-  pub kept-opened : (kept : Kept) (now : ℕ) → (tick (server_of s kept) now).server.kept ≡ ended_at r now kept
+  kept-opened : (kept : Kept) (now : ℕ) → (tick (server_of s kept) now).server.kept ≡ ended_at r now kept
   kept-opened kept now = by (nat_le r.until now) refl
     where
       by : (b : Bool) → nat_le r.until now ≡ b → (tick (server_of s kept) now).server.kept ≡ (if b then opened_by kept r.longest else kept)
       by true e = ap (λ x. x.server.kept) (open-tick kept now (is-reached r.until now e))
       by false e = ap (λ x. x.server.kept) (wait-tick kept now (is-not-reached r.until now e))
 
-  -- the recovery ended, or waits
-  pub takes-opens : (after : Beside) (now : ℕ) (opened : Option Opened) (told tells : Option Kept) (before count : ℕ) (log log' : EntryList) → OpensAt r now (Ok opened) told tells before count → after ≡ at_tick_opened s opened now → log'.entries ≡ log.entries ++ reverse (opened_entries opened) → (out : Datagrams) → Takes (λ kept. tick (server_of s kept) now) (Ok Done) told tells before count s after out out log log'
-  takes-opens after now None told tells before count log log' h holds enters out =
-      (λ kept e. makes out _ kept [] tells after log log' _ (wait-tick kept now h.0) (h.1 ∙ e) holds enters, h.2)
-  takes-opens after now (Some o) told tells before count log log' h holds enters out = (
+  -- the recovery waits
+  takes-wait : (after : Beside) (now : ℕ) (told tells : Option Kept) (before count : ℕ) (log log' : EntryList) → OpensAt r now (Ok None) told tells before count → after ≡ at_tick s s.table now → log'.entries ≡ log.entries → (out : Datagrams) → Takes (λ kept. tick (server_of s kept) now) (Ok Done) told tells before count s after out out log log'
+  takes-wait after now told tells before count log log' h holds enters out =
+      (λ kept e. makes out _ kept [] tells after log log' _ (wait-tick kept now h.0) (h.1 ∙ e) holds (enters ∙ sym (append-nil _)), h.2)
+
+  -- and it ended
+  takes-opening : (after : Beside) (now : ℕ) (opened : Opened) (told tells : Option Kept) (before count : ℕ) (log log' : EntryList) → OpensAt r now (Ok (Some opened)) told tells before count → after ≡ at_tick_opened s now → log'.entries ≡ log.entries ++ opened.entry ∷ [] → (out : Datagrams) → Takes (λ kept. tick (server_of s kept) now) (Ok Done) told tells before count s after out out log log'
+  takes-opening after now o told tells before count log log' h holds enters out = (
     λ kept e.
         let said = h.1 kept e in
         makes out _ (opened_by kept r.longest) _ tells after log log' _ (open-tick kept now h.0) said.0 holds (enters ∙ ap (λ x. log.entries ++ reverse (x ∷ [])) said.1),
     h.2,
   )
 
-  -- nothing changed at a fault
-  pub takes-no-opening : (now : ℕ) (fault : KeepFault) (told tells : Option Kept) (before count : ℕ) (log : EntryList) → OpensAt r now (Err fault) told tells before count → (step : Kept → ServerStep) (out : Datagrams) → Takes step (Err (halt_of fault)) told tells before count s s out out log log
-  takes-no-opening now Failed told tells before count log h step out =
-      (h.0, h.1, refl, record { first = refl; datagrams = refl; entries = refl })
-  takes-no-opening now Memory told tells before count log h step out =
-      (h.0, h.1, refl, record { first = refl; datagrams = refl; entries = refl })
+-- a tick with the recovery in hand, which is there between two calls
+module _ (s : Beside) (now : ℕ) where
+  pub takes-waits : (o : Option Recovery) (last : Option Table) → s.phase ≡ phase_of (held.Recovering o last) → IsThere s.longest o → (after : Beside) (told tells : Option Kept) (before count : ℕ) (log log' : EntryList) → ForSome o (λ r. OpensAt r now (Ok None) told tells before count) → after ≡ at_tick s s.table now → log'.entries ≡ log.entries → (out : Datagrams) → Takes (λ kept. tick (server_of s kept) now) (Ok Done) told tells before count s after out out log log'
+  takes-waits None last is there after told tells before count log log' h holds enters out = absurd there
+  takes-waits (Some r) last is there after told tells before count log log' h holds enters out =
+      takes-wait s r last is there after now told tells before count log log' (h r refl) holds enters out
+
+  pub takes-opens : (o : Option Recovery) (last : Option Table) → s.phase ≡ phase_of (held.Recovering o last) → IsThere s.longest o → (after : Beside) (opened : Opened) (told tells : Option Kept) (before count : ℕ) (log log' : EntryList) → ForSome o (λ r. OpensAt r now (Ok (Some opened)) told tells before count) → after ≡ at_tick_opened s now → log'.entries ≡ log.entries ++ opened.entry ∷ [] → (out : Datagrams) → Takes (λ kept. tick (server_of s kept) now) (Ok Done) told tells before count s after out out log log'
+  takes-opens None last is there after opened told tells before count log log' h holds enters out = absurd there
+  takes-opens (Some r) last is there after opened told tells before count log log' h holds enters out =
+      takes-opening s r last is there after now opened told tells before count log log' (h r refl) holds enters out
+
+  -- a stop leaves what the tick keeps
+  pub leaves-opened : (o : Option Recovery) (last : Option Table) → s.phase ≡ phase_of (held.Recovering o last) → IsThere s.longest o → (told : Option Kept) (leaves : Option Kept → Type 0) → ForSome o (λ r. LeavesThen (ended_at r now) told leaves) → LeavesStep (λ kept. tick (server_of s kept) now) told leaves
+  leaves-opened None last is there told leaves h = absurd there
+  leaves-opened (Some r) last is there told leaves h =
+      λ kept e found left.
+      or-as found kept _ _ (sym (kept-opened s r last is there kept now)) (h r refl kept e found left)
+
+-- the recovery that has to wait is there again
+pub is-back : (s : State) (recovery left : Option Recovery) (last : Option Table) (now : ℕ) → s.phase ≡ held.Recovering recovery last → left ≡ recovery → beside_of (record s { phase = held.Recovering left last; time = now }) ≡ at_tick (beside_of s) s.table now
+is-back s recovery left last now is same =
+    ap (λ p. beside_of (record s { phase = p; time = now })) (ap (λ r. held.Recovering r last) same ∙ sym is)

@@ -43,7 +43,7 @@ after_fault start.Spent = Received.Spent
 -- the phase of a boot that began, with the table with which the last boot served, where it is known
 abbrev pub phase_begun : Started → (last : Option Table) → Phase
 phase_begun (begins.Serving boot) last = Serving boot
-phase_begun (begins.Recovering recovery) last = Recovering recovery last
+phase_begun (begins.Recovering recovery) last = Recovering (Some recovery) last
 
 -- a phase with this table in mind, where it is one that recovers
 abbrev pub with_last : Phase → (last : Option Table) → Phase

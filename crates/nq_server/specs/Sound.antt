@@ -1,6 +1,7 @@
 -- What holds at every moment of a server.
-use Rattle.std.specs.Prelude.{◌≡◌, ◌<◌, ◌≤◌, ◌^◌, ℕ, ◌+◌, List, [], ◌∷◌, false}
+use Rattle.std.specs.Prelude.{◌≡◌, ◌<◌, ◌≤◌, ◌^◌, ℕ, ◌+◌, List, [], ◌∷◌, Option, Some, None, false}
 use Rattle.nq_base.specs.declared.Row.{Row}
+use Rattle.nq_boot.specs.Recovery.{Recovery}
 use Rattle.nq_model.specs.Profile.{shortest_term, longest_term, most_taken_by_server}
 use Rattle.nq_model.specs.Table.{caches}
 use Rattle.nq_server.specs.declared.state.Phase.{Phase}
@@ -16,10 +17,15 @@ abbrev pub RowsRun : (time : ℕ) → List Row → Type 0
 RowsRun time [] = Unit {0}
 RowsRun time (row ∷ rows) = Runs time row × RowsRun time rows
 
--- a boot that recovers has this longest term, and no row
+-- a recovery is there, and has this longest term
+abbrev pub IsThere : (longest : ℕ) → Option Recovery → Type 0
+IsThere longest None = ⊥
+IsThere longest (Some recovery) = recovery.longest ≡ longest
+
+-- a boot that recovers has its recovery, with this longest term, and no row
 abbrev pub IsOfBoot : (longest : ℕ) → Phase → List Row → Type 0
 IsOfBoot longest (Serving boot) rows = Unit {0}
-IsOfBoot longest (Recovering recovery last) rows = (recovery.longest ≡ longest) × (rows ≡ [])
+IsOfBoot longest (Recovering recovery last) rows = IsThere longest recovery × (rows ≡ [])
 
 -- what holds of a server beside what it keeps: its time is one that a clock shows, its longest term is one that it can be told,
 -- and the rows that let nobody cache run

@@ -1,5 +1,6 @@
 -- What a server holds beside what it keeps, as the protocol sees it.
-use Rattle.std.specs.Prelude.{ℕ}
+use Rattle.std.specs.Prelude.{ℕ, Option, Some, None}
+use Rattle.nq_boot.specs.Recovery.{Recovery}
 use Rattle.nq_model.specs.Kept.{Kept}
 use Rattle.nq_model.specs.Server.{Phase, serving, recovering, Server}
 use Rattle.nq_model.specs.Table.{Table}
@@ -16,10 +17,20 @@ pub record Beside : Type 0 where
   pub notice : ℕ
   pub time : ℕ
 
+-- until when a recovery goes on at least: 0 stands for it while a tick has it in hand
+abbrev pub until_of : Option Recovery → ℕ
+until_of None = 0
+until_of (Some recovery) = recovery.until
+
+-- when a write was last heard during a recovery, likewise
+abbrev pub heard_of : Option Recovery → ℕ
+heard_of None = 0
+heard_of (Some recovery) = recovery.heard
+
 -- the phase as the protocol sees it
 abbrev pub phase_of : Held → Phase
 phase_of (held.Serving boot) = serving
-phase_of (held.Recovering recovery last) = recovering recovery.until recovery.heard last
+phase_of (held.Recovering recovery last) = recovering (until_of recovery) (heard_of recovery) last
 
 -- what is held beside what is kept
 abbrev pub beside_of : State → Beside

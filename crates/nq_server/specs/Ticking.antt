@@ -70,10 +70,10 @@ OpensAt r time (Ok None) told tells before count = (time < r.until) × (tells �
 OpensAt r time (Err keep.Memory) told tells before count = (tells ≡ told) × (count ≡ before)
 OpensAt r time (Err keep.Failed) told tells before count = StaysOrEnds told tells × Rose before count
 
--- what a journal tells of a recovery that ended, if it did
-abbrev pub opened_entries : Option Opened → List Entry
-opened_entries None = []
-opened_entries (Some opened) = opened.entry ∷ []
+-- the recovery once its end was tried: it is there again, except where it ended
+abbrev pub left_of : Option Recovery → Result (Option Opened) KeepFault → Option Recovery
+left_of recovery (Ok (Some opened)) = None
+left_of recovery other = recovery
 
 -- a server after a tick, with this table
 abbrev pub at_tick : Beside → Table → (time : ℕ) → Beside
@@ -85,10 +85,9 @@ at_tick s table time = record {
   time = time;
 }
 
--- a server that recovers after a tick: it serves where its recovery ended
-abbrev pub at_tick_opened : Beside → Option Opened → (time : ℕ) → Beside
-at_tick_opened s None time = at_tick s s.table time
-at_tick_opened s (Some opened) time = record {
+-- a server whose recovery ended in a tick serves
+abbrev pub at_tick_opened : Beside → (time : ℕ) → Beside
+at_tick_opened s time = record {
   phase = serving;
   table = s.table;
   longest = s.longest;

@@ -181,7 +181,11 @@ fn done(state: &mut State, who: Who, request: &Request, length: u32, log: &mut J
     let now = state.time;
     match &mut state.phase {
         Phase::Serving(_) => done_serving(&mut state.table, who, request, length, now, log),
-        Phase::Recovering { recovery, .. } => done_recovering(recovery, who, request, now, log),
+        Phase::Recovering {
+            recovery: Some(recovery),
+            ..
+        } => done_recovering(recovery, who, request, now, log),
+        Phase::Recovering { recovery: None, .. } => unreachable!(),
     }
 }
 

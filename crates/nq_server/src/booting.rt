@@ -91,7 +91,10 @@ fn phase_after(started: Started, last: Option<Table>) -> Phase
 {
     match started {
         Started::Serving(serving) => Phase::Serving(serving),
-        Started::Recovering(recovery) => Phase::Recovering { recovery, last },
+        Started::Recovering(recovery) => Phase::Recovering {
+            recovery: Some(recovery),
+            last,
+        },
     }
 }
 

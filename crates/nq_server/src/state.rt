@@ -9,9 +9,10 @@ use nq_lease::Table;
 pub(crate) enum Phase {
     /// It serves.
     Serving(Serving),
-    /// It recovers; `last` is the table with which the last boot served, where this server knows it. No answer rests on it.
+    /// It recovers; the recovery is there but while a tick has it in hand. `last` is the table with which the last boot served,
+    /// where this server knows it. No answer rests on it.
     Recovering {
-        recovery: Recovering,
+        recovery: Option<Recovering>,
         last: Option<Table>,
     },
 }

@@ -1,19 +1,21 @@
 //! Ticks of a server's clock.
 
-ghost use Rattle.std.specs.Prelude.{◌≡◌, ◌<◌, ◌≤◌, ◌^◌, [], ◌++◌, find, reverse};
+ghost use Rattle.std.specs.Prelude.{◌≡◌, ◌<◌, ◌≤◌, ◌^◌, [], ◌++◌, ◌∷◌, IsSome, find, reverse};
+ghost use Rattle.std.specs.Option.{ForSome};
 ghost use Rattle.nq_boot.specs.Booting.{LeavesThen, ended_at};
+ghost use Rattle.nq_model.specs.Profile.{shortest_term, longest_term};
 ghost use Rattle.nq_model.specs.Server.{serving};
 ghost use Rattle.nq_model.specs.ServerStep.{is_due, tick as ticked};
 ghost use Rattle.nq_server.specs.Sound.{IsSound};
 ghost use Rattle.nq_server.specs.State.{beside_of, phase_of, server_of};
 ghost use Rattle.nq_server.specs.Stepping.{LeavesStep, Takes};
-ghost use Rattle.nq_server.specs.Ticking.{EndsFirst, LeavesEnded, OpensAt, at_tick_opened, fence_entries, halt_of, opened_entries};
+ghost use Rattle.nq_server.specs.Ticking.{EndsFirst, LeavesEnded, OpensAt, at_tick_opened, fence_entries, halt_of, left_of};
 ghost use Rattle.nq_wire.specs.Outbox.{Datagrams};
 
 use crate::received::{Halt, Taken};
 use crate::state::{Phase, State};
 use nq_base::{Entry, Journal, Ticks};
-use nq_boot::{Recovering, Serving};
+use nq_boot::{Finish, Recovering, Serving};
 use nq_expire::{Fence, due, end_reading, end_writing};
 use nq_keeper::{KeepFault, Keeper};
 use nq_lease::Table;
@@ -69,27 +71,45 @@ pub(crate) struct Opened {
     entry: Entry,
 }
 
-/// Ends a recovery whose time has come; None where it has to wait.
+/// Ends a recovery whose time has come; None where it has to wait. It is there again unless it ended.
 fn open<K: Keeper>(
     keeper: &mut K,
-    recovery: &Recovering,
+    recovery: &mut Option<Recovering>,
     now: Ticks,
 ) -> Result<Option<Opened>, KeepFault>
-    ensures opens { OpensAt recovery.now now result (K.content keeper.old) (K.content keeper.new) (K.faults keeper.old) (K.faults keeper.new) }
+    requires { IsSome recovery.old }
+    ensures opens { ForSome recovery.old (λ r. OpensAt r now result (K.content keeper.old) (K.content keeper.new) (K.faults keeper.old) (K.faults keeper.new)) }
+    ensures left { recovery.new ≡ left_of recovery.old result }
     ensures follows { K.follows keeper.old keeper.new }
-    ensures leaves { LeavesThen (ended_at recovery.now now) (K.content keeper.old) (K.leaves keeper.old keeper.new) }
+    ensures leaves { ForSome recovery.old (λ r. LeavesThen (ended_at r now) (K.content keeper.old) (K.leaves keeper.old keeper.new)) }
 {
     let heads = keeper.heads()?;
-    let Some(serving) = recovery.end(keeper, now)? else {
-        return Ok(None);
-    };
-    let entry = Entry::O {
-        boot: heads.boot,
-        until: recovery.until(),
-        heard: recovery.heard(),
-        now,
-    };
-    Ok(Some(Opened { serving, entry }))
+    let held = recovery.take().unwrap();
+    let until = held.until();
+    let heard = held.heard();
+    match held.finish(keeper, now) {
+        Finish::Opened(serving) => Ok(Some(Opened {
+            serving,
+            entry: Entry::O {
+                boot: heads.boot,
+                until,
+                heard,
+                now,
+            },
+        })),
+        Finish::Wait(held) => {
+            *recovery = Some(held);
+            Ok(None)
+        }
+        Finish::Fault(held) => {
+            *recovery = Some(held);
+            Err(KeepFault::Failed)
+        }
+        Finish::Memory(held) => {
+            *recovery = Some(held);
+            Err(KeepFault::Memory)
+        }
+    }
 }
 
 /// Tells of a writing lease that ended, if one did.
@@ -132,22 +152,22 @@ fn end_leases<K: Keeper>(
     }
 }
 
-/// Goes on after a recovery that has ended, or that has to wait.
-fn go_on(state: &mut State, opened: Option<Opened>, now: Ticks, log: &mut Journal)
+/// Serves from now on, as the recovery has ended.
+fn begin_serving(state: &mut State, opened: Opened, now: Ticks, log: &mut Journal)
     requires room { 1 ≤ log.old.spare }
-    requires sound { IsSound state.old }
+    requires long { shortest_term ≤ state.old.longest }
+    requires short { state.old.longest ≤ longest_term }
     requires empty { state.old.table.rows ≡ [] }
     requires early { now < 2 ^ 62 }
-    ensures holds { beside_of state.new ≡ at_tick_opened (beside_of state.old) opened now }
-    ensures entries { log.new.entries ≡ log.old.entries ++ reverse (opened_entries opened) }
+    ensures holds { beside_of state.new ≡ at_tick_opened (beside_of state.old) now }
+    ensures entries { log.new.entries ≡ log.old.entries ++ opened.entry ∷ [] }
     ensures sound { IsSound state.new }
     ensures drawn { state.new.table.drawn ≡ state.old.table.drawn }
 {
+    let Opened { serving, entry } = opened;
     state.time = now;
-    if let Some(Opened { serving, entry }) = opened {
-        state.phase = Phase::Serving(serving);
-        log.push(entry).unwrap();
-    }
+    state.phase = Phase::Serving(serving);
+    log.push(entry).unwrap();
 }
 
 /// Takes in a tick of the server's clock, which now shows this time. At most one change is kept, and no memory is taken.
@@ -167,12 +187,16 @@ pub(crate) fn tick<K: Keeper>(
     ensures follows { K.follows keeper.old keeper.new }
     ensures leaves { LeavesStep (λ kept. ticked (server_of (beside_of state.old) kept) now) (K.content keeper.old) (K.leaves keeper.old keeper.new) }
 {
-    match &state.phase {
+    match &mut state.phase {
         Phase::Serving(_) => end_leases(keeper, state, now, log),
         Phase::Recovering { recovery, .. } => match open(keeper, recovery, now) {
             Err(fault) => Err(halt_of(fault)),
-            Ok(opened) => {
-                go_on(state, opened, now, log);
+            Ok(None) => {
+                state.time = now;
+                Ok(Taken::Done)
+            }
+            Ok(Some(opened)) => {
+                begin_serving(state, opened, now, log);
                 Ok(Taken::Done)
             }
         },

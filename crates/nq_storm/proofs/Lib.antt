@@ -1,5 +1,4 @@
 mod Asking
-mod Finding
 pub mod Counting
 pub mod Playing
 pub mod Spelling

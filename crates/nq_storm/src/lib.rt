@@ -6,7 +6,6 @@
 #![tactic(auto)]
 
 mod counts;
-mod fates;
 mod laws;
 mod moments;
 mod printing;
@@ -15,7 +14,6 @@ mod schedules;
 mod stormed;
 mod storms;
 
-pub use fates::first_of;
 pub use laws::storms_are_lawful;
 pub use running::run_storm;
 pub use schedules::{schedule_text, storm_head};

@@ -38,14 +38,14 @@ fn run_with_fates(rt: &HostRuntime, words: &Words) -> Result<u8, NoMemory> {
     fates.push(Box::new(alloc, LossyFate::new())?)?;
     fates.push(Box::new(alloc, CutFate::new())?)?;
     fates.push(Box::new(alloc, HostileFate::new())?)?;
-    run_with_links(rt, words, fates)
+    run_with_links(rt, words, fates.as_mut_slice())
 }
 
 /// Runs what the words say, with the links of a loop and the link of the party that they name.
 fn run_with_links(
     rt: &HostRuntime,
     words: &Words,
-    fates: Vec<Box<dyn Fate>>,
+    fates: &mut [Box<dyn Fate>],
 ) -> Result<u8, NoMemory> {
     let mut links = links_of(rt, words)?;
     let mut link = UdpLink::new(rt.clone()?, party_of(words));
@@ -58,7 +58,7 @@ fn run_over(
     words: &Words,
     link: &mut UdpLink<HostRuntime>,
     links: &mut [UdpLink<HostRuntime>],
-    fates: Vec<Box<dyn Fate>>,
+    fates: &mut [Box<dyn Fate>],
 ) -> Result<u8, NoMemory>
     requires { (hosts turns : ℕ) → command_of words.now ≡ Some (Command.Loop hosts turns) → length links.old ≡ hosts + 1 }
 {
@@ -67,9 +67,21 @@ fn run_over(
     let mut clock = StdClock::new(rt.clone()?);
     let mut input = StdSource::new(rt.reader());
     let mut out = StdSink::new(io::writer(rt));
-    Ok(run(
+    let status = run(
         alloc, words, &mut input, &mut out, keeper, link, links, &mut clock, fates,
-    ))
+    );
+    tell_taken(rt, link);
+    for link in links.iter() {
+        tell_taken(rt, link);
+    }
+    Ok(status)
+}
+
+/// Says which port another program has, if the link could not have its own.
+fn tell_taken(rt: &HostRuntime, link: &UdpLink<HostRuntime>) {
+    if let Some(port) = link.taken_port() {
+        let _told = eprintln!(rt; "the port {port} is taken");
+    }
 }
 
 /// Whose link is used: a client's where the words name its host, else the server's.
@@ -90,16 +102,25 @@ fn links_of(rt: &HostRuntime, words: &Words) -> Result<Vec<UdpLink<HostRuntime>>
     }
 }
 
-/// The server's link, and then that of each host.
+/// The server's link, and then that of each host. All are bound before the first turn, so that no early datagram is lost; a
+/// turn waits at the server's link alone.
 fn links_among(rt: &HostRuntime, hosts: u32) -> Result<Vec<UdpLink<HostRuntime>>, NoMemory>
     ensures { IfOk result (λ links. vec_len links ≡ hosts + 1) }
 {
     let mut links = Vec::new(rt.alloc());
-    links.push(UdpLink::new(rt.clone()?, Party::Server))?;
+    links.push(opened(UdpLink::new(rt.clone()?, Party::Server)))?;
     for host in 0..hosts {
-        links.push(UdpLink::new(rt.clone()?, Party::Client(Host(host))))?;
+        let link = UdpLink::without_wait(rt.clone()?, Party::Client(Host(host)));
+        links.push(opened(link))?;
     }
     Ok(links)
+}
+
+/// A link whose socket is bound, if the machine lets it.
+fn opened(link: UdpLink<HostRuntime>) -> UdpLink<HostRuntime> {
+    let mut link = link;
+    link.open();
+    link
 }
 
 /// The words behind the program's name; none where one of them is not UTF-8.

@@ -1,6 +1,6 @@
-//! Clean blocks and revisions.
+//! Clean blocks.
 
-use nq_base::{Block, BlockNo, FileId, NoMemory, Rev};
+use nq_base::{Block, BlockNo, FileId, NoMemory};
 use nq_cache::Cache;
 
 const FILE: FileId = FileId(1);
@@ -48,21 +48,5 @@ fn a_full_cache_keeps_other_files_where_one_block_stands_alone(
     assert!(rt; cache.holds(OTHER, BlockNo(0)));
     assert!(rt; cache.holds(FILE, BlockNo(600)));
     assert!(rt; !cache.holds(FILE, BlockNo(510)));
-    Ok(())
-}
-
-#[test]
-fn revisions_stay_where_blocks_go(rt: HostRuntime) -> Result<(), NoMemory> {
-    let mut cache = Cache::new(rt.alloc())?;
-    cache.reserve(2)?;
-    cache.retag(OTHER, Rev(4))?;
-    cache.retag(FILE, Rev(9))?;
-    cache.retag(FILE, Rev(2))?;
-    fill(&mut cache, 2)?;
-    cache.purge(FILE);
-    cache.remove(OTHER, BlockNo(0));
-    assert!(rt; cache.rev(FILE) == Some(Rev(2)));
-    assert!(rt; cache.rev(OTHER) == Some(Rev(4)));
-    assert!(rt; cache.rev(FileId(3)) == None);
     Ok(())
 }

@@ -1,9 +1,7 @@
-//! What a client caches, delays and holds, through the public functions of its parts.
+//! What a client caches and delays where there is no more room, through the public functions of its parts.
 #![tactic(auto)]
 
 #[cfg(test)]
 mod caches;
 #[cfg(test)]
 mod delays;
-#[cfg(test)]
-mod leases;

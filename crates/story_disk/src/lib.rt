@@ -1,7 +1,5 @@
-//! Disks, and changes of a disk through a redo record, stopped at each call of the disk.
+//! A disk in a file of the machine.
 #![tactic(auto)]
 
 #[cfg(test)]
 mod disks;
-#[cfg(test)]
-mod stopping;

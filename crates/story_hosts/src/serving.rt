@@ -39,28 +39,3 @@ fn one_turn_is_served_and_told(rt: HostRuntime) -> Result<(), Fail> {
     assert_eq!(rt; link.sent().len(), 1);
     Ok(())
 }
-
-#[test]
-fn what_is_empty_or_too_long_has_no_reply(rt: HostRuntime) -> Result<(), Fail> {
-    let alloc = rt.alloc();
-    let mut link = MemLink::new(alloc, Party::Server, 4, 400, Vec::new(alloc))?;
-    let mut long = Vec::from_slice(alloc, &LOOKUP)?;
-    long.resize(4402, 0)?;
-    link.bring(alloc, Party::Client(Host(1)), b"")?;
-    link.bring(alloc, Party::Client(Host(1)), &long)?;
-    let (ended, out) = served(&rt, 2, &mut link)?;
-    assert!(rt; ended.status() == 0);
-    assert_eq!(rt; out.bytes(), b"turns 2\n".as_slice());
-    assert!(rt; link.sent().is_empty());
-    Ok(())
-}
-
-#[test]
-fn a_link_that_fails_ends_serving(rt: HostRuntime) -> Result<(), Fail> {
-    let alloc = rt.alloc();
-    let mut link = MemLink::new(alloc, Party::Server, 4, 400, vec![in alloc; 0]?)?;
-    let (ended, out) = served(&rt, 1, &mut link)?;
-    assert!(rt; ended.status() == 8);
-    assert!(rt; out.bytes().is_empty());
-    Ok(())
-}

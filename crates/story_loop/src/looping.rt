@@ -62,18 +62,6 @@ fn a_host_alone_has_no_answer(rt: HostRuntime) -> Result<(), Fail> {
     Ok(())
 }
 
-#[test]
-fn a_link_that_fails_ends_the_loop(rt: HostRuntime) -> Result<(), Fail> {
-    let alloc = rt.alloc();
-    let mut links = links_of(&rt, vec![in alloc; 0]?)?;
-    let mut clock = MemClock::new(vec![in alloc; Ticks(0)]?);
-    let mut out = MemSink::new(alloc, 1000, Vec::new(alloc))?;
-    let ended = run_loop(alloc, 1, 2, &mut links, &mut clock, &mut out);
-    assert_eq!(rt; ended.status(), 8);
-    assert!(rt; out.bytes().is_empty());
-    Ok(())
-}
-
 /// How many bytes there are up to the first line `end`, with that line.
 fn end_of_first(text: &[u8]) -> Option<usize> {
     let end = text

@@ -54,23 +54,6 @@ fn a_host_that_is_not_attached_is_told_so(rt: HostRuntime) -> Result<(), Fail> {
 }
 
 #[test]
-fn what_no_host_sent_is_dropped(rt: HostRuntime) -> Result<(), Fail> {
-    let (turn, link) = served(&rt, Party::Server, Vec::new(rt.alloc()))?;
-    assert!(rt; turn == Turn::Took);
-    assert!(rt; link.sent().is_empty());
-    Ok(())
-}
-
-#[test]
-fn a_link_that_fails_stops_a_turn(rt: HostRuntime) -> Result<(), Fail> {
-    let alloc = rt.alloc();
-    let (turn, link) = served(&rt, Party::Client(Host(1)), vec![in alloc; 1]?)?;
-    assert!(rt; turn == Turn::Link);
-    assert!(rt; link.sent().is_empty());
-    Ok(())
-}
-
-#[test]
 fn a_client_to_which_nothing_comes_has_no_answer(rt: HostRuntime) -> Result<(), Fail> {
     let alloc = rt.alloc();
     let mut out = Outbox::new(alloc, 0)?;

@@ -1,12 +1,19 @@
-//! Replays worked schedules, and prints what each prints and the status with which it ends.
+//! Replays worked schedules, runs staged ones, and judges worked journals.
 //!
-//! Each line of the standard input is a name, a colon and a schedule, in which `;` stands for each line feed. A line `N*L` of a schedule
-//! stands for N lines L. Where the name begins with `unread`, the first read fails, and where it begins with `unput`, the first put.
+//! Each line of the standard input is a verb, a name, a colon and a text. A schedule stands behind `replay` and `staged`, with `;` for each
+//! line feed; a line `N*L` of it stands for N lines L. Where its name begins with `unread`, the first read fails, and where it begins with
+//! `unput`, the first put. What the schedule prints is printed, and the status with which it ends. A journal stands behind `judge`, its
+//! lines parted by `;`; what the judge says of it is printed.
 #![tactic(auto)]
 
+mod judging;
+
+use crate::judging::judge;
 use anyhow::{Context, Result};
+use nq_ending::Ending;
 use nq_io::{MemSink, MemSource};
 use nq_replay::replay;
+use nq_staged::run_staged;
 use std::alloc::Global;
 use std::str;
 
@@ -14,29 +21,41 @@ use std::str;
 const MOST_BYTES: usize = 16_777_216;
 
 /// The most bytes that a story prints.
-const ROOM: usize = 65_536;
+const ROOM: usize = 1_048_576;
 
 fn main(rt: HostRuntime) -> Result<()> {
     for line in rt.lines(rt.alloc()) {
         let line = line?;
-        let (name, schedule) = line.split_once(": ").context("no schedule")?;
-        let text = text_of(rt.alloc(), schedule)?;
-        play(&rt, name, &text)?;
+        let (head, text) = line.split_once(": ").context("no text")?;
+        let (verb, name) = head.split_once(' ').context("no name")?;
+        match verb {
+            "judge" => judge(&rt, name, text)?,
+            _ => play(&rt, verb, name, text)?,
+        }
     }
     Ok(())
 }
 
-/// Replays a schedule, and prints what comes of it.
-fn play(rt: &HostRuntime, name: &str, schedule: &str) -> Result<()> {
+/// Runs a schedule, and prints what comes of it.
+fn play(rt: &HostRuntime, verb: &str, name: &str, lines: &str) -> Result<()> {
     let alloc = rt.alloc();
+    let schedule = text_of(alloc, lines)?;
     let reads = failing(name.starts_with("unread"));
     let puts = failing(name.starts_with("unput"));
     let mut source = MemSource::new(schedule.as_bytes().to_vec(alloc)?, reads.to_vec(alloc)?);
     let mut sink = MemSink::new(alloc, ROOM, puts.to_vec(alloc)?)?;
-    let ending = replay(alloc, &mut source, &mut sink, MOST_BYTES);
+    let ending = run(alloc, verb, &mut source, &mut sink);
     let printed = str::from_utf8(sink.bytes())?;
-    println!(rt; "== {name}\n{printed}status {}", ending.status())?;
+    println!(rt; "== {verb} {name}\n{printed}status {}", ending.status())?;
     Ok(())
+}
+
+/// Runs a schedule, which is staged behind its verb.
+fn run(alloc: Global, verb: &str, source: &mut MemSource, sink: &mut MemSink) -> Ending {
+    match verb {
+        "staged" => run_staged(alloc, source, sink, MOST_BYTES),
+        _ => replay(alloc, source, sink, MOST_BYTES),
+    }
 }
 
 /// The numbers of the calls that fail: the first, or none.

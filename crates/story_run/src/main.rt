@@ -3,7 +3,8 @@
 //! Each line of the standard input is a scene, words, a colon and an input, in which `;` stands for each line feed. In a scene that ends
 //! with `unread` the first read fails, with `unput` the first put, with `unkept` the first call of the keeper, and with `unsent` the first
 //! call of each link. In one that begins with `attached` the server's reply waits that attaches host 0 in its incarnation 1, and in one that
-//! begins with `spent` the keeper keeps the last number that a boot can have.
+//! begins with `spent` the keeper keeps the last number that a boot can have. In one that begins with `long` the input is doubled 24 times,
+//! and in one that begins with `fast` the second reading of the clock is 100,000 ticks after the first.
 #![tactic(auto)]
 
 mod parts;

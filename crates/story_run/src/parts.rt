@@ -35,6 +35,17 @@ pub(crate) fn text_of(alloc: Global, told: &str) -> Result<Vec<u8>, NoMemory> {
     Ok(text)
 }
 
+/// A text that is doubled so many times.
+pub(crate) fn doubled(alloc: Global, text: Vec<u8>, times: u32) -> Result<Vec<u8>, NoMemory> {
+    let mut text = text;
+    for _ in 0..times {
+        let mut copy = Vec::new(alloc);
+        copy.extend_from_slice(&text)?;
+        text.extend_from_slice(&copy)?;
+    }
+    Ok(text)
+}
+
 /// Keeps in an empty keeper that the last boot that there can be was made.
 fn keep_last_boot(keeper: &mut ListKeeper) -> Result<(), KeepFault>
     requires { told_of keeper.old.kept ≡ empty_kept }

@@ -1,6 +1,6 @@
 //! What words do in a scene.
 
-use crate::parts::{failing, keeper_of, link_of, links_of, text_of};
+use crate::parts::{doubled, failing, keeper_of, link_of, links_of, text_of};
 use crate::top::status_of;
 use anyhow::Result;
 use nq_base::{Host, Party, Ticks};
@@ -24,13 +24,23 @@ fn words_of(alloc: Global, said: &str) -> Result<Words> {
 /// The input of a scene.
 fn source_of(alloc: Global, scene: &str, input: &str) -> Result<MemSource> {
     let failing = failing(alloc, scene.ends_with("unread"))?;
-    Ok(MemSource::new(text_of(alloc, input)?, failing))
+    let times = if scene.starts_with("long") { 24 } else { 0 };
+    let text = doubled(alloc, text_of(alloc, input)?, times)?;
+    Ok(MemSource::new(text, failing))
 }
 
 /// The sink of a scene.
 fn sink_of(alloc: Global, scene: &str) -> Result<MemSink> {
     let failing = failing(alloc, scene.ends_with("unput"))?;
     Ok(MemSink::new(alloc, ROOM, failing)?)
+}
+
+/// The clock of a scene.
+fn clock_of(alloc: Global, scene: &str) -> Result<MemClock> {
+    if scene.starts_with("fast") {
+        return Ok(MemClock::new(vec![in alloc; Ticks(0), Ticks(100_000)]?));
+    }
+    Ok(MemClock::new(vec![in alloc; Ticks(0), Ticks(1)]?))
 }
 
 /// Runs what words say in a scene; the status, and what was printed.
@@ -41,7 +51,7 @@ pub(crate) fn play(alloc: Global, scene: &str, said: &str, input: &str) -> Resul
     let keeper = keeper_of(alloc, scene)?;
     let mut link = link_of(alloc, scene, Party::Client(Host(0)))?;
     let mut links = links_of(alloc, scene, &words)?;
-    let mut clock = MemClock::new(vec![in alloc; Ticks(0), Ticks(1)]?);
+    let mut clock = clock_of(alloc, scene)?;
     let status = status_of(
         alloc,
         &words,

@@ -27,5 +27,15 @@ pub(crate) fn status_of<S: Source, K: Sink, P: Keeper + Drop, L: Link, C: Clock>
     let mut fates: Vec<Box<dyn Fate>> = Vec::new(alloc);
     fates.push(Box::new(alloc, SteadyFate::new())?)?;
     fates.push(Box::new(alloc, HostileFate::new())?)?;
-    Ok(run(alloc, words, input, out, keeper, link, links, clock, fates))
+    Ok(run(
+        alloc,
+        words,
+        input,
+        out,
+        keeper,
+        link,
+        links,
+        clock,
+        fates.as_mut_slice(),
+    ))
 }

@@ -1,9 +1,7 @@
-//! Storms as they are printed, replayed, and given to a world event by event.
+//! Storms as they are printed and replayed.
 #![tactic(auto)]
 
 #[cfg(test)]
 mod replayed;
-#[cfg(test)]
-mod stepped;
 #[cfg(test)]
 mod sums;

@@ -3,7 +3,7 @@
 use nq_io::{MemSink, MemSource};
 use nq_replay::replay;
 use nq_storm::run_storm;
-use nq_storm_rules::{Fate, LossyFate, SteadyFate};
+use nq_storm_rules::{Fate, LossyFate};
 use std::test::Fail;
 
 /// How many bytes there are up to the first line `end`, with that line.
@@ -37,14 +37,6 @@ fn is_replayed(rt: &HostRuntime, text: &[u8]) -> Result<bool, Fail> {
     let mut out = MemSink::new(alloc, 4_000_000, Vec::new(alloc))?;
     let ending = replay(alloc, &mut input, &mut out, 16_777_216);
     Ok(ending.status() == 0 && behind.starts_with(out.bytes()))
-}
-
-#[test]
-fn a_steady_storm_is_replayed(rt: HostRuntime) -> Result<(), Fail> {
-    let out = printed(&rt, &mut SteadyFate::new())?;
-    assert!(rt; is_replayed(&rt, out.bytes())?);
-    assert!(rt; printed(&rt, &mut SteadyFate::new())?.bytes() == out.bytes());
-    Ok(())
 }
 
 #[test]

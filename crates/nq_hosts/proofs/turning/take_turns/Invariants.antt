@@ -1,4 +1,5 @@
-use Rattle.nq_hosts.specs.Serving.{Goes, between}
+use Rattle.nq_hosts.proofs.Leaves.{GoneOn}
+use Rattle.nq_hosts.specs.Serving.{between}
 use Rattle.nq_node.specs.Clocks.{clock_told}
 use Rattle.nq_node.specs.Links.{link_told}
 use Rattle.nq_hosts.proofs.turning.take_turns.Given as goal
@@ -8,7 +9,7 @@ invariant-loop-turn g l =
     let clock_of = clock_told g.C.Clock.floor g.C.Clock.readings in
     let link_of = link_told g.L.Link.sent g.L.Link.waiting g.L.Link.faults g.L.Link.receives in
     record {
-      goes : Goes g.K.Keeper.content g.K.Keeper.faults l._turn
+      goes : GoneOn g.K.Keeper.content g.K.Keeper.faults g.K.Keeper.follows g.K.Keeper.leaves l._turn
           (between l.fn.server l.fn.log l.fn.next (clock_of l.fn.clock) (link_of l.fn.link))
           (between l.server l.log l.next (clock_of l.clock) (link_of l.link));
       follows : g.K.Keeper.follows l.fn.server.keeper l.server.keeper;

@@ -6,7 +6,7 @@ use Rattle.nq_run.proofs.HostPromises.{serve_does, serve_usage}
 use Rattle.nq_run.proofs.LoopPromises.{loop_does, loop_lawful, loop_unless, loop_usage}
 use Rattle.nq_run.proofs.Promises.{input_lawful, input_sound}
 use Rattle.nq_run.proofs.StagedPromises.{stages_usage}
-use Rattle.nq_run.proofs.StormPromises.{storm_does, storm_lawful, storm_never, storm_prints, storm_unless, storm_usage}
+use Rattle.nq_run.proofs.StormPromises.{storm_asks, storm_does, storm_lawful, storm_never, storm_prints, storm_unless, storm_usage}
 use Rattle.nq_run.specs.Promised.{most_bytes}
 use Rattle.nq_run.proofs.top.run.Goals as goal
 
@@ -53,41 +53,45 @@ unfolding most_bytes
 returns-in-Some-Staged-clause-stages g c = λ is. c.staged.ensures
 
 pub returns-in-Some-Serve-clause-usage : goal.returns-in-Some-Serve-clause-usage
-returns-in-Some-Serve-clause-usage g c = λ none. absurd (serve_usage _ _ _ _ _ _ _ _ _ _ _ _ _ _ _ c.served.ensures none)
+returns-in-Some-Serve-clause-usage g c = λ none. absurd (serve_usage _ _ _ _ _ _ _ _ _ _ _ _ _ _ _ _ c.served.ensures none)
 
 pub returns-in-Some-Serve-clause-nothing : goal.returns-in-Some-Serve-clause-nothing
-returns-in-Some-Serve-clause-nothing g c = λ none. absurd (serve_usage _ _ _ _ _ _ _ _ _ _ _ _ _ _ _ c.served.ensures none)
+returns-in-Some-Serve-clause-nothing g c = λ none. absurd (serve_usage _ _ _ _ _ _ _ _ _ _ _ _ _ _ _ _ c.served.ensures none)
 
 pub returns-in-Some-Serve-clause-serves : goal.returns-in-Some-Serve-clause-serves
 returns-in-Some-Serve-clause-serves g c = λ turns longest is.
-    serve_does g.P.Keeper.content g.P.Keeper.faults g.P.Keeper.follows (command_of c.args.words.now) c.served.result c.in-Some-Serve.longest
+    serve_does g.P.Keeper.content g.P.Keeper.faults g.P.Keeper.follows g.P.Keeper.leaves (command_of c.args.words.now) c.served.result c.in-Some-Serve.longest
     c.in-Some-Serve.turns longest turns c.args.keeper _ _ _ _ _ _ _ _ (sym c.command.ensures.says ∙ c.in-Some-Serve.is ∙ ap Some c.in-Some-Serve.field-0-is) is
     c.served.ensures
 
 pub returns-in-Some-Storm-clause-usage : goal.returns-in-Some-Storm-clause-usage
 returns-in-Some-Storm-clause-usage g c = λ none.
-    storm_usage (command_of c.args.words.now) c.storm.result c.in-Some-Storm.kind c.in-Some-Storm.start c.in-Some-Storm.events _ _ _ _ _ (sym c.command.ensures.says ∙ c.in-Some-Storm.is ∙ ap Some c.in-Some-Storm.field-0-is) c.storm.ensures none
+    storm_usage (command_of c.args.words.now) c.storm.result c.in-Some-Storm.kind c.in-Some-Storm.start c.in-Some-Storm.events _ _ _ _ _ (sym c.command.ensures.says ∙ c.in-Some-Storm.is ∙ ap Some c.in-Some-Storm.field-0-is) c.storm.ensures.does none
 
 pub returns-in-Some-Storm-clause-never : goal.returns-in-Some-Storm-clause-never
 returns-in-Some-Storm-clause-never g c = λ never.
-    storm_never (command_of c.args.words.now) c.storm.result c.in-Some-Storm.kind c.in-Some-Storm.start c.in-Some-Storm.events _ _ _ _ _ (sym c.command.ensures.says ∙ c.in-Some-Storm.is ∙ ap Some c.in-Some-Storm.field-0-is) c.storm.ensures never
+    storm_never (command_of c.args.words.now) c.storm.result c.in-Some-Storm.kind c.in-Some-Storm.start c.in-Some-Storm.events _ _ _ _ _ (sym c.command.ensures.says ∙ c.in-Some-Storm.is ∙ ap Some c.in-Some-Storm.field-0-is) c.storm.ensures.does never
 
 pub returns-in-Some-Storm-clause-nothing : goal.returns-in-Some-Storm-clause-nothing
 returns-in-Some-Storm-clause-nothing g c = λ none.
-    (refl, storm_prints c.storm.result c.in-Some-Storm.kind c.in-Some-Storm.start c.in-Some-Storm.events _ _ _ _ _ c.storm.ensures none)
+    (refl, storm_prints c.storm.result c.in-Some-Storm.kind c.in-Some-Storm.start c.in-Some-Storm.events _ _ _ _ _ c.storm.ensures.does none)
 
 pub returns-in-Some-Storm-clause-storms : goal.returns-in-Some-Storm-clause-storms
 returns-in-Some-Storm-clause-storms g c = λ kind start events is.
-    storm_does (command_of c.args.words.now) c.storm.result c.in-Some-Storm.kind c.in-Some-Storm.start c.in-Some-Storm.events kind start events _ _ _ _ _ (sym c.command.ensures.says ∙ c.in-Some-Storm.is ∙ ap Some c.in-Some-Storm.field-0-is) is c.storm.ensures
+    storm_does (command_of c.args.words.now) c.storm.result c.in-Some-Storm.kind c.in-Some-Storm.start c.in-Some-Storm.events kind start events _ _ _ _ _ (sym c.command.ensures.says ∙ c.in-Some-Storm.is ∙ ap Some c.in-Some-Storm.field-0-is) is c.storm.ensures.does
 
 pub returns-in-Some-Storm-clause-stormed : goal.returns-in-Some-Storm-clause-stormed
 returns-in-Some-Storm-clause-stormed g c = λ kind start events is.
-    storm_unless c.storm.result c.in-Some-Storm.kind c.in-Some-Storm.start c.in-Some-Storm.events _ _ _ _ _ c.storm.ensures
+    storm_unless c.storm.result c.in-Some-Storm.kind c.in-Some-Storm.start c.in-Some-Storm.events _ _ _ _ _ c.storm.ensures.does
 
 pub returns-in-Some-Storm-clause-lawful : goal.returns-in-Some-Storm-clause-lawful
 returns-in-Some-Storm-clause-lawful g c = λ kind start events is done.
     storm_lawful c.storm.result kind start events _ _ _ _ _
-    (storm_does (command_of c.args.words.now) c.storm.result c.in-Some-Storm.kind c.in-Some-Storm.start c.in-Some-Storm.events kind start events _ _ _ _ _ (sym c.command.ensures.says ∙ c.in-Some-Storm.is ∙ ap Some c.in-Some-Storm.field-0-is) is c.storm.ensures) done
+    (storm_does (command_of c.args.words.now) c.storm.result c.in-Some-Storm.kind c.in-Some-Storm.start c.in-Some-Storm.events kind start events _ _ _ _ _ (sym c.command.ensures.says ∙ c.in-Some-Storm.is ∙ ap Some c.in-Some-Storm.field-0-is) is c.storm.ensures.does) done
+
+pub returns-in-Some-Storm-clause-asked : goal.returns-in-Some-Storm-clause-asked
+returns-in-Some-Storm-clause-asked g c = λ kind start events is.
+    storm_asks (command_of c.args.words.now) c.storm.result c.in-Some-Storm.kind c.in-Some-Storm.start c.in-Some-Storm.events kind start events _ _ (sym c.command.ensures.says ∙ c.in-Some-Storm.is ∙ ap Some c.in-Some-Storm.field-0-is) is c.storm.ensures.asks
 
 pub returns-in-Some-Loop-clause-usage : goal.returns-in-Some-Loop-clause-usage
 returns-in-Some-Loop-clause-usage g c = λ none. absurd (loop_usage c.looped.result c.in-Some-Loop.hosts c.in-Some-Loop.turns _ _ _ _ _ _ _ _ c.looped.ensures none)

@@ -1,0 +1,3 @@
+pub mod Migrated
+pub mod Prepared
+pub mod Head

@@ -1,0 +1,3 @@
+pub mod TornRuns
+pub mod TornHeadline
+pub mod TornMet

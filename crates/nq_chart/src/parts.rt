@@ -1,0 +1,89 @@
+//! Text that is made of parts.
+
+ghost use Rattle.std.specs.Fmt.{decimal};
+ghost use Rattle.std.specs.Prelude.{◌≡◌, ◌++◌, IfOk, OnErr, OnOk, string_bytes};
+ghost use Rattle.std.specs.List.{flat_map};
+ghost use Rattle.nq_chart.specs.Page.{Extends, spelled};
+
+use crate::NoMemory;
+use crate::text::{escape, put};
+use std::alloc::Global;
+
+/// A part of a text.
+#[derive(Clone, Copy)]
+pub enum Part<'a> {
+    /// Text, as it stands.
+    Text(&'a str),
+    /// A number, in decimals.
+    Number(u64),
+}
+
+/// The text that parts make, one behind the other.
+///
+/// # Errors
+///
+/// Only want of memory.
+pub fn text_of(alloc: Global, parts: &[Part]) -> Result<String, NoMemory>
+    ensures { IfOk result (λ text. string_bytes text ≡ flat_map spelled parts.now) }
+{
+    let mut text = String::new(alloc);
+    for part in parts {
+        push_part(alloc, &mut text, part)?;
+    }
+    Ok(text)
+}
+
+/// Adds a part to a text.
+fn push_part(alloc: Global, text: &mut String, part: &Part) -> Result<(), NoMemory>
+    ensures { OnOk result (string_bytes text.new ≡ string_bytes text.old ++ spelled part.now) }
+{
+    match *part {
+        Part::Text(words) => push_words(text, words),
+        Part::Number(number) => push_number(alloc, text, number),
+    }
+}
+
+/// Adds words to a text.
+fn push_words(text: &mut String, words: &str) -> Result<(), NoMemory>
+    ensures { OnOk result (string_bytes text.new ≡ string_bytes text.old ++ words.now) }
+{
+    text.push_str(words)?;
+    Ok(())
+}
+
+/// Adds a number to a text, in decimals.
+fn push_number(alloc: Global, text: &mut String, number: u64) -> Result<(), NoMemory>
+    ensures { OnOk result (string_bytes text.new ≡ string_bytes text.old ++ decimal number) }
+{
+    let digits = format!(in alloc; "{number}")?;
+    push_words(text, digits.as_str())
+}
+
+/// Appends the text that parts make, one behind the other.
+///
+/// # Errors
+///
+/// Only want of memory. Then nothing was appended.
+pub fn put_all(alloc: Global, page: &mut Vec<u8>, parts: &[Part]) -> Result<(), NoMemory>
+    ensures written { OnOk result (page.new.items ≡ page.old.items ++ flat_map spelled parts.now) }
+    ensures refused { OnErr result (page.new.items ≡ page.old.items) }
+    ensures extends { Extends page.old.items page.new.items }
+{
+    let text = text_of(alloc, parts)?;
+    put(page, text.as_str())
+}
+
+/// Appends a text within marks: the parts of the mark before it, the text as `escape` writes it, and the mark behind it.
+pub(crate) fn put_within(
+    alloc: Global,
+    page: &mut Vec<u8>,
+    mark: &[Part],
+    text: &str,
+    end: &str,
+) -> Result<(), NoMemory>
+    ensures { Extends page.old.items page.new.items }
+{
+    put_all(alloc, page, mark)?;
+    escape(page, text)?;
+    put(page, end)
+}

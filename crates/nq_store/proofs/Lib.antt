@@ -1,0 +1,13 @@
+mod Faults
+mod Sought
+mod Rows
+mod Zeroing
+mod Keeping
+mod Committing
+mod Asking
+mod Carrying
+mod Bodies
+pub mod Migrated
+mod Told
+mod Opened
+mod Left

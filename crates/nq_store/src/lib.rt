@@ -1,0 +1,14 @@
+//! What a server keeps, on a disk.
+#![tactic(auto)]
+
+mod examining;
+mod fault;
+mod loading;
+mod migrating;
+mod opening;
+mod store;
+mod writing;
+
+pub use fault::OpenFault;
+pub use nq_format::format;
+pub use store::Store;
