@@ -14,7 +14,7 @@ use Rattle.nq_directory.specs.Prefix.{directory}
 use Rattle.law_names.proofs.Again.{answers-are-read, evicted-are-read, read-dirs-are-read, vacated-are-read}
 use Rattle.nq_listing.specs.declared.DirTag.{DirTag}
 use Rattle.nq_listing.specs.declared.ReadDir.{ReadDir}
-use Rattle.nq_listing.specs.Messages.{Answer, IsAnswer, IsDirTag, IsListing, Listing, answer_bytes, dir_evicted, dir_evicted_bytes, dir_tag_arguments, dir_vacated, dir_vacated_bytes, front_bytes, head_of, page, read_dir, read_dir_arguments, read_dir_bytes, results, wait}
+use Rattle.nq_listing.specs.Messages.{Answer, IsAnswer, IsDirTag, IsListing, IsReadDir, Listing, answer_bytes, dir_evicted, dir_evicted_bytes, dir_tag_arguments, dir_vacated, dir_vacated_bytes, front_bytes, head_of, page, read_dir, read_dir_arguments, read_dir_bytes, results, wait}
 use Rattle.nq_listing.specs.Reading.{call_as, call_by, call_in, dir_evicted_in, dir_tag_by, dir_vacated_in, read_dir_by, read_dir_in, results_by, results_in, results_of, told_at, told_by, told_for, told_in}
 use Rattle.nq_model.specs.Kept.{File, Kept, find_file}
 use Rattle.nq_model.specs.Message.{call, request}
@@ -69,7 +69,8 @@ pub asks : (r : ReadDir) → IsAsking r → IsRead r
 unfolding read_dir_bytes read_dir_arguments
 asks r a =
     let t = same-word r.term in
-    let fits = record { xid = a.xid; who = record { host = a.host; inc = a.inc }; prefix = a.prefix; after = a.after; term = t.fits } in
+    let fits : IsReadDir (record r { term = t.number }) =
+        record { xid = a.xid; who = record { host = a.host; inc = a.inc }; prefix = a.prefix; after = a.after; term = t.fits } in
     record {
       term = t.number;
       reads = ap read_dir_in (same t.number t.same) ∙ read-dirs-are-read (record r { term = t.number }) fits;
@@ -193,7 +194,7 @@ record SameAnswer (a : Answer) : Type 0 where
   is : IsSame a other
 
 same-answer : (a : Answer) → IsTold a → SameAnswer a
-unfolding results
+unfolding results optional boolean
 same-answer wait told = record { other = wait; fits = tt; same = λ inc. refl; is = tt }
 same-answer (page l) told = by l.grant refl
   where
@@ -237,12 +238,15 @@ answer-spelled : (xid inc : ℕ) (a : Answer) → answer_bytes xid inc a ≡ spe
 unfolding answer_bytes
 answer-spelled xid inc a = refl
 
+abbrev IsSaid : Result (ℕ × Answer) Garbage → ℕ → Answer → Type 0
+IsSaid said inc a = said ≡ Ok (inc, a)
+
 -- what a reply says is what its results say
-told-whole : (inc : ℕ) (a : Answer) (said : Result (ℕ × Answer) Garbage) → told_for inc said ≡ Some a → said ≡ Ok (inc, a)
+told-whole : (inc : ℕ) (a : Answer) (said : Result (ℕ × Answer) Garbage) → told_for inc said ≡ Some a → IsSaid said inc a
 told-whole inc a (Err e) h = none-some a h
 told-whole inc a (Ok t) h = by (t.0 == inc) refl h
   where
-    by : (b : Bool) → (t.0 == inc) ≡ b → (if b then Some t.1 else None) ≡ Some a → Ok t ≡ Ok (inc, a)
+    by : (b : Bool) → (t.0 == inc) ≡ b → (if b then Some t.1 else None) ≡ Some a → IsSaid (Ok t) inc a
     by true e f = ap (λ n. Ok (n, t.1)) (same-number t.0 inc e) ∙ ap (λ x. Ok (inc, x)) (some-same t.1 a f)
     by false e f = none-some a f
 
@@ -266,17 +270,15 @@ tells xid inc x i a b low small told reads =
     of : told_at (results i a) ≡ Ok (i, s.other)
     of = ap told_at (s.same i) ∙ results-told x i s.other low small s.fits
 
-    incs : (c : Bool) → (i == inc) ≡ c → x ≡ xid → (if i == inc then Some s.other else None) ≡ Some b → (x ≡ xid) × (i ≡ inc) × IsSame a b
+    incs : (c : Bool) → (i == inc) ≡ c → x ≡ xid → (if c then Some s.other else None) ≡ Some b → (x ≡ xid) × (i ≡ inc) × IsSame a b
     incs true e f h =
-        let one : s.other ≡ b = some-same s.other b (sym (rw e refl) ∙ h) in
+        let one : s.other ≡ b = some-same s.other b h in
         (f, same-number i inc e, subst (IsSame a) one s.is)
-    incs false e f h = none-some b (sym (rw e refl) ∙ h)
+    incs false e f h = none-some b h
 
-    number : (c : Bool) → (x == xid) ≡ c → told_by inc (if x == xid then Some (results i a) else None) ≡ Some b → (x ≡ xid) × (i ≡ inc) × IsSame a b
-    number true e h =
-        incs (i == inc) refl (same-number x xid e)
-        (sym (ap (λ o. told_by inc o) (rw e refl) ∙ ap (told_for inc) of) ∙ h)
-    number false e h = none-some b (sym (ap (λ o. told_by inc o) (rw e refl)) ∙ h)
+    number : (c : Bool) → (x == xid) ≡ c → told_by inc (if c then Some (results i a) else None) ≡ Some b → (x ≡ xid) × (i ≡ inc) × IsSame a b
+    number true e h = incs (i == inc) refl (same-number x xid e) (sym (ap (told_for inc) of) ∙ h)
+    number false e h = none-some b h
 
 pub tells-no-notice : (x i : ℕ) (a : Answer) → x < 2 ^ 32 → i < 2 ^ 32 → IsTold a → dir_evicted_in (answer_bytes x i a) ≡ None
 unfolding dir_evicted_in call_in
