@@ -1,31 +1,29 @@
 -- Events of the inner world keep what holds of every outer world.
-use Rattle.std.proofs.Common.{◌≡◌, ◌≢◌, ◌<◌, ◌≤◌, ◌⊎◌, ℕ, zero, suc, ◌+◌, ◌==◌, Bool, true, false, List, [], ◌∷◌, ◌++◌, Option, Some, None, if◌then◌else◌, drop, length, refl, sym, subst, ap, ◌∙◌, arith, inl, inr, append_assoc}
-use Rattle.std.specs.Prelude.{⊤, slice_get, slice_set}
-use Rattle.nq_base.specs.declared.Call.{Call}
+use Rattle.std.proofs.Common.{◌≡◌, ◌≢◌, ◌<◌, ◌≤◌, ℕ, zero, suc, ◌+◌, ◌==◌, Bool, true, false, List, [], ◌∷◌, ◌++◌, Option, Some, None, drop, length, refl, sym, subst, ap, ◌∙◌, arith, inl, inr}
+use Rattle.std.specs.Prelude.{slice_get, slice_set}
 use Rattle.nq_base.specs.declared.Event.{Event}
 use Rattle.nq_base.specs.declared.Party.{Party}
 use Rattle.nq_base.specs.declared.Tag.{Tag}
 use Rattle.nq_base.specs.declared.Who.{Who}
-use Rattle.nq_promises.specs.StepsAreOfOneHost.{ChangesOnly, stepper}
 use Rattle.nq_model.proofs.Finding.{find-passes}
 use Rattle.nq_model.specs.Client.{Client}
-use Rattle.nq_model.specs.ClientStep.{next_incarnation, restart}
+use Rattle.nq_model.specs.ClientStep.{restart}
 use Rattle.nq_model.specs.Kept.{File, Kept, find_file, host_row, with_files, with_new_file, with_row}
 use Rattle.nq_model.specs.LeaseInterval.{cover_end}
 use Rattle.nq_model.specs.Message.{Datagram, Packet, datagram_of}
 use Rattle.nq_model.specs.Profile.{skew, write_slack}
 use Rattle.nq_model.specs.Server.{Phase, serving, recovering, Server, ServerStep, last_in}
 use Rattle.nq_model.specs.ServerStep.{boot, crash, end_reading, fence, receive, tick}
-use Rattle.nq_model.specs.Skew.{server_ticks, ticks_of}
+use Rattle.nq_model.specs.Skew.{ticks_of}
 use Rattle.nq_model.specs.Table.{Table, empty_table, with_rows}
 use Rattle.nq_model.specs.World.{Head, World, after_server, deliver, deliver_to, sending_host, step}
 use Rattle.nq_name_cache.specs.Names.{Names, new_names}
-use Rattle.nq_name_server.specs.Served.{Served, names_of, new_served, number_of}
+use Rattle.nq_name_server.specs.Served.{Served, names_of, number_of}
 use Rattle.nq_name_server.specs.Serving.{ticks}
 use Rattle.nq_names_run.specs.Outer.{Outer, Outside, of_boot}
 use Rattle.nq_names_run.specs.Outside.{inside, new_side, sends, sends_all}
 use Rattle.law_steps.proofs.OneHost.{of-one-host}
-use Rattle.walk_client.proofs.ClientMoves.{none-some, some-same}
+use Rattle.walk_client.proofs.ClientMoves.{none-some}
 use Rattle.walk_leases.proofs.ServerLives.{booted-kept, booted-phase}
 use Rattle.walk_run.proofs.Clocks.{moment-past, runs-below, same-cover}
 use Rattle.walk_run.proofs.Packets.{In}
@@ -37,13 +35,13 @@ use Rattle.walk_server.proofs.TableFits.{TableFits, no-rows-fit}
 use Rattle.walk_tables.proofs.ServerFacts.{fence-lines}
 use Rattle.walk_tables.proofs.ServerNumbers.{fence-longest}
 use Rattle.law_names.proofs.Chains.{Chained, HasFit, IsServed, Leads, WasDrawn, same-leads}
-use Rattle.law_names.proofs.Claims.{Ground, IsClaimed, Outlasts, Shift}
+use Rattle.law_names.proofs.Claims.{Outlasts, Shift}
 use Rattle.law_names.proofs.Entries.{entries_in, entries_of}
 use Rattle.law_names.proofs.EventHosts.{NamesGo, at-there, forgets, host-goes, restart-who, same-names}
-use Rattle.law_names.proofs.EventShifts.{ChangesIn, KeptGoes, kept-shift, received-kept, same-kept}
+use Rattle.law_names.proofs.EventShifts.{ChangesIn, kept-shift, received-kept, same-kept}
 use Rattle.law_names.proofs.InnerRuns.{IsKnown}
-use Rattle.law_names.proofs.InnerSteps.{AreInner, InnerAfter, inner-inv}
-use Rattle.law_names.proofs.OuterFits.{Inv, InvOf, IsInner, IsNew, IsSide, Stands, ground}
+use Rattle.law_names.proofs.InnerSteps.{AreInner, inner-inv}
+use Rattle.law_names.proofs.OuterFits.{Inv, IsInner, IsNew, Stands, ground}
 use Rattle.law_names.proofs.ServedMoves.{ticks-fit, ticks-lead}
 use Rattle.law_names.proofs.ServerNames.{PhaseGoes, fence-names, receive-phase}
 use Rattle.law_names.proofs.Tables.{stand_ins}
