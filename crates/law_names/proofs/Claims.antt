@@ -211,9 +211,11 @@ list-shifted e after host who now later l shift f = record {
 pub part-shifted : (e after : Ground) (host : ℕ) (who : Who) (now later : ℕ) (r : Request) → ((tag : Tag) → Shift e after host who now later r.part.prefix tag)
     → (o : Option Lease) → PartFits e host who now r o → PartFits after host who later r o
 part-shifted e after host who now later r shift None p = p
-part-shifted e after host who now later r shift (Some lease) p =
-    (p.0, shifted e after host who now later r.part.prefix lease.tag p.0 lease.term (IsUpTo r.part.prefix r.after r.part.names)
-    (rests-upto r.part.prefix r.after r.part.names) (shift lease.tag) p.1)
+part-shifted e after host who now later r shift (Some lease) p = (
+  p.0,
+  shifted e after host who now later r.part.prefix lease.tag p.0 lease.term (IsUpTo r.part.prefix r.after r.part.names)
+      (rests-upto r.part.prefix r.after r.part.names) (shift lease.tag) p.1,
+)
 
 pub page-shifted : (e after : Ground) (host : ℕ) (who : Who) (now later : ℕ) (r : Request) (l : Listing) (g : Grant)
     → Shift e after host who now later r.part.prefix g.tag → PageFits e host who now r l g → PageFits after host who later r l g

@@ -68,7 +68,7 @@ unfolding read_dir_bytes read_dir_arguments
 asks r a =
     let t = same-word r.term in
     let fits : IsReadDir (record r { term = t.number }) =
-        record { xid = a.xid; who = record { host = a.host; inc = a.inc }; prefix = a.prefix; after = a.after; term = t.fits } in
+    record { xid = a.xid; who = record { host = a.host; inc = a.inc }; prefix = a.prefix; after = a.after; term = t.fits } in
     record {
       term = t.number;
       reads = ap read_dir_in (same t.number t.same) ∙ read-dirs-are-read (record r { term = t.number }) fits;
@@ -253,7 +253,7 @@ unfolding told_in
 results-told xid inc a low small fits =
     let whole : (xid == xid) ≡ true = number-same xid xid refl in
     let spelled : results_in xid (answer_bytes xid inc a) ≡ Some (results inc a) =
-        ap (results_in xid) (answer-spelled xid inc a) ∙ results-read xid xid (results inc a) low ∙ rw whole refl in
+    ap (results_in xid) (answer-spelled xid inc a) ∙ results-read xid xid (results inc a) low ∙ rw whole refl in
     told-whole inc a (told_at (results inc a)) (sym (ap (told_by inc) spelled) ∙ answers-are-read xid inc a low small fits)
 
 pub tells : (xid inc x i : ℕ) (a b : Answer) → x < 2 ^ 32 → i < 2 ^ 32 → IsTold a → told_in xid inc (answer_bytes x i a) ≡ Some b
@@ -305,9 +305,9 @@ creates kept host xid who seq name blocks named low same =
     let w : Who = record { host = who.host; inc = i.number } in
     let r : Request = Request.Create w s.number name b.number in
     let bytes : bytes_of (call xid (Request.Create who seq name blocks)) ≡ bytes_of (call x.number r) =
-        same-request xid x.number (Request.Create who seq name blocks) r x.same refl (rw (i.same, s.same, b.same) refl) in
+    same-request xid x.number (Request.Create who seq name blocks) r x.same refl (rw (i.same, s.same, b.same) refl) in
     let is : datagram_in (bytes_of (call xid (Request.Create who seq name blocks))) ≡ request x.number r =
-        ap datagram_in bytes ∙ server-reads-messages (call x.number r) (x.fits, (record { host = low; inc = i.fits }, s.fits, named, b.fits), tt) in
+    ap datagram_in bytes ∙ server-reads-messages (call x.number r) (x.fits, (record { host = low; inc = i.fits }, s.fits, named, b.fits), tt) in
     record { who = w; same = same; changes = ap (changes_as kept host) is ∙ owned host (record { who = w; prefix = directory name }) same }
 
 pub removes : (kept : Kept) (host xid : ℕ) (who : Who) (seq q file : ℕ) (f : File) → find_file file kept.files ≡ Some f → file < 2 ^ 32 → who.host < 2 ^ 32
@@ -321,9 +321,9 @@ removes kept host xid who seq q file f found id low same =
     let w : Who = record { host = who.host; inc = i.number } in
     let r : Request = Request.Remove w s.number c.number file in
     let bytes : bytes_of (call xid (Request.Remove who seq q file)) ≡ bytes_of (call x.number r) =
-        same-request xid x.number (Request.Remove who seq q file) r x.same refl (rw (i.same, s.same, c.same) refl) in
+    same-request xid x.number (Request.Remove who seq q file) r x.same refl (rw (i.same, s.same, c.same) refl) in
     let is : datagram_in (bytes_of (call xid (Request.Remove who seq q file))) ≡ request x.number r =
-        ap datagram_in bytes ∙ server-reads-messages (call x.number r) (x.fits, (record { host = low; inc = i.fits }, s.fits, c.fits, id), tt) in
+    ap datagram_in bytes ∙ server-reads-messages (call x.number r) (x.fits, (record { host = low; inc = i.fits }, s.fits, c.fits, id), tt) in
     record {
       who = w;
       same = same;

@@ -225,7 +225,7 @@ called-names w sides h op host n is = by (slice_get sides h) refl is
         own true g =
             let one : h ≡ host = same-number h host g in
             let new : n ≡ before_call old op =
-                get-set-same sides h (before_call old op) n (ap (slice_get (slice_set sides h (before_call old op))) one ∙ there) in
+            get-set-same sides h (before_call old op) n (ap (slice_get (slice_set sides h (before_call old op))) one ∙ there) in
             keeps old (ap (slice_get sides) (sym one) ∙ e) (subst (KeepsFewer old) (sym new) (before-fewer old op)) (ap (λ x. x.next) new ∙ next op) (λ f. absurd (cc))
             (λ o f. let same : Some op ≡ Some o = sym (rw g refl) ∙ f in new ∙ ap (before_call old) (some-same op o same))
           where

@@ -127,7 +127,7 @@ module _ (most : ℕ) (head : Head) (w : World) (ran : List Event) (known : IsKn
       → ((j : Job) → fits_job j r ≡ true → j ≡ for_call) → IsOfCall r c.call
   of-call host xid seq who r c client same s by sq from inc above job =
       let place : slice_get w.packets number ≡ Some (from_host host (call xid r)) =
-          there ∙ ap (λ y. Some y) (s.is ∙ ap (λ h. from_host h (call xid r)) (sym s.sender ∙ from)) in
+      there ∙ ap (λ y. Some y) (s.is ∙ ap (λ h. from_host h (call xid r)) (sym s.sender ∙ from)) in
       let one = known.opens.under_way host number xid c r seq client (record {
         asks = record { sent = place; by = by ∙ ap (λ y. Some y) (sym same); sequence = sq };
         kept = inc ∙ ap (λ y. y.inc) (sym same);
@@ -170,8 +170,8 @@ module _ (most : ℕ) (head : Head) (w : World) (ran : List Event) (known : IsKn
         let one : by ≡ who = mine by fresh.current.from.host fresh.current.inc on in
         let at : by.host ≡ host = fresh.current.from.host ∙ sym on ∙ here in
         let k = of-call host xid seq by (Request.Create by seq name blocks) c client (own ∙ sym one) (sent-as p xid _ (known.holds.sent p (in-get w.packets number p there)) to is)
-            refl refl (sym on ∙ here) (ap (λ h. (host_row w.server.kept h).inc) (sym at) ∙ sym fresh.current.inc)
-            (subst (λ h. (host_row w.server.kept h).seq < seq) at fresh.above) (λ j h. create-job j by seq name blocks h) in
+        refl refl (sym on ∙ here) (ap (λ h. (host_row w.server.kept h).inc) (sym at) ∙ sym fresh.current.inc)
+        (subst (λ h. (host_row w.server.kept h).seq < seq) at fresh.above) (λ j h. create-job j by seq name blocks h) in
         let lost : IsForgotten old (Call.Create name blocks) = subst (IsForgotten old) k.2 (forgotten k.0 k.1) in
         lost (subst (IsClaimed old) of claimed)
 
@@ -183,8 +183,8 @@ module _ (most : ℕ) (head : Head) (w : World) (ran : List Event) (known : IsKn
         let one : by ≡ who = mine by fresh.current.from.host fresh.current.inc on in
         let at : by.host ≡ host = fresh.current.from.host ∙ sym on ∙ here in
         let k = of-call host xid seq by (Request.Remove by seq q f.id) c client (own ∙ sym one) (sent-as p xid _ (known.holds.sent p (in-get w.packets number p there)) to is)
-            refl refl (sym on ∙ here) (ap (λ h. (host_row w.server.kept h).inc) (sym at) ∙ sym fresh.current.inc)
-            (subst (λ h. (host_row w.server.kept h).seq < seq) at fresh.above) (λ j h. remove-job j by seq q f.id h) in
+        refl refl (sym on ∙ here) (ap (λ h. (host_row w.server.kept h).inc) (sym at) ∙ sym fresh.current.inc)
+        (subst (λ h. (host_row w.server.kept h).seq < seq) at fresh.above) (λ j h. remove-job j by seq q f.id h) in
         let lost : IsForgotten old (Call.Remove f.id) = subst (IsForgotten old) k.2 (forgotten k.0 k.1) in
         lost prefix claimed
 

@@ -101,7 +101,7 @@ more-inner w e =
     let k = of-one-host w e in
     insides-inner (step w e) (length w.packets) (drop (length w.packets) (step w e).packets) (λ i p is.
     let here : slice_get k.sends i ≡ Some p =
-        ap (λ l. slice_get l i) (sym (ap (drop (length w.packets)) k.packets ∙ drop-right w.packets k.sends)) ∙ is in
+    ap (λ l. slice_get l i) (sym (ap (drop (length w.packets)) k.packets ∙ drop-right w.packets k.sends)) ∙ is in
     ap (λ l. slice_get l (length w.packets + i)) k.packets ∙ get-right w.packets k.sends i ∙ here)
 
 more-stays : (w : World) (e : Event) (number : ℕ) (p : Outer) → IsInner w number p → IsInner (step w e) number p
@@ -563,9 +563,9 @@ restart-names w served sides sent ran bound standing inv h host n is = by (h == 
         let after = at-there w host restart k.client k.there in
         let here : slice_get (step w (Event.Restart h)).clients h ≡ Some (restart k.client).client = subst (λ x. slice_get (step w (Event.Restart x)).clients x ≡ Some (restart k.client).client) (sym one) after in
         let new : n ≡ new_names (restart k.client).client.who =
-            get-set-same sides host (new_names (restart k.client).client.who) n
-            (subst (λ x. slice_get (slice_set sides x (new_names (restart k.client).client.who)) host ≡ Some n) one
-            (ap (λ o. slice_get (new_side o sides h) host) (sym here) ∙ is)) in
+        get-set-same sides host (new_names (restart k.client).client.who) n
+        (subst (λ x. slice_get (slice_set sides x (new_names (restart k.client).client.who)) host ≡ Some n) one
+        (ap (λ o. slice_get (new_side o sides h) host) (sym here) ∙ is)) in
         forgets s.0 k.client s.1 k.there (ap (λ x. Event.Restart x) one) (new ∙ ap new_names (restart-who k.client))
 
     some : (o : Option Names) → slice_get sides host ≡ o → h ≡ host → (x : Option Client) → slice_get (new_side x sides h) host ≡ Some n

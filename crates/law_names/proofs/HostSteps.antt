@@ -243,9 +243,10 @@ module _ (w : World) (served : Served) (sides : List Names) (sent : List Outer) 
     mail = record {
       asked = λ q a. own-asked q a;
       told = λ x inc a t.
-          let o = own.mail.told x inc a (told-before host sent (p ∷ []) from host x inc a t) in
-          (subst (λ y. inc ≤ y.inc) (sym who) o.0,
-          λ e. let k = o.1 (e ∙ ap (λ y. y.inc) who) in let one = one-more in omega arith);
+          let o = own.mail.told x inc a (told-before host sent (p ∷ []) from host x inc a t) in (
+            subst (λ y. inc ≤ y.inc) (sym who) o.0,
+            λ e. let k = o.1 (e ∙ ap (λ y. y.inc) who) in let one = one-more in omega arith,
+          );
     };
     next = let k = own.next in let one = one-more in omega arith;
     behind = λ q is. subst (λ x. (x.after < 2 ^ 32) × (length x.part.prefix ≤ 64)) (some-same part q is)

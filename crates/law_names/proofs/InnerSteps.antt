@@ -124,7 +124,7 @@ module _ (w : World) (served : Served) (sides : List Names) (sent : List Outer) 
       let o = inv.hosts host old before in
       let one : o.client ≡ c = some-same o.client c (sym o.there ∙ was) in
       let held : HostFits (ground w standing sent ran) host n c.now =
-          fewer-fits (ground w standing sent ran) host c.now old n fewer (subst (λ x. HostFits (ground w standing sent ran) host old x.now) one o.fits) in
+      fewer-fits (ground w standing sent ran) host c.now old n fewer (subst (λ x. HostFits (ground w standing sent ran) host old x.now) one o.fits) in
       record {
         client = d;
         there = there;

@@ -131,7 +131,7 @@ module _ (o : Outside) (bound : ℕ) (standing : Served) (inv : InvOf o bound st
           let expires = f.expires in
           let runs : now < f.lease.expiry = grind (arith, nat_tests) in
           let right : IsWhole l.prefix l.names o.world.server.kept.files =
-              f.good.right (fit-chains standing l.prefix n.who f.lease.tag _ (f.good.covered (omega arith))) in
+          f.good.right (fit-chains standing l.prefix n.who f.lease.tag _ (f.good.covered (omega arith))) in
           rw yes (ap found_as (right name (sym of)) ∙ kept-found (find_name name o.world.server.kept.files))
 
   of-lists : (n : Names) (now : ℕ) → HostFits (ground o.world standing o.sent o.ran) host n now → (l : Option DirList) → list_of (directory name) n.lists ≡ l

@@ -97,9 +97,11 @@ module _ (codec : IsCodec) (most : ℕ) (head : Head) (o : Outside) (bound : ℕ
       ap (λ x. x.host) (sym s.same) ∙ (known.holds.clients host s.client s.there).here
 
   quiet : Later o bound
-  quiet =
-      (standing, subst (λ l. Inv o.world o.served o.sides l o.ran (bound + 1) standing) (sym (append-nothing o.sent))
-      (quiet-inv codec most head o.world o.served o.sides o.sent o.ran bound standing inv known short here))
+  quiet = (
+    standing,
+    subst (λ l. Inv o.world o.served o.sides l o.ran (bound + 1) standing) (sym (append-nothing o.sent))
+        (quiet-inv codec most head o.world o.served o.sides o.sent o.ran bound standing inv known short here),
+  )
 
   words : (host : ℕ) (n : Names) → slice_get o.sides host ≡ Some n → (n.who.host < 2 ^ 32) × (n.who.inc < 2 ^ 32)
   words host n is =
@@ -179,11 +181,13 @@ module _ (codec : IsCodec) (most : ℕ) (head : Head) (o : Outside) (bound : ℕ
   to-client : (number host : ℕ) (q : Packet) → slice_get o.world.packets number ≡ Some q → q.to ≡ Party.Client host → Later (inner o (Event.Deliver number)) bound
   to-client number host q there to =
       let same : (step o.world (Event.Deliver number)).server ≡ o.world.server =
-          (of-one-host o.world (Event.Deliver number)).server (λ e. no-server host (e ∙ ap receiver_of there ∙ to)) in
-      (standing, as-inner (renewed o (Event.Deliver number) (step o.world (Event.Deliver number))) (length o.world.packets)
-      (drop (length o.world.packets) (step o.world (Event.Deliver number)).packets) (bound + 1) standing
-      (client-event most head o.world o.ran known o.served o.sides o.sent bound standing inv (Event.Deliver number) o.sides same
-      (λ h n is. same-names o.world o.sides (Event.Deliver number) h n is (λ e. absurd (cc)) refl)))
+      (of-one-host o.world (Event.Deliver number)).server (λ e. no-server host (e ∙ ap receiver_of there ∙ to)) in (
+        standing,
+        as-inner (renewed o (Event.Deliver number) (step o.world (Event.Deliver number))) (length o.world.packets)
+            (drop (length o.world.packets) (step o.world (Event.Deliver number)).packets) (bound + 1) standing
+            (client-event most head o.world o.ran known o.served o.sides o.sent bound standing inv (Event.Deliver number) o.sides same
+            (λ h n is. same-names o.world o.sides (Event.Deliver number) h n is (λ e. absurd (cc)) refl)),
+      )
 
   -- a kept file's id is a word
   file-low : (f : File) → find_file f.id o.world.server.kept.files ≡ Some f → f.id < 2 ^ 32
@@ -204,12 +208,14 @@ module _ (codec : IsCodec) (most : ℕ) (head : Head) (o : Outside) (bound : ℕ
   to-serve : (number host : ℕ) (q : Packet) → slice_get o.world.packets number ≡ Some q → q.sender ≡ Party.Client host → q.to ≡ Party.Server
       → CarriesText q.message → IsKnown most head (step o.world (Event.Deliver number)) (Event.Deliver number ∷ o.ran) → IsFree host number (bytes_of q.message)
       → Later (inner o (Event.Deliver number)) bound
-  to-serve number host q there sender to text latter free =
-      (standing, as-inner (renewed o (Event.Deliver number) (step o.world (Event.Deliver number))) (length o.world.packets)
-      (drop (length o.world.packets) (step o.world (Event.Deliver number)).packets) (bound + 1) standing
-      (receive-event most head o.world o.ran known o.served o.sides o.sent bound standing inv number q there to
-      (λ prefix changes x tag chained. alone prefix changes x tag chained) latter
-      (λ h n is. same-names o.world o.sides (Event.Deliver number) h n is (λ e. absurd (cc)) refl)))
+  to-serve number host q there sender to text latter free = (
+    standing,
+    as-inner (renewed o (Event.Deliver number) (step o.world (Event.Deliver number))) (length o.world.packets)
+        (drop (length o.world.packets) (step o.world (Event.Deliver number)).packets) (bound + 1) standing
+        (receive-event most head o.world o.ran known o.served o.sides o.sent bound standing inv number q there to
+        (λ prefix changes x tag chained. alone prefix changes x tag chained) latter
+        (λ h n is. same-names o.world o.sides (Event.Deliver number) h n is (λ e. absurd (cc)) refl)),
+  )
     where
       from : sending_host q.sender ≡ host
       from = ap sending_host sender
@@ -371,10 +377,12 @@ module _ (codec : IsCodec) (most : ℕ) (head : Head) (o : Outside) (bound : ℕ
   step-inv (NameEvent.Plain (Event.Deliver number)) fits k = delivering (slice_get o.sent number) number refl k
   step-inv (NameEvent.Plain (Event.Call host op)) fits k =
       let e = Event.Call host op in
-      let w = step o.world e in
-      (standing, as-inner (renewed o e w) (length o.world.packets) (drop (length o.world.packets) w.packets) (bound + 1) standing
-      (client-event most head o.world o.ran known o.served o.sides o.sent bound standing inv e (at_side (λ n. before_call n op) o.sides host (slice_get o.sides host))
-      ((of-one-host o.world e).server (λ same. no-server host same)) (λ h n is. called-names o.world o.sides host op h n is)))
+      let w = step o.world e in (
+        standing,
+        as-inner (renewed o e w) (length o.world.packets) (drop (length o.world.packets) w.packets) (bound + 1) standing
+            (client-event most head o.world o.ran known o.served o.sides o.sent bound standing inv e (at_side (λ n. before_call n op) o.sides host (slice_get o.sides host))
+            ((of-one-host o.world e).server (λ same. no-server host same)) (λ h n is. called-names o.world o.sides host op h n is)),
+      )
   step-inv (NameEvent.Plain Event.ServerTick) fits k =
       let w = step o.world Event.ServerTick in
       let t = tick-event most head o.world o.ran known o.served o.sides o.sent bound standing inv (inner-after Event.ServerTick k)
@@ -382,20 +390,26 @@ module _ (codec : IsCodec) (most : ℕ) (head : Head) (o : Outside) (bound : ℕ
       (t.0, as-inner (renewed o Event.ServerTick w) (length o.world.packets) (drop (length o.world.packets) w.packets) (bound + 1) t.0 t.1)
   step-inv (NameEvent.Plain (Event.ClientTick host)) fits k =
       let e = Event.ClientTick host in
-      let w = step o.world e in
-      (standing, as-inner (renewed o e w) (length o.world.packets) (drop (length o.world.packets) w.packets) (bound + 1) standing
-      (client-event most head o.world o.ran known o.served o.sides o.sent bound standing inv e o.sides
-      ((of-one-host o.world e).server (λ same. no-server host same)) (λ h n is. same-names o.world o.sides e h n is (λ same. absurd (cc)) refl)))
+      let w = step o.world e in (
+        standing,
+        as-inner (renewed o e w) (length o.world.packets) (drop (length o.world.packets) w.packets) (bound + 1) standing
+            (client-event most head o.world o.ran known o.served o.sides o.sent bound standing inv e o.sides
+            ((of-one-host o.world e).server (λ same. no-server host same)) (λ h n is. same-names o.world o.sides e h n is (λ same. absurd (cc)) refl)),
+      )
   step-inv (NameEvent.Plain (Event.Restart host)) fits k =
       let e = Event.Restart host in
-      let w = step o.world e in
-      (standing, as-inner (renewed o e w) (length o.world.packets) (drop (length o.world.packets) w.packets) (bound + 1) standing
-      (client-event most head o.world o.ran known o.served o.sides o.sent bound standing inv e (new_side (slice_get w.clients host) o.sides host)
-      ((of-one-host o.world e).server (λ same. no-server host same))
-      (λ h n is. restart-names o.world o.served o.sides o.sent o.ran bound standing inv host h n is)))
+      let w = step o.world e in (
+        standing,
+        as-inner (renewed o e w) (length o.world.packets) (drop (length o.world.packets) w.packets) (bound + 1) standing
+            (client-event most head o.world o.ran known o.served o.sides o.sent bound standing inv e (new_side (slice_get w.clients host) o.sides host)
+            ((of-one-host o.world e).server (λ same. no-server host same))
+            (λ h n is. restart-names o.world o.served o.sides o.sent o.ran bound standing inv host h n is)),
+      )
   step-inv (NameEvent.Plain (Event.Crash longest)) fits k =
       let e = Event.Crash longest in
-      let w = step o.world e in
-      (standing, as-inner (renewed o e w) (length o.world.packets) (drop (length o.world.packets) w.packets) (bound + 1) standing
-      (crash-event most head o.world o.ran known o.served o.sides o.sent bound standing inv longest
-      (λ h n is. same-names o.world o.sides e h n is (λ same. absurd (cc)) refl)))
+      let w = step o.world e in (
+        standing,
+        as-inner (renewed o e w) (length o.world.packets) (drop (length o.world.packets) w.packets) (bound + 1) standing
+            (crash-event most head o.world o.ran known o.served o.sides o.sent bound standing inv longest
+            (λ h n is. same-names o.world o.sides e h n is (λ same. absurd (cc)) refl)),
+      )

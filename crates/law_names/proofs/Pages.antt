@@ -131,7 +131,7 @@ named-behind-step : (prefix : List ℕ) (after : ℕ) (name : List ℕ) (f : Fil
     → named name (names_behind prefix after (f ∷ files)) ≡ over after (find_name name (f ∷ files))
 named-behind-step prefix after name f files apart of true c false h i j rest =
     let yes : same_bytes (directory f.name) prefix ≡ true =
-        ap (λ n. same_bytes (directory n) prefix) (same-name f.name name h) ∙ ap (λ p. same_bytes p prefix) of ∙ same-self prefix in
+    ap (λ n. same_bytes (directory n) prefix) (same-name f.name name h) ∙ ap (λ p. same_bytes p prefix) of ∙ same-self prefix in
     absurd (cc)
 named-behind-step prefix after name f files apart of true true true h i j rest = rw (i, j, h, i) refl
 named-behind-step prefix after name f files apart of true false true h i j rest =
@@ -233,8 +233,8 @@ grows most prefix after names page files apart before is name of =
     let up = behind-ascends prefix after files apart in
     let distinct : AreDistinct page = subst AreDistinct (sym is) (taken-distinct most ls (filtered-distinct (is_behind prefix after) files apart)) in
     let mine : named name page ≡ cut (last_id after page) (over after (find_name name files)) =
-        subst (λ p. named name p ≡ cut (last_id after p) (over after (find_name name files))) (sym is)
-        (named-taken most after name ls up ∙ ap (cut (last_id after (take most ls))) (named-behind prefix after name files apart of)) in
+    subst (λ p. named name p ≡ cut (last_id after p) (over after (find_name name files))) (sym is)
+    (named-taken most after name ls up ∙ ap (cut (last_id after (take most ls))) (named-behind prefix after name files apart of)) in
     let later : after ≤ last_id after page = subst (λ p. after ≤ last_id after p) (sym is) (last-above most after ls up) in
     named-puts name page names distinct
     ∙ ap (λ o. first_of o (named name names)) mine

@@ -248,8 +248,8 @@ given-up s t number numbered fits = record {
       apart : is_row_of number t.who.host h.fitting.row ≡ false → h.number ≡ number → who.host ≢ t.who.host
       apart e f g =
           let yes : is_row_of number t.who.host h.fitting.row ≡ true =
-              and_from (h.fitting.row.file == number) (h.fitting.row.who.host == t.who.host)
-              (number-same h.fitting.row.file number (key.0 ∙ f)) (number-same h.fitting.row.who.host t.who.host (key.1 ∙ g)) in
+          and_from (h.fitting.row.file == number) (h.fitting.row.who.host == t.who.host)
+          (number-same h.fitting.row.file number (key.0 ∙ f)) (number-same h.fitting.row.who.host t.who.host (key.1 ∙ g)) in
           absurd (cc)
 
       kept : (row : Row) → h.fitting.row ≡ row → h.number ≡ number → who.host ≡ t.who.host → (b : Bool) → (row.who.inc == t.who.inc && same_tag row.tag t.tag) ≡ b
@@ -258,7 +258,7 @@ given-up s t number numbered fits = record {
       kept row one f g true e =
           let both = and_parts (row.who.inc == t.who.inc) (same_tag row.tag t.tag) e in
           let inc : who.inc ≡ t.who.inc =
-              ap (λ w. w.inc) (sym h.fitting.fits.holder) ∙ ap (λ r. r.who.inc) one ∙ same-number row.who.inc t.who.inc both.0 in
+          ap (λ w. w.inc) (sym h.fitting.fits.holder) ∙ ap (λ r. r.who.inc) one ∙ same-number row.who.inc t.who.inc both.0 in
           let prefix : p ≡ t.prefix = number-one p t.prefix s.directories number (h.numbered ∙ ap (λ n. Some n) f) numbered in
           let on : tag_below row.tag tag ≡ false = ap (λ r. tag_below r.tag tag) (sym one) ∙ h.fitting.fits.goes_on in
           absurd (same-below row.tag t.tag tag both.1 (above g inc prefix) on)
@@ -270,7 +270,7 @@ given-up s t number numbered fits = record {
           let f : h.number ≡ number = sym key.0 ∙ same-number h.fitting.row.file number both.0 in
           let g : who.host ≡ t.who.host = sym key.1 ∙ same-number h.fitting.row.who.host t.who.host both.1 in
           let mine : find_row number t.who.host s.table.rows ≡ Some h.fitting.row =
-              subst (λ n. find_row n t.who.host s.table.rows ≡ Some h.fitting.row) f (subst (λ n. find_row h.number n s.table.rows ≡ Some h.fitting.row) g h.fitting.stands) in
+          subst (λ n. find_row n t.who.host s.table.rows ≡ Some h.fitting.row) f (subst (λ n. find_row h.number n s.table.rows ≡ Some h.fitting.row) g h.fitting.stands) in
           ap (λ o. find_row h.number who.host (vacated_rows t.who number t.tag s.table.rows o)) mine
           ∙ kept h.fitting.row refl f g (h.fitting.row.who.inc == t.who.inc && same_tag h.fitting.row.tag t.tag) refl
 

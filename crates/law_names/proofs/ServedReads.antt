@@ -54,7 +54,7 @@ asker-keeps t who w number file mode tag end own h = record { row = h.row; stand
   dropped : (row : Row) → find_row number who.host t.rows ≡ Some row → (row.who.inc == who.inc) ≡ false → file ≡ number → w.host ≢ who.host
   dropped row found other f same =
       let mine : find_row number who.host t.rows ≡ Some h.row =
-          subst (λ x. find_row x who.host t.rows ≡ Some h.row) f (subst (λ y. find_row file y t.rows ≡ Some h.row) same h.stands) in
+      subst (λ x. find_row x who.host t.rows ≡ Some h.row) f (subst (λ y. find_row file y t.rows ≡ Some h.row) same h.stands) in
       let one : row ≡ h.row = some-same row h.row (sym found ∙ mine) in
       let inc : row.who.inc ≡ who.inc = ap (λ r. r.who.inc) one ∙ ap (λ x. x.inc) h.fits.holder ∙ own same in
       let yes : (row.who.inc == who.inc) ≡ true = number-same row.who.inc who.inc inc in
@@ -144,8 +144,8 @@ module _ (s : Served) (r : ReadDir) (number : ℕ) (t : Table) (fits : TableFits
       let key = granted-key t q want row term granting in
       let there : is_some (find_file q.file (stand_ins (length s.directories))) ≡ true = stands-in number (length s.directories) (number-below r.prefix s.directories number numbered) in
       let put : find_row number r.who.host (put_row row t.rows) ≡ Some row =
-          subst (λ f. find_row f r.who.host (put_row row t.rows) ≡ Some row) key.0
-          (subst (λ h. find_row row.file h (put_row row t.rows) ≡ Some row) key.1 (find-put-same row t.rows)) in
+      subst (λ f. find_row f r.who.host (put_row row t.rows) ≡ Some row) key.0
+      (subst (λ h. find_row row.file h (put_row row t.rows) ≡ Some row) key.1 (find-put-same row t.rows)) in
       let stands : find_row number r.who.host after.table.rows ≡ Some row = ap (λ x. find_row number r.who.host x.rows) table ∙ put in
       let all = fits-granted (stand_ins (length s.directories)) t q want there refl clear fits row term granting in
       let in_order : tag_below row.tag row.since ≡ false = tag-in-order (stand_ins (length s.directories)) t.boot (t.drawn + 1) row (all.fits number r.who.host row put) in

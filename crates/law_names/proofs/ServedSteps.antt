@@ -134,9 +134,11 @@ module _ (w : World) (served : Served) (sides : List Names) (sent : List Outer) 
             list-shifted (ground w standing sent ran) (ground w after (sent ++ more) ran) host n.who s.client.now s.client.now l
             (λ tag. shift host n is s.client.now l.prefix tag) (s.fits.lists l i);
         part = λ r a.
-            let p = s.fits.part r a in
-            (p.0, part-shifted (ground w standing sent ran) (ground w after (sent ++ more) ran) host n.who s.client.now s.client.now r
-            (λ tag. shift host n is s.client.now r.part.prefix tag) r.part.lease p.1);
+            let p = s.fits.part r a in (
+              p.0,
+              part-shifted (ground w standing sent ran) (ground w after (sent ++ more) ran) host n.who s.client.now s.client.now r
+                  (λ tag. shift host n is s.client.now r.part.prefix tag) r.part.lease p.1,
+            );
         pages = λ r l g a t has reads. pages r l g a has reads (either-told host r.xid n.who.inc (page l) t);
       };
       calls = s.calls;

@@ -77,7 +77,7 @@ client-same a b e = cc
 entries-fit : (next : ℕ) (q : File → Bool) (files : List File) → next ≤ most_ids → All (IsFileWithin next) files → All IsEntry (names_of (filter q files))
 entries-fit next q [] low each = All-nil IsEntry
 entries-fit next q (f ∷ files) low each = by (q f)
-  (entries-fit next q files low (All-tail (IsFileWithin next) f files each)) (All-head (IsFileWithin next) f files each)
+    (entries-fit next q files low (All-tail (IsFileWithin next) f files each)) (All-head (IsFileWithin next) f files each)
   where
     by : (b : Bool) → All IsEntry (names_of (filter q files)) → IsFileWithin next f → All IsEntry (names_of (if b then f ∷ filter q files else filter q files))
     by true rest fits = All-cons IsEntry (record { file = f.id; name = f.name }) (names_of (filter q files)) (let b = fits.below_next in omega arith, fits.name) rest
