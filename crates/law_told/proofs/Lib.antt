@@ -1,3 +1,4 @@
+pub mod Causes
 pub mod ClientRests
 pub mod RunAnswers
 pub mod RunTells

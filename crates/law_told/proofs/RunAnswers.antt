@@ -183,7 +183,7 @@ module _ (most : ℕ) (head : Head) (event : Event) (earlier : List Event) (boun
           subst (λ b. Once (HadSo host xid b (Request.Lookup who name)) head earlier) e (subst (λ q. Once (HadSo host xid r q) head earlier) asks was) in
           subst (λ k. ToldSo head earlier value (Some (told k))) (sym is_call)
           (once-map (HadSo host xid (Reply.Lookup i file blocks) (Request.Lookup who name)) (HasNamed name value) head earlier
-          (λ v so. (blocks, subst (λ n. KeepsNamed v.server.kept.files name n blocks) same_value so.1)) had)
+          (λ v so. (blocks, subst (λ n. KeepsNamed v.server.kept.files name n blocks) same_value so.1.0)) had)
       by a (created who seq name blocks i file asks e) g =
           let same_value : file ≡ value = cc in
           let is_call : u.call ≡ Call.Create name blocks = subst (IsFor u c.dirty c.push) asks for in
@@ -193,7 +193,7 @@ module _ (most : ℕ) (head : Head) (event : Event) (earlier : List Event) (boun
           subst (λ k. ToldSo head earlier value (Some (told k))) (sym is_call)
           (once-map (HadSo host xid (Reply.Create i file) (Request.Create who seq name blocks)) (λ v. KeepsNamed v.server.kept.files name value blocks)
           head earlier
-          (λ v so. subst (λ n. KeepsNamed v.server.kept.files name n blocks) same_value so.1) had)
+          (λ v so. subst (λ n. KeepsNamed v.server.kept.files name n blocks) same_value so.1.0) had)
       by a (attributes who file i blocks rev asks e) g =
           let same_value : blocks ≡ value = cc in
           let is_call : u.call ≡ Call.Attr file = subst (IsFor u c.dirty c.push) asks for in
@@ -201,7 +201,7 @@ module _ (most : ℕ) (head : Head) (event : Event) (earlier : List Event) (boun
           subst (λ b. Once (HadSo host xid b (Request.GetAttr who file)) head earlier) e (subst (λ q. Once (HadSo host xid r q) head earlier) asks was) in
           subst (λ k. ToldSo head earlier value (Some (told k))) (sym is_call)
           (once-map (HadSo host xid (Reply.GetAttr i blocks rev) (Request.GetAttr who file)) (HasLength file value) head earlier
-          (λ v so. (rev, subst (λ n. KeepsAt v.server.kept.files file n rev) same_value so.1)) had)
+          (λ v so. (rev, subst (λ n. KeepsAt v.server.kept.files file n rev) same_value so.1.0)) had)
 
   -- ---- each event
 

@@ -3,6 +3,7 @@
 #![tactic(auto)]
 
 ghost use Rattle.law_told.specs.Met.{TellingsAreMet};
+ghost use Rattle.law_told.specs.RefusalsHaveCauses.{RefusalsHaveCauses};
 ghost use Rattle.nq_promises.specs.AnswersTellWhatWas.{AnswersTellWhatWas};
 ghost use Rattle.nq_promises.specs.RepliesTellWhatWas.{RepliesTellWhatWas};
 
@@ -16,6 +17,13 @@ pub fn replies_tell_what_was()
 /// not after the answer: the file of that name had that id, or the file had that length.
 pub fn answers_tell_what_was()
     ensures { AnswersTellWhatWas }
+{}
+
+/// After every schedule, what a refusal says stood at the server at some moment when the request had been sent: NOENT that no file of
+/// that name was kept, STALE that no file of that id was, EXIST that one of that name was, and INVAL that the file had no such block,
+/// or that no file can have such a length.
+pub fn refusals_have_causes()
+    ensures { RefusalsHaveCauses }
 {}
 
 /// There is such a schedule: a client makes a file, looks it up and asks for its attributes.
