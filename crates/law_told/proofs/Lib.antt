@@ -1,3 +1,4 @@
+pub mod AnswerCauses
 pub mod Causes
 pub mod ClientRests
 pub mod RunAnswers

@@ -1,17 +1,25 @@
 -- Each refusal has its cause: what a refusal says stood at the server, in every run. Refusals that put a request off, or that fence a
--- push, speak of leases, and NOSPC of all files together: they are left out here.
+-- push, speak of leases, and those for want of room of all files together: they are left out here.
 use Rattle.std.specs.Prelude.{◌≡◌, ◌⊎◌, ◌<◌, ◌≤◌, ℕ, List, Option, Some, None, slice_get, ⊤}
+use Rattle.nq_base.specs.declared.Entry.{Entry}
+use Rattle.nq_base.specs.declared.Entry.TheVariants.{A}
 use Rattle.nq_base.specs.declared.Event.{Event}
 use Rattle.nq_base.specs.declared.Refusal.{Refusal}
 use Rattle.nq_base.specs.declared.Refusal.TheVariants.{NoEnt, Exist, Inval, Stale}
 use Rattle.nq_base.specs.declared.Reply.{Reply}
 use Rattle.nq_base.specs.declared.Request.{Request}
+use Rattle.nq_base.specs.declared.Said.{Said}
+use Rattle.nq_base.specs.declared.Said.TheVariants.{NoEntry, Exists}
+use Rattle.nq_base.specs.declared.Told.{Told}
+use Rattle.nq_base.specs.declared.Told.TheVariants.{Create, Lookup}
 use Rattle.nq_base.specs.declared.Who.{Who}
+use Rattle.nq_model.specs.Journal.{Throughout, SpeaksOf, call_of}
 use Rattle.nq_model.specs.Kept.{File, blocks_of, find_file, find_name}
 use Rattle.nq_model.specs.Message.{call, reply, asker}
 use Rattle.nq_model.specs.Profile.{most_blocks_of_file}
 use Rattle.nq_model.specs.Server.{to_host}
 use Rattle.nq_model.specs.World.{Head, World, from_host, run}
+use Rattle.nq_promises.specs.Bounds.{InEveryRun}
 use Rattle.nq_promises.specs.RepliesTellWhatWas.{Once}
 
 -- ---- causes
@@ -93,3 +101,24 @@ RefusalsHaveCauses =
     (head : Head) (events : List Event) (place host xid inc : ℕ) (status : Refusal)
     → slice_get (run head events).packets place ≡ Some (to_host host (reply xid (Reply.Refused inc status)))
     → HasCause head events host xid inc status
+
+-- ---- answers
+
+-- why a call was answered so: NOENTRY is said to `lookup` alone, and at some moment no file of its name was kept; STALE to a call that
+-- speaks of a file, and no file of its id was kept; EXISTS to `create` alone, and a file of its name was kept
+abbrev pub IsAnsweredSo : Head → List Event → Said → Option Told → Type 0
+IsAnsweredSo head events NoEntry (Some (Lookup name)) = Once (λ w. LacksName w.server.kept.files name) head events
+IsAnsweredSo head events NoEntry other = ⊥
+IsAnsweredSo head events Said.Stale told = (file : ℕ) × SpeaksOf file told × Once (λ w. LacksFile w.server.kept.files file) head events
+IsAnsweredSo head events Exists (Some (Create name blocks)) = Once (λ w. HasName w.server.kept.files name) head events
+IsAnsweredSo head events Exists other = ⊥
+IsAnsweredSo head events other told = ⊤
+
+-- what is asked of an A at its place
+abbrev pub HasCauseAt : Head → List Event → Entry → (before : List Entry) → Type 0
+HasCauseAt head events (A who q said) before = IsAnsweredSo head events said (call_of before who q)
+HasCauseAt head events other before = ⊤
+
+-- after every schedule within skew. The schedule up to an answer is one, so the moment is not after the answer
+abbrev pub AnswersHaveCauses : Type 0
+AnswersHaveCauses = InEveryRun (λ head events. Throughout (HasCauseAt head events) (run head events).journal)

@@ -2,8 +2,8 @@
 //! in `proofs/`.
 #![tactic(auto)]
 
-ghost use Rattle.law_told.specs.Met.{TellingsAreMet};
-ghost use Rattle.law_told.specs.RefusalsHaveCauses.{RefusalsHaveCauses};
+ghost use Rattle.law_told.specs.Met.{RefusalsAreMet, TellingsAreMet};
+ghost use Rattle.law_told.specs.RefusalsHaveCauses.{AnswersHaveCauses, RefusalsHaveCauses};
 ghost use Rattle.nq_promises.specs.AnswersTellWhatWas.{AnswersTellWhatWas};
 ghost use Rattle.nq_promises.specs.RepliesTellWhatWas.{RepliesTellWhatWas};
 
@@ -26,7 +26,18 @@ pub fn refusals_have_causes()
     ensures { RefusalsHaveCauses }
 {}
 
+/// After every schedule within skew, what an answer that refuses says stood at the server at some moment, and that not after the answer:
+/// `noentry` that no file of the name was kept, `stale` that no file of the id was, and `exists` that one of the name was.
+pub fn answers_have_causes()
+    ensures { AnswersHaveCauses }
+{}
+
 /// There is such a schedule: a client makes a file, looks it up and asks for its attributes.
 pub fn tellings_are_met()
     ensures { TellingsAreMet }
+{}
+
+/// There is such a schedule: a client asks for a name and a file that are not there, makes a file twice, and asks for one of no block.
+pub fn refusals_are_met()
+    ensures { RefusalsAreMet }
 {}
