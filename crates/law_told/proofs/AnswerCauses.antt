@@ -12,7 +12,6 @@ use Rattle.nq_base.specs.declared.Reply.{Reply}
 use Rattle.nq_base.specs.declared.Request.{Request}
 use Rattle.nq_base.specs.declared.Said.{Said}
 use Rattle.nq_base.specs.declared.Told.{Told}
-use Rattle.nq_base.specs.declared.Who.{Who}
 use Rattle.nq_model.specs.Client.{UnderWay}
 use Rattle.nq_model.specs.Hear.{answer_of, inc_of}
 use Rattle.nq_model.specs.Journal.{SpeaksOf, call_of}

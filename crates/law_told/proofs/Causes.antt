@@ -1,5 +1,5 @@
 -- What a reply tells, and the cause where it refuses: of the replies that the server makes.
-use Rattle.std.proofs.Common.{◌≡◌, ◌⊎◌, ◌<◌, ◌≤◌, ℕ, ◌==◌, true, false, ◌||◌, nat_lt, List, [], ◌∷◌, Option, Some, None, length, refl, sym, subst, inl, inr, arith}
+use Rattle.std.proofs.Common.{◌≡◌, ◌⊎◌, ◌<◌, ◌≤◌, ℕ, ◌==◌, true, ◌||◌, nat_lt, List, [], ◌∷◌, Some, None, length, refl, sym, subst, inl, inr, arith}
 use Rattle.std.proofs.lemmas.Bool.Decides.{nat_tests}
 use Rattle.std.specs.Prelude.{slice_get, zero, suc, ⊤}
 use Rattle.nq_base.specs.declared.Refusal.{Refusal}
@@ -13,7 +13,7 @@ use Rattle.nq_model.specs.LeaseInterval.{requested_file}
 use Rattle.nq_model.specs.Profile.{most_blocks_of_file}
 use Rattle.nq_model.specs.Server.{Server}
 use Rattle.nq_promises.specs.RepliesTellWhatWas.{IsSo}
-use Rattle.law_told.specs.RefusalsHaveCauses.{LacksNamed, IsCause, IsNoLength, file_named}
+use Rattle.law_told.specs.RefusalsHaveCauses.{LacksNamed, IsCause, file_named}
 use Rattle.walk_client.proofs.ClientMoves.{some-same}
 use Rattle.walk_server.proofs.ServerOutcomes.{file_changed_by, IsDeclined, bad_length, name_taken, no_room, not_kept, outside, no_row, not_under, not_over, not_while_recovering, bad_size, no_room_to_grow}
 use Rattle.walk_server.proofs.Tests.{there-is}

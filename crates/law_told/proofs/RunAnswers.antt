@@ -35,7 +35,7 @@ use Rattle.walk_run.proofs.RunCases.{client_at}
 use Rattle.walk_run.proofs.Worlds.{Holds, IsAt, to-told, run-holds}
 use Rattle.law_calm.proofs.Meant.{requests-are-meant}
 use Rattle.law_calls.proofs.RunCalls.{calls-known}
-use Rattle.law_synchronized.proofs.OkFacts.{IsFor, KeepsOf}
+use Rattle.law_synchronized.proofs.OkFacts.{KeepsOf}
 use Rattle.law_synchronized.proofs.Standings.{oks-in-every-run}
 use Rattle.law_told.specs.RefusalsHaveCauses.{HasCauseAt, AnswersHaveCauses}
 use Rattle.law_told.proofs.AnswerCauses.{Says, SaysAt, Leases, later-says, telling-says}
@@ -263,14 +263,14 @@ says-all : (P : Entry → List Entry → Type 0) (head : Head) (events : List Ev
 says-all P head events f [] all = tt
 says-all P head events f (e ∷ before) all = (f e before all.0, says-all P head events f before all.1)
 
-tells-at : (head : Head) (events : List Event) (e : Entry) (before : List Entry) → SaysAt head events e before → TellsSoAt head events e before
-tells-at head events (Entry.A who q (Said.OkValue value)) before so = so
-tells-at head events other before so = tt
+tells-at : (head : Head) (events : List Event) (e : Entry) (place : List Entry) → SaysAt head events e place → TellsSoAt head events e place
+tells-at head events (Entry.A who q (Said.OkValue value)) place so = so
+tells-at head events other place so = tt
 
-cause-at : (head : Head) (events : List Event) (e : Entry) (before : List Entry) → SaysAt head events e before → HasCauseAt head events e before
-cause-at head events (Entry.A who q (Said.OkValue value)) before so = tt
-cause-at head events (Entry.A who q answer) before so = so
-cause-at head events other before so = tt
+cause-at : (head : Head) (events : List Event) (e : Entry) (place : List Entry) → SaysAt head events e place → HasCauseAt head events e place
+cause-at head events (Entry.A who q (Said.OkValue value)) place so = tt
+cause-at head events (Entry.A who q answer) place so = so
+cause-at head events other place so = tt
 
 pub answers-tell-what-was : AnswersTellWhatWas
 answers-tell-what-was most head events bounds within =

@@ -13,7 +13,6 @@ use Rattle.nq_base.specs.declared.Who.{Who}
 use Rattle.nq_model.proofs.SkewTest.{skew-test-is-sound}
 use Rattle.nq_model.specs.Message.{reply}
 use Rattle.nq_model.specs.Server.{to_host}
-use Rattle.nq_model.specs.ServerStep.{at_time as at_time_of_serverstep, boot, crash}
 use Rattle.nq_model.specs.World.{Head, run}
 use Rattle.law_told.specs.Met.{TellingsAreMet, RefusalsAreMet}
 use Rattle.walk_run.proofs.GivenRuns.{given-run}

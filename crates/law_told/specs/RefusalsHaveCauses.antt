@@ -88,11 +88,11 @@ pub record HadCause (w : World) (host xid : ℕ) (status : Refusal) (r : Request
 
 -- a refusal answers a request of its number, of the host to which it goes and of the incarnation that it names. At some moment, when
 -- that request had been sent, its cause stood at the server
-pub record HasCause (head : Head) (events : List Event) (host xid inc : ℕ) (status : Refusal) : Type 0 where
+pub record HasCause (head : Head) (events : List Event) (host xid repeated : ℕ) (status : Refusal) : Type 0 where
   pub asks : Request
   pub who : Who
   pub by : asker asks ≡ Some who
-  pub inc : inc ≡ who.inc
+  pub inc : repeated ≡ who.inc
   pub was : Once (λ w. HadCause w host xid status asks) head events
 
 -- after every schedule, whatever was lost, repeated or reordered, and however often the server crashed
