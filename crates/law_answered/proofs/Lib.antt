@@ -1,0 +1,5 @@
+pub mod Ends
+pub mod Calling
+pub mod Hosts
+pub mod EndRounds
+pub mod Syncs
