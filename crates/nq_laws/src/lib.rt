@@ -9,6 +9,7 @@ mod promises;
 pub use cached::{
     cached_at_once_in_every_run, cached_at_once_is_met, cached_reads_change_nothing_else,
 };
+pub use law_answered::{stored_once_answered, syncs_answered_once};
 pub use law_calls::{calls_are_met, ordered_in_every_run, reads_are_of_their_call_in_every_run};
 pub use law_calm::{
     calls_go_on, named_rows_are_to_go, notices_are_answered_at_once, notices_mark_rows,
@@ -53,6 +54,7 @@ pub use law_requests::{
 };
 pub use law_rounds::{recoveries_end, rounds_are_met, rounds_end_quiet};
 pub use law_servers::{recoveries_are_met, recovery_waits, rows_stand_apart};
+pub use law_stays::{files_stay_is_met, files_stay_until_removed};
 pub use law_steps::{steps_are_of_one_host, steps_rest_on_their_host};
 pub use law_synchronized::{
     answers_are_of_their_calls_in_every_run, busy_is_said_at_once_in_every_run,
