@@ -1,3 +1,4 @@
 pub mod Together
 pub mod Sending
 pub mod Taking
+pub mod Timing

@@ -10,7 +10,7 @@ use Rattle.nq_name_server.specs.Served.{Served}
 use Rattle.nq_name_server.specs.Serving.{Serves}
 use Rattle.nq_net.specs.Packets.{Datagram}
 use Rattle.nq_names_run.specs.Outer.{Outer, Outside}
-use Rattle.nq_names_run.specs.Outside.{beside, sends, sends_all, served_as}
+use Rattle.nq_names_run.specs.Outside.{beside, sends, sends_all}
 
 -- the leases on directories, the names by host, what travels with the oldest first, who sends what is due, the datagrams that go out
 -- next, and how many packets of the inner world have gone out
@@ -96,7 +96,7 @@ served_by a s = record a { served = s.served; sender = Party.Server; due = all_s
 
 -- a request was held up, or it was not and nothing was done
 abbrev pub IsHeldUp : (held : Bool) → Option Serves → (old new : AroundOver) → Type 0
-IsHeldUp true (Some s) old new = (w : World) (ran : List Event) → once_sent w ran new ≡ served_as (over w ran old) s
+IsHeldUp true (Some s) old new = new ≡ served_by old s
 IsHeldUp true None old new = ⊥
 IsHeldUp false (Some s) old new = ⊥
 IsHeldUp false None old new = new ≡ old

@@ -24,6 +24,8 @@ use std::marker::Model;
 pub struct Around {
     pub(crate) alloc: Global,
     pub(crate) server: NameServer,
+    /// The time of the server's clock.
+    pub(crate) time: Ticks,
     pub(crate) sides: Vec<NameCache>,
     packets: Packets,
     /// Which packet of the inner world each packet is.
@@ -53,16 +55,22 @@ impl Model for Around {
       gone = a.gone;
     } };
 
-    ghost invariant = { λ a. (length a.packets.datagrams ≡ length a.inner.items) × (a.flushed ≤ length a.due.datagrams) };
+    ghost invariant = { λ a. (length a.packets.datagrams ≡ length a.inner.items) × (a.flushed ≤ length a.due.datagrams) × (a.time ≡ a.server.time) };
 }
 
 impl Around {
-    /// These names and leases: nothing travels yet.
+    /// These names, and these leases at this time of the server's clock: nothing travels yet.
     ///
     /// # Errors
     ///
     /// Only want of memory.
-    pub fn new(alloc: Global, server: NameServer, sides: Vec<NameCache>) -> Result<Around, NoMemory>
+    pub fn new(
+        alloc: Global,
+        server: NameServer,
+        time: Ticks,
+        sides: Vec<NameCache>,
+    ) -> Result<Around, NoMemory>
+        requires { server.time ≡ time }
         ensures { IfOk result (λ a. a ≡ new_around server sides.items) }
     {
         let packets = Packets::new(alloc)?;
@@ -70,6 +78,7 @@ impl Around {
         Ok(Around {
             alloc,
             server,
+            time,
             sides,
             packets,
             inner: Vec::new(alloc),

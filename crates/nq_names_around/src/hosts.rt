@@ -45,7 +45,7 @@ impl Around {
     }
 
     /// Whether a host is there.
-    fn is_there(&self, host: Host) -> bool
+    pub fn is_there(&self, host: Host) -> bool
         ensures { IsTrue result ↔ (host < length self.now.sides) }
     {
         (host.0 as usize) < self.sides.len()
@@ -132,20 +132,22 @@ impl Around {
         Ok(())
     }
 
-    /// A host that is there started again as this incarnation: it keeps no names.
+    /// A host started again as this incarnation: it keeps no names. One that is not there keeps none anyway.
     pub fn restart(&mut self, host: Host, who: Who)
-        requires { host < length self.old.sides }
         ensures { self.new ≡ record self.old { sides = slice_set self.old.sides host (new_names who) } }
     {
-        self.sides[host.0 as usize].restart(who);
+        if self.is_there(host) {
+            self.sides[host.0 as usize].restart(who);
+        }
     }
 
-    /// A user of a host that is there is about to make this call: the names that it may change are forgotten.
+    /// A user of a host is about to make this call: the names that it may change are forgotten, if the host is there.
     pub fn before_call(&mut self, host: Host, call: &Call)
-        requires { host < length self.old.sides }
         ensures { self.new ≡ record self.old { sides = at_side (λ n. before_call n call.now) self.old.sides host (slice_get self.old.sides host) } }
     {
-        self.sides[host.0 as usize].before_call(call);
+        if self.is_there(host) {
+            self.sides[host.0 as usize].before_call(call);
+        }
     }
 }
 

@@ -8,6 +8,7 @@
 mod around;
 mod hosts;
 mod packets;
+mod serving;
 
 pub use around::Around;
 pub use packets::Travelling;
