@@ -1,5 +1,5 @@
 -- Leases on directories as the server's side has them: chains, and rows that fit, in each of its steps.
-use Rattle.std.proofs.Common.{◌≡◌, ◌≢◌, ◌<◌, ◌≤◌, ℕ, zero, suc, ◌+◌, ◌==◌, Bool, true, false, not, ◌&&◌, nat_lt, List, [], ◌∷◌, ◌++◌, Option, Some, None, if◌then◌else◌, is_some, length, refl, sym, subst, ap, ◌∙◌, arith, inl, inr}
+use Rattle.std.proofs.Common.{◌≡◌, ◌<◌, ◌≤◌, ℕ, suc, ◌+◌, Bool, true, false, not, nat_lt, List, [], ◌∷◌, ◌++◌, Some, None, if◌then◌else◌, is_some, length, refl, sym, subst, ap, ◌∙◌, arith, inl, inr}
 use Rattle.std.specs.List.{position, prefix_len}
 use Rattle.std.proofs.lemmas.Bool.Decides.{nat_tests}
 use Rattle.nq_base.specs.declared.Mode.{Mode}
@@ -8,9 +8,9 @@ use Rattle.nq_base.specs.declared.Tag.{Tag}
 use Rattle.nq_base.specs.declared.Who.{Who}
 use Rattle.nq_directory.proofs.Called.{same-name, same-self}
 use Rattle.nq_model.specs.Kept.{find_file}
-use Rattle.nq_model.specs.LeaseInterval.{claim_of, HasFitting, is_at_least}
+use Rattle.nq_model.specs.LeaseInterval.{claim_of, HasFitting}
 use Rattle.nq_model.specs.Profile.{same_bytes}
-use Rattle.nq_model.specs.Table.{Table, caches, tag_below, find_row}
+use Rattle.nq_model.specs.Table.{caches, tag_below, find_row}
 use Rattle.nq_name_server.specs.Served.{Served, number_of}
 use Rattle.walk_leases.proofs.Covers.{GoesOnAt, fitting-goes-on}
 use Rattle.walk_run.proofs.Packets.{In}

@@ -1,5 +1,5 @@
 -- What a host was granted on a directory, and how it stays right.
-use Rattle.std.proofs.Common.{◌≡◌, ◌<◌, ◌≤◌, ◌⊎◌, ℕ, ◌+◌, Bool, true, false, List, [], ◌∷◌, ◌++◌, Option, Some, None, length, nat_lt, refl, sym, subst, ap, ◌∙◌, arith, inl, inr}
+use Rattle.std.proofs.Common.{◌≡◌, ◌<◌, ◌≤◌, ◌⊎◌, ℕ, ◌+◌, true, List, [], Option, Some, None, length, nat_lt, refl, ap, ◌∙◌, arith, inl, inr}
 use Rattle.std.specs.Prelude.{⊤}
 use Rattle.nq_base.specs.declared.Call.{Call}
 use Rattle.nq_base.specs.declared.Event.{Event}
@@ -13,7 +13,7 @@ use Rattle.nq_listing.specs.declared.DirTag.{DirTag}
 use Rattle.nq_listing.specs.declared.ReadDir.{ReadDir}
 use Rattle.nq_listing.specs.Messages.{Answer, Listing, page, most_names}
 use Rattle.nq_listing.specs.Reading.{read_dir_in, dir_vacated_in, dir_evicted_in, told_in}
-use Rattle.nq_model.specs.Client.{Client, Lease, UnderWay}
+use Rattle.nq_model.specs.Client.{Lease}
 use Rattle.nq_model.specs.Kept.{File, Kept, host_row}
 use Rattle.nq_model.specs.LeaseInterval.{cover_end}
 use Rattle.nq_model.specs.Server.{Phase, serving, recovering}

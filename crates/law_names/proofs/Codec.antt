@@ -1,5 +1,5 @@
 -- What is asked of the bytes of the messages.
-use Rattle.std.proofs.Common.{◌≡◌, ◌<◌, ◌≤◌, ◌^◌, ℕ, true, List, Option, Some, None, length}
+use Rattle.std.proofs.Common.{◌≡◌, ◌<◌, ◌≤◌, ◌^◌, ℕ, true, List, Some, None, length}
 use Rattle.std.specs.Prelude.{⊤, All}
 use Rattle.nq_base.specs.Name.{IsName}
 use Rattle.nq_base.specs.declared.Grant.{Grant}
@@ -16,7 +16,7 @@ use Rattle.nq_listing.specs.Reading.{dir_evicted_in, dir_vacated_in, read_dir_in
 use Rattle.nq_model.specs.Kept.{File, Kept, find_file}
 use Rattle.nq_model.specs.Message.{call}
 use Rattle.nq_name_cache.specs.Asking.{is_reading}
-use Rattle.nq_names_run.specs.Outside.{Changes, changes_as}
+use Rattle.nq_names_run.specs.Outside.{changes_as}
 
 -- the numbers of a READDIRLOOK but its term are words
 pub record IsAsking (r : ReadDir) : Type 0 where

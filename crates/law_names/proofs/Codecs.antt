@@ -1,11 +1,9 @@
 -- What is asked of the bytes of the messages holds of them.
-use Rattle.std.proofs.Common.{◌≡◌, ◌<◌, ◌≤◌, ◌^◌, ℕ, ◌==◌, Bool, true, false, List, [], ◌∷◌, ◌++◌, Option, Some, None, Ok, Err, if◌then◌else◌, length, refl, sym, subst, ap, ◌∙◌, arith}
-use Rattle.std.specs.Prelude.{⊤, All, IfSome, Result}
-use Rattle.std.proofs.lemmas.Bool.{eq-eqb}
+use Rattle.std.proofs.Common.{◌≡◌, ◌<◌, ◌^◌, ℕ, ◌==◌, Bool, true, false, List, ◌++◌, Option, Some, None, Ok, Err, if◌then◌else◌, refl, sym, subst, ap, ◌∙◌, arith}
+use Rattle.std.specs.Prelude.{IfSome, Result}
 use Rattle.nq_base.specs.Name.{IsName}
 use Rattle.nq_base.specs.declared.Grant.{Grant}
 use Rattle.nq_base.specs.declared.Request.{Request}
-use Rattle.nq_base.specs.declared.Tag.{Tag}
 use Rattle.nq_base.specs.declared.Who.{Who}
 use Rattle.nq_datagrams.proofs.Readers.{server-reads-messages}
 use Rattle.nq_datagrams.specs.Incoming.{datagram_in}
@@ -14,21 +12,21 @@ use Rattle.nq_directory.specs.Prefix.{directory}
 use Rattle.law_names.proofs.Again.{answers-are-read, evicted-are-read, read-dirs-are-read, vacated-are-read}
 use Rattle.nq_listing.specs.declared.DirTag.{DirTag}
 use Rattle.nq_listing.specs.declared.ReadDir.{ReadDir}
-use Rattle.nq_listing.specs.Messages.{Answer, IsAnswer, IsDirTag, IsListing, IsReadDir, Listing, answer_bytes, dir_evicted, dir_evicted_bytes, dir_tag_arguments, dir_vacated, dir_vacated_bytes, front_bytes, head_of, page, read_dir, read_dir_arguments, read_dir_bytes, results, wait}
+use Rattle.nq_listing.specs.Messages.{Answer, IsAnswer, IsDirTag, IsReadDir, answer_bytes, dir_evicted, dir_evicted_bytes, dir_tag_arguments, dir_vacated, dir_vacated_bytes, front_bytes, head_of, page, read_dir, read_dir_arguments, read_dir_bytes, results, wait}
 use Rattle.nq_listing.specs.Reading.{call_as, call_by, call_in, dir_evicted_in, dir_tag_by, dir_vacated_in, read_dir_by, read_dir_in, results_by, results_in, results_of, told_at, told_by, told_for, told_in}
 use Rattle.nq_model.specs.Kept.{File, Kept, find_file}
 use Rattle.nq_model.specs.Message.{call, request}
 use Rattle.nq_name_cache.specs.Asking.{is_reading}
-use Rattle.nq_names_run.specs.Outside.{Changes, changes_as, changes_by, changes_of, own_changes}
+use Rattle.nq_names_run.specs.Outside.{Changes, changes_as, changes_of, own_changes}
 use Rattle.nq_rpc.proofs.Messages.{message_again, null_fits}
 use Rattle.nq_rpc.specs.Message.{call_with, null, numbers, reply_with, spelling}
 use Rattle.nq_wire.specs.Parts.{grant_bytes, head, optional, tag_bytes, IsGrant}
 use Rattle.nq_wire.specs.Request.{arguments, procedure_of}
 use Rattle.nq_wire.specs.declared.Garbage.{Garbage}
-use Rattle.nq_xdr.specs.Item.{boolean, hyper, opaque, word}
+use Rattle.nq_xdr.specs.Item.{boolean, opaque, word}
 use Rattle.walk_client.proofs.ClientMoves.{none-some, some-same}
 use Rattle.walk_server.proofs.Rows.{number-same, same-number}
-use Rattle.law_names.proofs.Codec.{IsAsking, IsChange, IsCodec, IsGiving, IsNoticed, IsNoticing, IsRead, IsSame, IsTelling, IsTold}
+use Rattle.law_names.proofs.Codec.{IsAsking, IsChange, IsCodec, IsGiving, IsNoticed, IsNoticing, IsRead, IsSame, IsTold}
 use Rattle.law_names.proofs.SameNumbers.{same-hyper, same-word}
 
 -- ---- calls

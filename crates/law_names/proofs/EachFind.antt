@@ -1,25 +1,23 @@
 -- A host that knows of a name knows what is kept, after every schedule with lists.
-use Rattle.std.proofs.Common.{◌≡◌, ◌≢◌, ◌≤◌, ◌⊎◌, ℕ, zero, suc, ◌+◌, List, [], ◌∷◌, Option, Some, None, length, map, refl, sym, subst, ap, ◌∙◌, arith, inl, inr}
-use Rattle.std.specs.Prelude.{All, slice_get}
+use Rattle.std.proofs.Common.{◌≡◌, ◌≤◌, ◌⊎◌, ℕ, zero, suc, ◌+◌, List, [], ◌∷◌, Some, None, length, map, refl, sym, subst, ap, ◌∙◌, arith, inl, inr}
+use Rattle.std.specs.Prelude.{slice_get}
 use Rattle.nq_base.specs.declared.Event.{Event}
 use Rattle.nq_promises.specs.Bounds.{KeepsBounds}
 use Rattle.nq_promises.specs.OneRequestPerSequence.{OneOpenInEveryRun}
 use Rattle.nq_model.specs.Client.{Client}
-use Rattle.nq_model.specs.Journal.{Each}
 use Rattle.nq_model.specs.ClientStep.{attached_client, fresh_client}
 use Rattle.nq_model.specs.ServerStep.{boot}
 use Rattle.nq_model.specs.Skew.{IsWithinSkew}
-use Rattle.nq_model.specs.Stepped.{most_events}
 use Rattle.nq_model.specs.Table.{empty_table}
-use Rattle.nq_model.specs.World.{Head, World, first_clients, start}
+use Rattle.nq_model.specs.World.{Head, first_clients, start}
 use Rattle.nq_name_cache.specs.Names.{Names, first_number, new_names}
 use Rattle.nq_name_server.specs.Served.{Served}
-use Rattle.nq_names_run.proofs.Inner.{Core, core-listing, delivery-cases, inner-ran, runs-inside}
+use Rattle.nq_names_run.proofs.Inner.{core-listing, delivery-cases, inner-ran, runs-inside}
 use Rattle.nq_names_run.specs.declared.event.NameEvent.{NameEvent}
 use Rattle.nq_names_run.specs.Lasting.{EachListLasts}
 use Rattle.nq_names_run.specs.Outer.{Outside, of_boot, outside_start}
 use Rattle.nq_names_run.specs.Outside.{outside_run, outside_step}
-use Rattle.nq_names_run.specs.Theorem.{BringsPrefix, EachFindIsKept, IsNamesSchedule}
+use Rattle.nq_names_run.specs.Theorem.{EachFindIsKept, IsNamesSchedule}
 use Rattle.law_bounds.specs.Within.{AreGiven, NumbersStayWithin}
 use Rattle.walk_client.proofs.ClientMoves.{none-some, some-same}
 use Rattle.walk_run.proofs.Clocks.{within-before}
@@ -29,7 +27,7 @@ use Rattle.walk_server.proofs.TableFits.{no-rows-fit}
 use Rattle.law_names.proofs.Codec.{IsCodec}
 use Rattle.law_names.proofs.HostMoves.{no-names}
 use Rattle.law_names.proofs.InnerRuns.{IsKnown, known}
-use Rattle.law_names.proofs.OuterFits.{Inv, InvOf, IsSide, finds-kept, ground, lasts}
+use Rattle.law_names.proofs.OuterFits.{InvOf, IsSide, finds-kept, ground, lasts}
 use Rattle.law_names.proofs.OuterSteps.{step-inv}
 use Rattle.law_names.proofs.Tables.{stand_ins}
 

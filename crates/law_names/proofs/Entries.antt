@@ -1,7 +1,7 @@
 -- The files of a directory with their names, as all that is said of the directory rests on them.
-use Rattle.std.proofs.Common.{◌≡◌, ◌<◌, ℕ, ◌==◌, Bool, true, false, not, nat_lt, List, [], ◌∷◌, ◌++◌, Option, Some, None, if◌then◌else◌, length, take, refl, sym, subst, ap, ◌∙◌, arith, inl, inr}
+use Rattle.std.proofs.Common.{◌≡◌, ◌<◌, ℕ, ◌==◌, Bool, true, false, nat_lt, List, [], ◌∷◌, ◌++◌, Option, Some, None, if◌then◌else◌, take, refl, sym, ap, ◌∙◌, arith, inl, inr}
 use Rattle.std.specs.Prelude.{All}
-use Rattle.std.specs.List.{find, filter}
+use Rattle.std.specs.List.{filter}
 use Rattle.std.proofs.lemmas.Bool.Decides.{nat_tests}
 use Rattle.std.proofs.lemmas.List.Elements.{All-head, All-tail}
 use Rattle.nq_directory.specs.declared.FileName.{FileName}
@@ -12,7 +12,7 @@ use Rattle.nq_model.proofs.Finding.{decided, same-number}
 use Rattle.nq_model.specs.Change.{AreApart}
 use Rattle.nq_model.specs.Kept.{File, find_file, find_name, replace_file, drop_file}
 use Rattle.nq_model.specs.Profile.{same_bytes}
-use Rattle.nq_name_server.specs.Served.{is_behind, name_of, names_of, names_behind}
+use Rattle.nq_name_server.specs.Served.{name_of, names_of, names_behind}
 use Rattle.nq_names_run.specs.Lasting.{id_of}
 use Rattle.law_names.proofs.Pages.{upto, cut, IsUpTo, IsWhole, IsPage}
 

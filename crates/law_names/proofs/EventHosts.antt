@@ -1,28 +1,27 @@
 -- What an event of the inner world does to each client, and to the names that its host keeps.
-use Rattle.std.proofs.Common.{◌≡◌, ◌≢◌, ◌<◌, ◌≤◌, ◌⊎◌, ℕ, ◌+◌, ◌==◌, Bool, true, false, List, [], ◌∷◌, ◌++◌, Option, Some, None, if◌then◌else◌, refl, sym, subst, ap, ◌∙◌, arith, inl, inr}
+use Rattle.std.proofs.Common.{◌≡◌, ◌≢◌, ◌≤◌, ◌⊎◌, ℕ, ◌+◌, ◌==◌, Bool, true, false, List, ◌∷◌, Option, Some, None, if◌then◌else◌, refl, sym, subst, ap, ◌∙◌, arith, inl, inr}
 use Rattle.std.specs.Prelude.{slice_get, slice_set}
 use Rattle.nq_base.specs.declared.Call.{Call}
 use Rattle.nq_base.specs.declared.Event.{Event}
 use Rattle.nq_base.specs.declared.Party.{Party}
 use Rattle.nq_base.specs.declared.Tag.{Tag}
 use Rattle.nq_base.specs.declared.Who.{Who}
-use Rattle.nq_promises.specs.StepsAreOfOneHost.{ChangesOnly, receiver_of, stepper}
+use Rattle.nq_promises.specs.StepsAreOfOneHost.{receiver_of, stepper}
 use Rattle.nq_model.specs.Client.{Client, ClientStep, UnderWay}
 use Rattle.nq_model.specs.ClientStep.{client_call, client_tick, fresh_client, next_incarnation, restart, starts}
 use Rattle.nq_model.specs.Hear.{hear}
-use Rattle.nq_model.specs.Message.{Message, Packet}
-use Rattle.nq_model.specs.World.{Head, World, after_client, after_hearing, after_server, at_client, deliver, deliver_to, deliver_to_client, step}
+use Rattle.nq_model.specs.Message.{Packet}
+use Rattle.nq_model.specs.World.{Head, World, after_client, after_hearing, at_client, deliver, deliver_to, deliver_to_client, step}
 use Rattle.nq_name_cache.specs.Names.{Names, before_call, new_names}
 use Rattle.nq_name_server.specs.Served.{Served}
 use Rattle.nq_names_run.specs.Outer.{Outer}
-use Rattle.nq_names_run.specs.Outside.{at_side, new_side}
+use Rattle.nq_names_run.specs.Outside.{at_side}
 use Rattle.law_steps.proofs.OneHost.{of-one-host}
 use Rattle.walk_client.proofs.ClientMoves.{none-some, some-same}
 use Rattle.walk_leases.proofs.WorldClocks.{StillIf, call-still, hear-still, tick-still}
-use Rattle.walk_run.proofs.Packets.{In, Told, in-get}
-use Rattle.walk_run.proofs.Worlds.{Holds, get-set-other, get-set-same, set-there, to-told}
+use Rattle.walk_run.proofs.Packets.{In, in-get}
+use Rattle.walk_run.proofs.Worlds.{get-set-other, get-set-same, set-there, to-told}
 use Rattle.walk_server.proofs.Rows.{same-number, number-same}
-use Rattle.law_names.proofs.Chains.{IsServed}
 use Rattle.law_names.proofs.Claims.{IsClaimed, IsForgotten, Shift}
 use Rattle.law_names.proofs.HostMoves.{KeepsFewer, before-fewer, before-forgets, fewer-claims, still-forgotten}
 use Rattle.law_names.proofs.InnerRuns.{IsKnown}

@@ -1,6 +1,6 @@
 -- How the claims of hosts shift with an event of the inner world.
-use Rattle.std.proofs.Common.{◌≡◌, ◌≢◌, ◌<◌, ◌≤◌, ◌⊎◌, ℕ, zero, suc, ◌+◌, ◌==◌, ◌&&◌, Bool, true, false, List, [], ◌∷◌, ◌++◌, Option, Some, None, if◌then◌else◌, drop, length, refl, sym, subst, ap, ◌∙◌, arith, inl, inr}
-use Rattle.std.specs.Prelude.{⊤, slice_get}
+use Rattle.std.proofs.Common.{◌≡◌, ◌<◌, ◌≤◌, ℕ, ◌==◌, true, false, List, ◌∷◌, Some, length, refl, sym, subst, ap, ◌∙◌, arith, inl, inr}
+use Rattle.std.specs.Prelude.{slice_get}
 use Rattle.std.proofs.lemmas.Bool.{and_from}
 use Rattle.nq_base.specs.declared.Call.{Call}
 use Rattle.nq_base.specs.declared.Event.{Event}
@@ -10,29 +10,28 @@ use Rattle.nq_base.specs.declared.Tag.{Tag}
 use Rattle.nq_base.specs.declared.Who.{Who}
 use Rattle.nq_directory.specs.Prefix.{directory}
 use Rattle.nq_directory.proofs.Called.{same-name}
-use Rattle.nq_promises.specs.OneRequestPerSequence.{Asks, IsOpenRequest, IsUnderWay}
-use Rattle.nq_model.specs.Client.{Client, Job, attaching, for_call, pushing, renewing, Ticket, UnderWay}
-use Rattle.nq_model.specs.Kept.{File, drop_file, find_file, host_row, new_file}
+use Rattle.nq_model.specs.Client.{Client, Job, attaching, for_call, pushing, renewing, UnderWay}
+use Rattle.nq_model.specs.Kept.{File, find_file, host_row, new_file}
 use Rattle.nq_model.specs.LeaseInterval.{cover_end}
-use Rattle.nq_model.specs.Message.{Datagram, Message, Packet, asker, call, datagram_of, request, sequence_of}
+use Rattle.nq_model.specs.Message.{Datagram, Packet, asker, call, datagram_of, request, sequence_of}
 use Rattle.nq_model.specs.Profile.{same_bytes}
-use Rattle.nq_model.specs.Server.{Phase, serving, recovering, Server, ServerStep, to_host}
+use Rattle.nq_model.specs.Server.{serving, Server, ServerStep}
 use Rattle.nq_model.specs.ServerStep.{receive}
 use Rattle.nq_model.specs.Skew.{ticks_of}
-use Rattle.nq_model.specs.World.{Head, World, after_server, from_host, sending_host}
+use Rattle.nq_model.specs.World.{Head, World, from_host, sending_host}
 use Rattle.nq_name_cache.specs.Names.{Names}
-use Rattle.nq_name_server.specs.Served.{Served, names_of}
+use Rattle.nq_name_server.specs.Served.{Served}
 use Rattle.nq_names_run.specs.Outer.{Outer}
 use Rattle.walk_client.proofs.ClientFacts.{fits_job}
-use Rattle.walk_client.proofs.ClientMoves.{none-some, some-same}
+use Rattle.walk_client.proofs.ClientMoves.{some-same}
 use Rattle.walk_run.proofs.Clocks.{same-cover}
-use Rattle.walk_run.proofs.Packets.{In, in-get}
+use Rattle.walk_run.proofs.Packets.{in-get}
 use Rattle.walk_run.proofs.Worlds.{IsSent, by_host, by_server}
 use Rattle.walk_server.proofs.Incarnations.{who-same}
 use Rattle.walk_server.proofs.Rows.{decided, number-same}
 use Rattle.walk_server.proofs.ServerOutcomes.{IsChanging, IsFresh, IsFrom}
 use Rattle.law_names.proofs.Chains.{Chained, HasFit, IsServed, same-leads}
-use Rattle.law_names.proofs.Claims.{Ground, IsClaimed, IsForgotten, Outlasts, Shift}
+use Rattle.law_names.proofs.Claims.{IsClaimed, IsForgotten, Outlasts, Shift}
 use Rattle.law_names.proofs.Entries.{all-named, entries-added, entries-dropped, entries_in, entries_of}
 use Rattle.law_names.proofs.InnerRuns.{IsKnown}
 use Rattle.law_names.proofs.OuterFits.{Inv, IsSide, ground}

@@ -1,137 +1,40 @@
 -- Events of the inner world keep what holds of every outer world.
-use Rattle.std.proofs.Common.{◌≡◌, ◌≢◌, ◌<◌, ◌≤◌, ◌⊎◌, ℕ, zero, suc, ◌+◌, ◌==◌, Bool, true, false, List, [], ◌∷◌, ◌++◌, Option, Some, None, if◌then◌else◌, drop, length, refl, sym, subst, ap, ◌∙◌, arith, inl, inr, append_assoc}
-use Rattle.std.specs.Prelude.{⊤, slice_get, slice_set}
-use Rattle.nq_base.specs.declared.Call.{Call}
+use Rattle.std.proofs.Common.{◌≡◌, ◌≢◌, ◌≤◌, ℕ, ◌+◌, ◌==◌, Bool, true, false, List, ◌∷◌, ◌++◌, Option, Some, None, length, refl, sym, subst, ap, ◌∙◌, arith}
+use Rattle.std.specs.Prelude.{slice_get, slice_set}
 use Rattle.nq_base.specs.declared.Event.{Event}
 use Rattle.nq_base.specs.declared.Party.{Party}
 use Rattle.nq_base.specs.declared.Tag.{Tag}
 use Rattle.nq_base.specs.declared.Who.{Who}
-use Rattle.nq_promises.specs.StepsAreOfOneHost.{ChangesOnly, stepper}
-use Rattle.nq_model.proofs.Finding.{find-passes}
 use Rattle.nq_model.specs.Client.{Client}
-use Rattle.nq_model.specs.ClientStep.{next_incarnation, restart}
-use Rattle.nq_model.specs.Kept.{File, Kept, find_file, host_row, with_files, with_new_file, with_row}
+use Rattle.nq_model.specs.ClientStep.{restart}
+use Rattle.nq_model.specs.Kept.{host_row, with_files, with_new_file, with_row}
 use Rattle.nq_model.specs.LeaseInterval.{cover_end}
 use Rattle.nq_model.specs.Message.{Datagram, Packet, datagram_of}
 use Rattle.nq_model.specs.Profile.{skew, write_slack}
 use Rattle.nq_model.specs.Server.{Phase, serving, recovering, Server, ServerStep, last_in}
-use Rattle.nq_model.specs.ServerStep.{boot, crash, end_reading, fence, receive, tick}
-use Rattle.nq_model.specs.Skew.{server_ticks, ticks_of}
-use Rattle.nq_model.specs.Table.{Table, empty_table, with_rows}
-use Rattle.nq_model.specs.World.{Head, World, after_server, deliver, deliver_to, sending_host, step}
+use Rattle.nq_model.specs.ServerStep.{boot, crash, receive}
+use Rattle.nq_model.specs.Skew.{ticks_of}
+use Rattle.nq_model.specs.Table.{empty_table}
+use Rattle.nq_model.specs.World.{Head, World, after_server, sending_host, step}
 use Rattle.nq_name_cache.specs.Names.{Names, new_names}
-use Rattle.nq_name_server.specs.Served.{Served, names_of, new_served, number_of}
-use Rattle.nq_name_server.specs.Serving.{ticks}
-use Rattle.nq_names_run.specs.Outer.{Outer, Outside, of_boot}
-use Rattle.nq_names_run.specs.Outside.{inside, new_side, sends, sends_all}
-use Rattle.law_steps.proofs.OneHost.{of-one-host}
-use Rattle.walk_client.proofs.ClientMoves.{none-some, some-same}
+use Rattle.nq_name_server.specs.Served.{Served}
+use Rattle.nq_names_run.specs.Outer.{Outer, of_boot}
+use Rattle.nq_names_run.specs.Outside.{new_side}
 use Rattle.walk_leases.proofs.ServerLives.{booted-kept, booted-phase}
-use Rattle.walk_run.proofs.Clocks.{moment-past, runs-below, same-cover}
-use Rattle.walk_run.proofs.Packets.{In}
+use Rattle.walk_run.proofs.Clocks.{moment-past, same-cover}
 use Rattle.walk_run.proofs.Worlds.{get-set-other, get-set-same}
-use Rattle.walk_server.proofs.KeptChanges.{same-lines}
 use Rattle.walk_server.proofs.Rows.{number-same, same-number}
-use Rattle.walk_server.proofs.ServerMoves.{receive-keeps, server-moves, tick-keeps, tick-moves}
-use Rattle.walk_server.proofs.TableFits.{TableFits, no-rows-fit}
-use Rattle.walk_tables.proofs.ServerFacts.{fence-lines}
-use Rattle.walk_tables.proofs.ServerNumbers.{fence-longest}
-use Rattle.law_names.proofs.Chains.{Chained, HasFit, IsServed, Leads, WasDrawn, same-leads}
-use Rattle.law_names.proofs.Claims.{Ground, IsClaimed, Outlasts, Shift}
-use Rattle.law_names.proofs.Entries.{entries_in, entries_of}
+use Rattle.walk_server.proofs.ServerMoves.{receive-keeps, server-moves}
+use Rattle.law_names.proofs.Chains.{Chained, HasFit, same-leads}
+use Rattle.law_names.proofs.Claims.{Outlasts, Shift}
+use Rattle.law_names.proofs.Entries.{entries_in}
 use Rattle.law_names.proofs.EventHosts.{NamesGo, at-there, forgets, host-goes, restart-who, same-names}
-use Rattle.law_names.proofs.EventShifts.{ChangesIn, KeptGoes, kept-shift, received-kept, same-kept}
+use Rattle.law_names.proofs.EventShifts.{ChangesIn, kept-shift, received-kept, same-kept}
 use Rattle.law_names.proofs.InnerRuns.{IsKnown}
-use Rattle.law_names.proofs.InnerSteps.{AreInner, InnerAfter, inner-inv}
-use Rattle.law_names.proofs.OuterFits.{Inv, InvOf, IsInner, IsNew, IsSide, Stands, ground}
-use Rattle.law_names.proofs.ServedMoves.{ticks-fit, ticks-lead}
-use Rattle.law_names.proofs.ServerNames.{PhaseGoes, fence-names, receive-phase}
-use Rattle.law_names.proofs.Tables.{stand_ins}
-
--- ---- packets of the inner world
-
-abbrev pub insides : (number : ℕ) → List Packet → List Outer
-insides number [] = []
-insides number (p ∷ ps) = inside number p ∷ insides (number + 1) ps
-
-pub append-nothing : {A : Type 0} (xs : List A) → xs ≡ xs ++ []
-append-nothing [] = refl
-append-nothing (x ∷ xs) = ap (λ l. x ∷ l) (append-nothing xs)
-
-append-again : {A : Type 0} (xs ys zs : List A) → (xs ++ ys) ++ zs ≡ xs ++ (ys ++ zs)
-append-again [] ys zs = refl
-append-again (x ∷ xs) ys zs = ap (λ l. x ∷ l) (append-again xs ys zs)
-
--- inner packets that go as they are are sent, and nothing else changes
-pub sent-all : (o : Outside) (number : ℕ) (ps : List Packet) → sends_all o number ps ≡ record o { sent = o.sent ++ insides number ps }
-unfolding sends
-sent-all o number [] = ap (λ l. record o { sent = l }) (append-nothing o.sent)
-sent-all o number (p ∷ ps) =
-    sent-all (record o { sent = o.sent ++ inside number p ∷ [] }) (number + 1) ps
-    ∙ ap (λ l. record o { sent = l }) (append-again o.sent (inside number p ∷ []) (insides (number + 1) ps))
-
-get-more : {A : Type 0} (xs ys : List A) (k : ℕ) (x : A) → slice_get xs k ≡ Some x → slice_get (xs ++ ys) k ≡ Some x
-get-more [] ys k x e = none-some x e
-get-more (y ∷ xs) ys zero x e = e
-get-more (y ∷ xs) ys (suc k) x e = get-more xs ys k x e
-
-get-right : {A : Type 0} (xs ys : List A) (k : ℕ) → slice_get (xs ++ ys) (length xs + k) ≡ slice_get ys k
-get-right [] ys k = ap (slice_get ys) (omega arith)
-get-right (x ∷ xs) ys k =
-    let more : suc (length xs) + k ≡ suc (length xs + k) = omega arith in
-    ap (slice_get (x ∷ (xs ++ ys))) more ∙ get-right xs ys k
-
-drop-right : {A : Type 0} (xs ys : List A) → drop (length xs) (xs ++ ys) ≡ ys
-drop-right [] ys = refl
-drop-right (x ∷ xs) ys = drop-right xs ys
-
-insides-inner : (w : World) (number : ℕ) (ps : List Packet) → ((k : ℕ) (p : Packet) → slice_get ps k ≡ Some p → slice_get w.packets (number + k) ≡ Some p)
-    → AreInner w (insides number ps)
-insides-inner w number [] there p i = absurd i
-insides-inner w number (q ∷ ps) there p (inl same) =
-    let at : slice_get w.packets number ≡ Some q = ap (slice_get w.packets) (omega arith) ∙ there 0 q refl in
-    (number, ap (λ x. x.is) (sym same), record { packet = q; there = at; is = sym same })
-insides-inner w number (q ∷ ps) there p (inr i) =
-    insides-inner w (number + 1) ps (λ k x e. ap (slice_get w.packets) (omega arith) ∙ there (suc k) x e) p i
-
--- what an event sends
-abbrev pub more_of : World → Event → List Outer
-more_of w e = insides (length w.packets) (drop (length w.packets) (step w e).packets)
-
-more-inner : (w : World) (e : Event) → AreInner (step w e) (more_of w e)
-more-inner w e =
-    let k = of-one-host w e in
-    insides-inner (step w e) (length w.packets) (drop (length w.packets) (step w e).packets) (λ i p is.
-    let here : slice_get k.sends i ≡ Some p =
-    ap (λ l. slice_get l i) (sym (ap (drop (length w.packets)) k.packets ∙ drop-right w.packets k.sends)) ∙ is in
-    ap (λ l. slice_get l (length w.packets + i)) k.packets ∙ get-right w.packets k.sends i ∙ here)
-
-more-stays : (w : World) (e : Event) (number : ℕ) (p : Outer) → IsInner w number p → IsInner (step w e) number p
-more-stays w e number p h =
-    let k = of-one-host w e in
-    record {
-      packet = h.packet;
-      there = ap (λ l. slice_get l number) k.packets ∙ get-more w.packets k.sends number h.packet h.there;
-      is = h.is;
-    }
-
-after-is : (w : World) (t : ServerStep) → (after_server w t).server ≡ t.server
-unfolding after_server
-after-is w t = refl
-
-server-is : (w : World) (number : ℕ) (p : Packet) → slice_get w.packets number ≡ Some p → p.to ≡ Party.Server
-    → (step w (Event.Deliver number)).server ≡ (receive w.server (sending_host p.sender) (length w.packets) (datagram_of p.message)).server
-server-is w number p there to =
-    ap (λ o. (deliver w number o).server) there ∙ ap (λ x. (deliver_to w number p x).server) to
-    ∙ after-is w (receive w.server (sending_host p.sender) (length w.packets) (datagram_of p.message))
-
-unset : {A : Type 0} (xs : List A) (h k : ℕ) (x y : A) → h ≡ k → slice_get xs k ≡ None → slice_get (slice_set xs h x) k ≡ Some y → ⊥
-unset xs h k x y same none is = absent xs k x y none (subst (λ i. slice_get (slice_set xs i x) k ≡ Some y) same is)
-  where
-    absent : {B : Type 0} (zs : List B) (i : ℕ) (u v : B) → slice_get zs i ≡ None → slice_get (slice_set zs i u) i ≡ Some v → ⊥
-    absent [] i u v e f = none-some v f
-    absent (z ∷ zs) zero u v e f = absurd (cc)
-    absent (z ∷ zs) (suc i) u v e f = absent zs i u v e f
+use Rattle.law_names.proofs.InnerSteps.{inner-inv}
+use Rattle.law_names.proofs.OuterFits.{Inv, Stands, ground}
+use Rattle.law_names.proofs.ServerNames.{PhaseGoes, receive-phase}
+use Rattle.law_names.proofs.EventPackets.{more-inner, more-stays, more_of, server-is, unset}
 
 stands-on : (p q : Phase) (now standing : Served) → PhaseGoes p q → Stands p now standing → Stands q now standing
 stands-on serving serving now standing g h = h
@@ -224,252 +127,6 @@ module _ (most : ℕ) (head : Head) (w : World) (ran : List Event) (known : IsKn
 
       is : (step w (Event.Deliver number)).server ≡ t.server
       is = server-is w number p there to
-
-  -- ---- a tick of the server's clock
-
-  -- what a tick does to what is kept and to the phase
-  data TickGoes (kept : Kept) (phase : Phase) : Type 0 where
-    serves_on : w.server.phase ≡ serving → phase ≡ serving → names_of kept.files ≡ names_of w.server.kept.files → kept.longest ≡ w.server.kept.longest
-        → kept.boot ≡ w.server.kept.boot → ((host : ℕ) → host_row kept host ≡ host_row w.server.kept host) → TickGoes kept phase
-    waits_on : (until heard : ℕ) (last : Option Table) → w.server.phase ≡ recovering until heard last → phase ≡ recovering until heard last
-        → kept ≡ w.server.kept → TickGoes kept phase
-    opens_now : (until heard : ℕ) (last : Option Table) → w.server.phase ≡ recovering until heard last → until ≤ w.server.now + 1 → phase ≡ serving
-        → kept.files ≡ w.server.kept.files → kept.boot ≡ w.server.kept.boot → ((host : ℕ) → host_row kept host ≡ host_row w.server.kept host)
-        → TickGoes kept phase
-
-  fence-boot : (kept : Kept) (o : Option File) → (fence kept o).boot ≡ kept.boot
-  unfolding with_files
-  fence-boot kept None = refl
-  fence-boot kept (Some f) = refl
-
-  tick-goes : TickGoes (tick w.server (w.server.now + 1)).server.kept (tick w.server (w.server.now + 1)).server.phase
-  tick-goes = tick-moves w.server (w.server.now + 1) (λ kept phase table. TickGoes kept phase) (record {
-    waits = λ until heard last p goes. waits_on until heard last p p refl;
-    opening = λ until heard last p over. opens_now until heard last p over refl refl refl (λ host. same-lines w.server.kept (record w.server.kept { opened = w.server.kept.boot; longest = w.server.longest }) host refl);
-    ends_reading = λ p. serves_on p p refl refl refl (λ host. refl);
-    ending_writing = λ row p due.
-        serves_on p p
-        (fence-names w.server.kept (find_file row.file w.server.kept.files) row.file known.within.within.apart refl
-        (λ f e. same-number f.id row.file (find-passes (λ x. x.id == row.file) f w.server.kept.files e)))
-        (fence-longest w.server.kept (find_file row.file w.server.kept.files))
-        (fence-boot w.server.kept (find_file row.file w.server.kept.files))
-        (λ host. fence-lines w.server.kept (find_file row.file w.server.kept.files) host);
-  })
-
-  -- while a claim runs by the clock of its host, the server's clock is below the end of its cover
-  runs-on : IsKnown most head (step w Event.ServerTick) (Event.ServerTick ∷ ran) → (host : ℕ) (c : Client) → slice_get w.clients host ≡ Some c → (asked term : ℕ)
-      → asked ≤ c.now → c.now < asked + term → term ≤ w.server.kept.longest → w.server.now + 1 < cover_end host asked term ran
-  runs-on latter host c is asked term past runs short =
-      let time = clock host c is in
-      let few = known.runs.served.terms.kept_few in
-      let there = known.runs.few host c is in
-      let below = runs-below head.hosts most host asked term (Event.ServerTick ∷ ran) latter.skew there (omega arith) (omega arith) (omega arith) in
-      let end = same-cover host asked term Event.ServerTick ran (omega arith) in
-      let now = known.clocked.server in
-      omega arith
-
-  tick-server : (step w Event.ServerTick).server ≡ (tick w.server (w.server.now + 1)).server
-  tick-server = after-is w (tick w.server (w.server.now + 1))
-
-  abbrev ticked : World
-  ticked = step w Event.ServerTick
-
-  abbrev served-on : Served
-  served-on = ticks served (step w Event.ServerTick).server.now
-
-  clock-on : (step w Event.ServerTick).server.now ≡ w.server.now + 1
-  clock-on = ap (λ s. s.now) tick-server ∙ (tick-keeps w.server (w.server.now + 1)).1
-
-  -- the leases that stand after a tick
-  record TickStands (later : Served) : Type 0 where
-    fits : IsServed later
-    stands : Stands ticked.server.phase served-on later
-    boots : ticked.server.kept.boot ≡ w.server.kept.boot
-    drawn : later.table.drawn ≤ bound + 1
-    prefixes : (prefix : List ℕ) → In later.directories prefix → length prefix ≤ 64
-    grows : (tag : Tag) → WasDrawn standing tag → WasDrawn later tag
-    shift : (host : ℕ) (who : Who) (c d : Client) (prefix : List ℕ) (tag : Tag) → slice_get w.clients host ≡ Some c → c.who ≡ who → c.now ≤ d.now
-        → Shift (ground w standing sent ran) (ground ticked later sent (Event.ServerTick ∷ ran)) host who c.now d.now prefix tag
-
-  ticks-boot : (s : Served) (time : ℕ) → (ticks s time).table.boot ≡ s.table.boot
-  unfolding with_rows
-  ticks-boot s time = refl
-
-  ticks-drawn : (s : Served) (time : ℕ) → (ticks s time).table.drawn ≡ s.table.drawn
-  unfolding with_rows
-  ticks-drawn s time = refl
-
-  ticks-rows : (s : Served) (time : ℕ) → s.table.rows ≡ [] → (ticks s time).table.rows ≡ []
-  unfolding with_rows
-  ticks-rows s time none = ap (end_reading time) none
-
-  tick-inv : (later : Served) → TickStands later → ((host : ℕ) (n : Names) → slice_get sides host ≡ Some n → NamesGo w Event.ServerTick sides host n)
-      → Inv ticked served-on sides (sent ++ more_of w Event.ServerTick) (Event.ServerTick ∷ ran) (bound + 1) later
-  tick-inv later k go =
-      inner-inv w served sides sent ran bound standing inv ticked later served-on sides (more_of w Event.ServerTick) (Event.ServerTick ∷ ran) (record {
-        fits = k.fits;
-        stands = k.stands;
-        time = refl;
-        longest = inv.longest ∙ sym (tick-keeps w.server (w.server.now + 1)).0 ∙ ap (λ s. s.longest) (sym tick-server);
-        boot = ticks-boot served ticked.server.now ∙ inv.boot ∙ sym k.boots;
-        drawn = (k.drawn, let d = more-drawn.1 in let same = ticks-drawn served ticked.server.now in omega arith);
-        prefixes = k.prefixes;
-        grows = k.grows;
-        hosts = λ host n is.
-            host-goes most head w Event.ServerTick ran known served sides sent bound standing later inv
-            (λ h who c d prefix tag old before mine claimed there back who-is own time. k.shift h who c d prefix tag there own time) host n (go host n is);
-        inner = more-inner w Event.ServerTick;
-        stays = λ number q h. more-stays w Event.ServerTick number q h;
-      })
-
-  abbrev kept-after : Kept
-  kept-after = (tick w.server (w.server.now + 1)).server.kept
-
-  kept-is : ticked.server.kept ≡ kept-after
-  kept-is = ap (λ s. s.kept) tick-server
-
-  phase-is : ticked.server.phase ≡ (tick w.server (w.server.now + 1)).server.phase
-  phase-is = ap (λ s. s.phase) tick-server
-
-  same-line : ((host : ℕ) → host_row kept-after host ≡ host_row w.server.kept host) → (host : ℕ) (who : Who) → (host_row w.server.kept host).inc ≡ who.inc
-      → (host_row ticked.server.kept host).inc ≡ who.inc
-  same-line lines host who e = ap (λ k. (host_row k host).inc) kept-is ∙ ap (λ r. r.inc) (lines host) ∙ e
-
-  -- the boot serves on: reading rows that are over end
-  module _ (latter : IsKnown most head ticked (Event.ServerTick ∷ ran)) (p : w.server.phase ≡ serving)
-      (q : (tick w.server (w.server.now + 1)).server.phase ≡ serving) (names : names_of kept-after.files ≡ names_of w.server.kept.files)
-      (longest : kept-after.longest ≡ w.server.kept.longest) (boots : kept-after.boot ≡ w.server.kept.boot)
-      (lines : (host : ℕ) → host_row kept-after host ≡ host_row w.server.kept host) where
-    one : standing ≡ served
-    one = subst (λ x. Stands x served standing) p inv.stands
-
-    fits-served : IsServed served
-    fits-served = subst IsServed one inv.fits
-
-    leads-on : Leads standing served-on
-    leads-on = subst (λ x. Leads x served-on) (sym one) (ticks-lead served ticked.server.now fits-served)
-
-    serving-shift : (host : ℕ) (who : Who) (c d : Client) (prefix : List ℕ) (tag : Tag) → slice_get w.clients host ≡ Some c → c.who ≡ who → c.now ≤ d.now
-        → Shift (ground w standing sent ran) (ground ticked served-on sent (Event.ServerTick ∷ ran)) host who c.now d.now prefix tag
-    serving-shift host who c d prefix tag there own time = record {
-      leads = leads-on;
-      time = time;
-      inc = λ e. same-line lines host who e;
-      same = λ e k. ap (entries_of prefix) (sym names) ∙ ap (λ x. entries_in prefix x.files) (sym kept-is);
-      runs = λ asked term past runs inc above r.
-          let early : c.now < asked + term = omega arith in
-          let low = runs-on latter host c there asked term past early r.short in
-          let end = same-cover host asked term Event.ServerTick ran (let t = clock host c there in omega arith) in
-          let now = clock-on in
-          record {
-            short = let s = r.short in let l : ticked.server.kept.longest ≡ w.server.kept.longest = ap (λ x. x.longest) kept-is ∙ longest in omega arith;
-            covered = subst (HasFit served-on prefix who tag) (sym end)
-                (ticks-fit served ticked.server.now prefix who tag (cover_end host asked term ran) fits-served (omega arith)
-                (subst (λ x. HasFit x prefix who tag (cover_end host asked term ran)) one r.covered));
-            waits = subst (λ x. Outlasts x (cover_end host asked term (Event.ServerTick ∷ ran))) (sym (phase-is ∙ q)) tt;
-          };
-      gave = λ t g of. g;
-    }
-
-    tick-serving : TickStands served-on
-    tick-serving = record {
-      fits = leads-on.fits;
-      stands = subst (λ x. Stands x served-on served-on) (sym (phase-is ∙ q)) refl;
-      boots = ap (λ x. x.boot) kept-is ∙ boots;
-      drawn = let d = more-drawn.1 in let same = ticks-drawn served ticked.server.now in omega arith;
-      prefixes = λ prefix i. inv.prefixes prefix (subst (λ x. In x.directories prefix) (sym one) i);
-      grows = leads-on.drawn;
-      shift = serving-shift;
-    }
-
-  -- the recovery goes on
-  module _ (until heard : ℕ) (last : Option Table) (p : w.server.phase ≡ recovering until heard last)
-      (q : (tick w.server (w.server.now + 1)).server.phase ≡ recovering until heard last) (kept : kept-after ≡ w.server.kept) where
-    new : IsNew served standing
-    new = subst (λ x. Stands x served standing) p inv.stands
-
-    tick-waits : TickStands standing
-    tick-waits = record {
-      fits = inv.fits;
-      stands = subst (λ x. Stands x served-on standing) (sym (phase-is ∙ q)) (record {
-        rows = ticks-rows served ticked.server.now new.rows;
-        directories = new.directories;
-        earlier = let e = new.earlier in let b = ticks-boot served ticked.server.now in omega arith;
-      });
-      boots = ap (λ x. x.boot) (kept-is ∙ kept);
-      drawn = more-drawn.0;
-      prefixes = inv.prefixes;
-      grows = λ tag d. d;
-      shift = λ host who c d prefix tag there own time.
-          kept-shift w ticked standing sent ran Event.ServerTick host who c.now d.now prefix tag inv.fits (clock host c there) time (record {
-            inc = λ e. ap (λ x. (host_row x host).inc) (kept-is ∙ kept) ∙ e;
-            same = λ e k. ap (λ x. entries_in prefix x.files) (sym (kept-is ∙ kept));
-            longest = ap (λ x. x.longest) (kept-is ∙ kept);
-            outlasts = λ end o. subst (λ x. Outlasts x end) (p ∙ sym (phase-is ∙ q)) o;
-          });
-    }
-
-  -- the recovery ends
-  module _ (latter : IsKnown most head ticked (Event.ServerTick ∷ ran)) (until heard : ℕ) (last : Option Table) (p : w.server.phase ≡ recovering until heard last)
-      (over : until ≤ w.server.now + 1) (q : (tick w.server (w.server.now + 1)).server.phase ≡ serving) (files : kept-after.files ≡ w.server.kept.files)
-      (boots : kept-after.boot ≡ w.server.kept.boot) (lines : (host : ℕ) → host_row kept-after host ≡ host_row w.server.kept host) where
-    new-before : IsNew served standing
-    new-before = subst (λ x. Stands x served standing) p inv.stands
-
-    older-drawn : (tag : Tag) → WasDrawn standing tag → WasDrawn served-on tag
-    older-drawn tag (inl before) = inl (let e = new-before.earlier in let b = ticks-boot served ticked.server.now in omega arith)
-    older-drawn tag (inr same) = inl (let e = new-before.earlier in let b = ticks-boot served ticked.server.now in let s = same.0 in omega arith)
-
-    none-numbered : (prefix : List ℕ) (k : ℕ) → number_of prefix served-on.directories ≡ Some k → ⊥
-    none-numbered prefix k e =
-        let none : number_of prefix served-on.directories ≡ None = ap (number_of prefix) new-before.directories in
-        none-some k (sym none ∙ e)
-
-    empty-fits : IsServed served-on
-    empty-fits =
-        subst (λ rows. TableFits (stand_ins (length served-on.directories)) served-on.table.boot served-on.table.drawn rows)
-        (sym (ticks-rows served ticked.server.now new-before.rows)) (no-rows-fit (stand_ins (length served-on.directories)) served-on.table.boot served-on.table.drawn)
-
-    opening-leads : Leads standing served-on
-    opening-leads = record {
-      fits = empty-fits;
-      drawn = older-drawn;
-      chain = λ prefix who tag d c. absurd (none-numbered prefix c.number c.numbered);
-      since = λ prefix who tag d c. absurd (none-numbered prefix c.number c.numbered);
-    }
-
-    tick-opens : TickStands served-on
-    tick-opens = record {
-      fits = empty-fits;
-      stands = subst (λ x. Stands x served-on served-on) (sym (phase-is ∙ q)) refl;
-      boots = ap (λ x. x.boot) kept-is ∙ boots;
-      drawn = let d = more-drawn.1 in let same = ticks-drawn served ticked.server.now in omega arith;
-      prefixes = λ prefix i. absurd (subst (λ x. In x prefix) new-before.directories i);
-      grows = older-drawn;
-      shift = λ host who c d prefix tag there own time. record {
-        leads = opening-leads;
-        time = time;
-        inc = λ e. same-line lines host who e;
-        same = λ e k. absurd (none-numbered prefix k.number k.numbered);
-        runs = λ asked term past runs inc above r.
-            let early : c.now < asked + term = omega arith in
-            let low = runs-on latter host c there asked term past early r.short in
-            let late : cover_end host asked term ran ≤ until = subst (λ x. Outlasts x (cover_end host asked term ran)) p r.waits in
-            absurd (omega arith);
-        gave = λ t g of. g;
-      };
-    }
-
-  pub tick-event : IsKnown most head ticked (Event.ServerTick ∷ ran)
-      → ((host : ℕ) (n : Names) → slice_get sides host ≡ Some n → NamesGo w Event.ServerTick sides host n)
-      → (later : Served) × Inv ticked served-on sides (sent ++ more_of w Event.ServerTick) (Event.ServerTick ∷ ran) (bound + 1) later
-  tick-event latter go = by tick-goes
-    where
-      by : TickGoes kept-after (tick w.server (w.server.now + 1)).server.phase
-          → (later : Served) × Inv ticked served-on sides (sent ++ more_of w Event.ServerTick) (Event.ServerTick ∷ ran) (bound + 1) later
-      by (serves_on p q names longest boots lines) = (served-on, tick-inv served-on (tick-serving latter p q names longest boots lines) go)
-      by (waits_on until heard last p q kept) = (standing, tick-inv standing (tick-waits until heard last p q kept) go)
-      by (opens_now until heard last p over q files boots lines) = (served-on, tick-inv served-on (tick-opens latter until heard last p over q files boots lines) go)
 
   -- ---- a crash
 

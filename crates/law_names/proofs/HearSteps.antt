@@ -1,40 +1,37 @@
 -- A host hears, or asks for a list: what holds of every outer world is kept.
-use Rattle.std.proofs.Common.{◌≡◌, ◌≢◌, ◌<◌, ◌≤◌, ◌^◌, ◌⊎◌, ℕ, zero, suc, ◌+◌, ◌%◌, ◌==◌, Bool, true, false, not, ◌&&◌, nat_lt, List, [], ◌∷◌, ◌++◌, Option, Some, None, if◌then◌else◌, length, refl, sym, subst, ap, ◌∙◌, arith, inl, inr}
+use Rattle.std.proofs.Common.{◌≡◌, ◌<◌, ◌≤◌, ◌^◌, ◌⊎◌, ℕ, ◌+◌, Bool, true, false, not, nat_lt, List, [], ◌∷◌, ◌++◌, Option, Some, None, if◌then◌else◌, length, refl, sym, subst, ap, ◌∙◌, arith, inl, inr}
 use Rattle.std.specs.Prelude.{⊤, All, slice_get, slice_set}
-use Rattle.std.proofs.lemmas.Bool.{and_parts, not-true}
 use Rattle.std.proofs.lemmas.List.Elements.{All-head, All-tail}
 use Rattle.nq_base.specs.declared.Call.{Call}
 use Rattle.nq_base.specs.declared.Event.{Event}
 use Rattle.nq_base.specs.declared.Grant.{Grant}
 use Rattle.nq_base.specs.declared.Party.{Party}
-use Rattle.nq_base.specs.declared.Who.{Who}
 use Rattle.nq_directory.specs.declared.FileName.{FileName}
 use Rattle.nq_directory.specs.Prefix.{directory}
 use Rattle.nq_listing.specs.declared.DirTag.{DirTag}
 use Rattle.nq_listing.specs.declared.ReadDir.{ReadDir}
-use Rattle.nq_listing.specs.Messages.{Answer, IsEntry, Listing, page, wait, read_dir_bytes, dir_vacated_bytes}
+use Rattle.nq_listing.specs.Messages.{Answer, IsEntry, Listing, page, wait, dir_vacated_bytes}
 use Rattle.nq_wire.specs.Parts.{IsTag}
 use Rattle.nq_listing.specs.Reading.{dir_evicted_in, dir_vacated_in, read_dir_in, told_in}
-use Rattle.nq_model.specs.Client.{Client, Lease, UnderWay}
+use Rattle.nq_model.specs.Client.{UnderWay}
 use Rattle.nq_model.specs.Hear.{granted_lease}
-use Rattle.nq_model.specs.Kept.{host_row}
 use Rattle.nq_model.specs.Profile.{same_bytes}
 use Rattle.nq_model.specs.Stepped.{most_events}
 use Rattle.nq_model.specs.Table.{same_who}
 use Rattle.nq_model.specs.World.{World}
 use Rattle.nq_name_cache.specs.Asking.{Asks, asks_behind, cleared, evicted, gives_up, goes_on, grown, heard, heard_as, heard_by, is_later, last_id, lease_by, lists_dir, noticed, request_of, silent, takes_page, told, vacated_of, with_page, with_room}
-use Rattle.nq_name_cache.specs.Names.{DirList, Names, Request, empty_list, first_number, forgets, list_of, most_lists, number_after, other_lists}
+use Rattle.nq_name_cache.specs.Names.{DirList, Names, Request, empty_list, forgets, list_of, most_lists, number_after, other_lists}
 use Rattle.nq_name_server.specs.Served.{Served}
 use Rattle.nq_names_run.specs.Outer.{Outer}
 use Rattle.nq_names_run.specs.Outside.{beside, is_change, is_changing}
 use Rattle.walk_client.proofs.ClientMoves.{some-same, none-some}
 use Rattle.walk_run.proofs.Packets.{In, in-append, in-last}
-use Rattle.law_names.proofs.Chains.{IsServed, WasDrawn}
-use Rattle.law_names.proofs.Claims.{AskedFor, GaveUp, Good, Ground, HostFits, IsClaimed, IsForgotten, ListFits, NoticedTo, PartFits, ToldTo}
-use Rattle.law_names.proofs.Codec.{IsAsking, IsCodec, IsGiving, IsNoticing, IsRead, IsSame, IsTold}
-use Rattle.law_names.proofs.HostMoves.{AreKept, KeepsFewer, fewer-claims, fewer-fits, forgets-fewer, forgotten, page-ends, page-goes-on, still-forgotten}
-use Rattle.law_names.proofs.HostSteps.{AreFrom, HostAfter, asking-inv, grown-fits, host-inv, silent-inv, told-before}
-use Rattle.law_names.proofs.OuterFits.{Inv, IsBeside, IsInner, IsOwn, IsSide, SideFits, asking, giving, ground, noticing, telling}
+use Rattle.law_names.proofs.Chains.{WasDrawn}
+use Rattle.law_names.proofs.Claims.{AskedFor, GaveUp, IsClaimed, IsForgotten, ListFits, ToldTo}
+use Rattle.law_names.proofs.Codec.{IsCodec, IsGiving, IsNoticing, IsSame, IsTold}
+use Rattle.law_names.proofs.HostMoves.{AreKept, KeepsFewer, fewer-fits, forgets-fewer, forgotten, page-ends, page-goes-on, still-forgotten}
+use Rattle.law_names.proofs.HostSteps.{AreFrom, asking-inv, grown-fits, host-inv, silent-inv, told-before}
+use Rattle.law_names.proofs.OuterFits.{Inv, IsBeside, IsSide, asking, giving, ground, noticing, telling}
 use Rattle.law_names.proofs.ServedMoves.{filtered-in}
 
 -- what a host sends, as packets

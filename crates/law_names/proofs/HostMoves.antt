@@ -1,30 +1,25 @@
 -- What a host makes of calls and datagrams keeps what it has right.
-use Rattle.std.proofs.Common.{◌≡◌, ◌≢◌, ◌<◌, ◌≤◌, ◌⊎◌, ℕ, ◌+◌, ◌==◌, Bool, true, false, not, ◌&&◌, nat_lt, List, [], ◌∷◌, ◌++◌, Option, Some, None, if◌then◌else◌, length, refl, sym, subst, ap, ◌∙◌, arith, inl, inr}
-use Rattle.std.specs.Prelude.{⊤}
+use Rattle.std.proofs.Common.{◌≡◌, ◌≤◌, ℕ, Bool, true, false, not, List, [], ◌∷◌, Option, Some, None, if◌then◌else◌, refl, sym, subst, ap, ◌∙◌, inl, inr}
 use Rattle.std.proofs.lemmas.Bool.{and_parts, not-true}
 use Rattle.std.specs.List.{filter}
 use Rattle.nq_base.specs.declared.Call.{Call}
 use Rattle.nq_base.specs.declared.Grant.{Grant}
-use Rattle.nq_base.specs.declared.Mode.TheVariants.{NonCaching, Reading, Writing}
-use Rattle.nq_base.specs.declared.Who.{Who}
 use Rattle.nq_directory.specs.Names.{put_names}
 use Rattle.nq_directory.specs.Prefix.{directory}
-use Rattle.nq_directory.proofs.Called.{same-name, same-self}
-use Rattle.nq_listing.specs.declared.DirTag.{DirTag}
-use Rattle.nq_listing.specs.Messages.{Answer, Listing, page, wait, most_names}
+use Rattle.nq_directory.proofs.Called.{same-self}
+use Rattle.nq_listing.specs.Messages.{Listing, page, most_names}
 use Rattle.nq_model.specs.Change.{AreApart}
 use Rattle.nq_model.specs.Client.{Lease}
-use Rattle.nq_model.specs.Hear.{breaks, granted_lease}
+use Rattle.nq_model.specs.Hear.{breaks}
 use Rattle.nq_model.specs.Kept.{File, find_name}
 use Rattle.nq_model.specs.Profile.{same_bytes}
 use Rattle.nq_model.specs.Table.{tag_below}
-use Rattle.nq_name_cache.specs.Asking.{Asks, goes_on, is_reading, last_id, with_page, with_room}
-use Rattle.nq_name_cache.specs.Names.{DirList, Names, Request, before_call, empty_list, forgets, forgets_all, most_lists, other_lists, other_request}
-use Rattle.nq_name_server.specs.Served.{names_behind}
+use Rattle.nq_name_cache.specs.Asking.{goes_on, is_reading, last_id}
+use Rattle.nq_name_cache.specs.Names.{DirList, Names, Request, before_call, forgets, forgets_all, other_request}
 use Rattle.walk_client.proofs.ClientMoves.{some-same, none-some}
-use Rattle.walk_run.proofs.Packets.{In, in-last}
+use Rattle.walk_run.proofs.Packets.{In}
 use Rattle.law_names.proofs.Chains.{Chained}
-use Rattle.law_names.proofs.Claims.{Ground, GaveUp, Good, HostFits, IsClaimed, IsForgotten, IsLeaf, ListFits, PageFits, PartFits, ToldTo}
+use Rattle.law_names.proofs.Claims.{Ground, Good, HostFits, IsClaimed, IsForgotten, ListFits, PageFits, PartFits, ToldTo}
 use Rattle.law_names.proofs.Pages.{IsUpTo, IsWhole, becomes-whole, grows, nothing-yet}
 use Rattle.law_names.proofs.ServedMoves.{filtered-in}
 

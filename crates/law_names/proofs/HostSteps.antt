@@ -1,34 +1,28 @@
 -- A host asks for lists, and hears: what holds of every outer world is kept.
-use Rattle.std.proofs.Common.{◌≡◌, ◌≢◌, ◌<◌, ◌≤◌, ◌^◌, ◌⊎◌, ℕ, zero, suc, ◌+◌, ◌%◌, ◌==◌, Bool, true, false, not, ◌&&◌, List, [], ◌∷◌, ◌++◌, Option, Some, None, if◌then◌else◌, length, refl, sym, subst, ap, ◌∙◌, arith, inl, inr}
-use Rattle.std.specs.Prelude.{⊤, slice_get, slice_set}
-use Rattle.nq_base.specs.declared.Call.{Call}
+use Rattle.std.proofs.Common.{◌≡◌, ◌≢◌, ◌<◌, ◌≤◌, ◌^◌, ◌⊎◌, ℕ, ◌+◌, ◌==◌, Bool, true, false, List, [], ◌∷◌, ◌++◌, Some, None, length, refl, sym, subst, ap, ◌∙◌, arith, inl, inr}
+use Rattle.std.specs.Prelude.{slice_get, slice_set}
 use Rattle.nq_base.specs.declared.Event.{Event}
-use Rattle.nq_base.specs.declared.Grant.{Grant}
 use Rattle.nq_base.specs.declared.Party.{Party}
 use Rattle.nq_base.specs.declared.Tag.{Tag}
 use Rattle.nq_base.specs.declared.Who.{Who}
 use Rattle.nq_listing.specs.declared.DirTag.{DirTag}
 use Rattle.nq_listing.specs.declared.ReadDir.{ReadDir}
-use Rattle.nq_listing.specs.Messages.{Answer, Listing, page, wait, read_dir_bytes, dir_vacated_bytes}
-use Rattle.nq_listing.specs.Reading.{dir_vacated_in, read_dir_in}
-use Rattle.nq_model.specs.Client.{Client, Lease, UnderWay}
-use Rattle.nq_model.specs.Kept.{host_row}
-use Rattle.nq_model.specs.Profile.{xid_end}
+use Rattle.nq_listing.specs.Messages.{Answer, page, read_dir_bytes}
+use Rattle.nq_listing.specs.Reading.{read_dir_in}
+use Rattle.nq_model.specs.Client.{Client, UnderWay}
 use Rattle.nq_model.specs.Stepped.{most_events}
-use Rattle.nq_model.specs.Table.{tag_below}
 use Rattle.nq_model.specs.World.{World}
 use Rattle.nq_name_cache.specs.Names.{DirList, Names, Request, first_number, number_after}
 use Rattle.nq_name_server.specs.Served.{Served}
 use Rattle.nq_names_run.specs.Outer.{Outer}
 use Rattle.nq_names_run.specs.Outside.{beside}
 use Rattle.walk_client.proofs.ClientMoves.{some-same, none-some}
-use Rattle.walk_run.proofs.Packets.{In, in-append, in-left}
+use Rattle.walk_run.proofs.Packets.{In, in-append}
 use Rattle.walk_run.proofs.Worlds.{get-set-same, get-set-other}
 use Rattle.walk_server.proofs.Rows.{same-number, number-same}
 use Rattle.law_names.proofs.Chains.{IsServed, WasDrawn, same-leads}
-use Rattle.law_names.proofs.Claims.{AskedFor, GaveUp, Ground, HostFits, IsClaimed, IsForgotten, ListFits, NoticedTo, PartFits, Shift, ToldTo, host-shifted}
-use Rattle.law_names.proofs.Codec.{IsAsking, IsCodec, IsNoticing, IsRead}
-use Rattle.law_names.proofs.HostMoves.{KeepsFewer, fewer-claims, fewer-fits, still-forgotten}
+use Rattle.law_names.proofs.Claims.{AskedFor, GaveUp, HostFits, IsClaimed, IsForgotten, ListFits, PartFits, Shift, ToldTo, host-shifted}
+use Rattle.law_names.proofs.Codec.{IsAsking, IsCodec, IsRead}
 use Rattle.law_names.proofs.OuterFits.{Inv, IsBeside, IsInner, IsOwn, IsSide, SideFits, ground}
 
 -- ---- packets more

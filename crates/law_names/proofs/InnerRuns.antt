@@ -1,24 +1,21 @@
 -- What is known of the inner world of a run with lists.
-use Rattle.std.proofs.Common.{◌≡◌, ◌≢◌, ◌≤◌, ℕ, ◌+◌, List, [], ◌∷◌, Option, Some, None, length, refl, sym, subst, ap, ◌∙◌}
-use Rattle.std.specs.Prelude.{slice_get}
+use Rattle.std.proofs.Common.{◌≡◌, ◌≤◌, ℕ, ◌+◌, List, length, refl, sym, subst, ap, ◌∙◌}
 use Rattle.nq_base.specs.declared.Event.{Event}
 use Rattle.nq_promises.specs.Bounds.{KeepsBounds}
 use Rattle.nq_promises.specs.OneRequestPerSequence.{OpensOne, OneOpenInEveryRun}
-use Rattle.nq_model.specs.Client.{Client, ClientStep, for_call, Ticket, UnderWay}
+use Rattle.nq_model.specs.Client.{Client}
 use Rattle.nq_model.specs.ClientStep.{attached_client, client_call, client_tick, fresh_client, restart, starts}
-use Rattle.nq_model.specs.Hear.{hear}
-use Rattle.nq_model.specs.Message.{Packet, datagram_of}
 use Rattle.nq_model.specs.Server.{ServerStep}
 use Rattle.nq_model.specs.Skew.{IsWithinSkew}
 use Rattle.nq_model.specs.Stepped.{most_events}
-use Rattle.nq_model.specs.World.{Head, World, after_client, after_server, run, start}
+use Rattle.nq_model.specs.World.{Head, World, after_server, run, start}
 use Rattle.law_bounds.specs.Within.{AreGiven, IsHeadWithin, IsServerAfter, NumbersStayWithin}
 use Rattle.law_bounds.proofs.WorldNumbers.{DrawnUpTo, drawn-up-to}
 use Rattle.law_leases.proofs.LeaseIntervals.{run-runs}
 use Rattle.walk_client.proofs.ClientMoves.{none-some, some-same}
 use Rattle.walk_leases.proofs.Runs.{Runs}
 use Rattle.walk_leases.proofs.WorldClocks.{Clocked, run-clocked}
-use Rattle.walk_run.proofs.RunCases.{Keeps, OfClients, clients-after, run-keeps}
+use Rattle.walk_run.proofs.RunCases.{OfClients, clients-after, run-keeps}
 use Rattle.walk_run.proofs.Worlds.{Holds, first-client, run-holds}
 use Rattle.law_names.proofs.OwnCalls.{TicketIsOfCall, call-fits, hear-fits, tick-fits}
 

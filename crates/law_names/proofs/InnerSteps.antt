@@ -1,24 +1,22 @@
 -- An event of the inner world: what holds of every outer world is kept, where each host's claims shift with it.
-use Rattle.std.proofs.Common.{◌≡◌, ◌≢◌, ◌<◌, ◌≤◌, ◌^◌, ◌⊎◌, ℕ, zero, suc, ◌+◌, ◌==◌, Bool, true, false, List, [], ◌∷◌, ◌++◌, Option, Some, None, if◌then◌else◌, length, refl, sym, subst, ap, ◌∙◌, arith, inl, inr}
-use Rattle.std.specs.Prelude.{⊤, slice_get}
+use Rattle.std.proofs.Common.{◌≡◌, ◌<◌, ◌≤◌, ◌⊎◌, ℕ, ◌+◌, List, [], ◌++◌, Some, None, length, sym, subst, ap, ◌∙◌, arith, inl, inr}
+use Rattle.std.specs.Prelude.{slice_get}
 use Rattle.nq_base.specs.declared.Event.{Event}
-use Rattle.nq_base.specs.declared.Party.{Party}
 use Rattle.nq_base.specs.declared.Tag.{Tag}
-use Rattle.nq_base.specs.declared.Who.{Who}
 use Rattle.nq_listing.specs.declared.DirTag.{DirTag}
 use Rattle.nq_listing.specs.declared.ReadDir.{ReadDir}
 use Rattle.nq_listing.specs.Messages.{Answer}
 use Rattle.nq_model.specs.Client.{Client, UnderWay}
 use Rattle.nq_model.specs.World.{World}
-use Rattle.nq_name_cache.specs.Names.{Names, Request, first_number}
+use Rattle.nq_name_cache.specs.Names.{Names, first_number}
 use Rattle.nq_name_server.specs.Served.{Served}
 use Rattle.nq_names_run.specs.Outer.{Outer}
 use Rattle.walk_client.proofs.ClientMoves.{none-some, some-same}
-use Rattle.walk_run.proofs.Packets.{In, in-append, in-left}
+use Rattle.walk_run.proofs.Packets.{In, in-append}
 use Rattle.law_names.proofs.Chains.{IsServed, WasDrawn}
-use Rattle.law_names.proofs.Claims.{AskedFor, GaveUp, Ground, HostFits, IsClaimed, IsForgotten, Shift, ToldTo, host-shifted}
+use Rattle.law_names.proofs.Claims.{AskedFor, GaveUp, HostFits, IsClaimed, IsForgotten, Shift, ToldTo, host-shifted}
 use Rattle.law_names.proofs.HostMoves.{KeepsFewer, fewer-fits, no-names}
-use Rattle.law_names.proofs.OuterFits.{Inv, IsBeside, IsInner, IsOwn, IsSide, SideFits, Stands, ground}
+use Rattle.law_names.proofs.OuterFits.{Inv, IsInner, IsSide, Stands, ground}
 use Rattle.law_names.proofs.HostSteps.{sent-shift}
 use Rattle.law_names.proofs.ServedSteps.{beside-on}
 

@@ -17,10 +17,13 @@ pub mod ServedSteps
 pub mod InnerSteps
 pub mod EventHosts
 pub mod EventShifts
+pub mod EventPackets
 pub mod EventSteps
+pub mod TickSteps
 pub mod ServerSteps
 pub mod OuterSteps
 pub mod EachFind
 pub mod SameNumbers
 pub mod Again
 pub mod Codecs
+pub mod SomeFind

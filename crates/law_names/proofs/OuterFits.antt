@@ -1,11 +1,9 @@
 -- What holds of every outer world, and what a host finds by it.
-use Rattle.std.proofs.Common.{◌≡◌, ◌≢◌, ◌<◌, ◌≤◌, ◌^◌, ◌⊎◌, ℕ, ◌+◌, ◌-◌, ◌==◌, Bool, true, false, List, [], ◌∷◌, ◌++◌, Option, Some, None, if◌then◌else◌, length, nat_lt, refl, sym, subst, ap, ◌∙◌, arith, inl, inr}
-use Rattle.std.specs.Prelude.{⊤, slice_get}
-use Rattle.std.specs.List.{find}
+use Rattle.std.proofs.Common.{◌≡◌, ◌≢◌, ◌<◌, ◌≤◌, ◌^◌, ℕ, ◌+◌, ◌-◌, Bool, true, false, List, [], Option, Some, None, length, refl, sym, subst, ap, ◌∙◌, arith}
+use Rattle.std.specs.Prelude.{slice_get}
 use Rattle.std.proofs.lemmas.Bool.Decides.{nat_tests}
 use Rattle.nq_base.specs.declared.Event.{Event}
 use Rattle.nq_base.specs.declared.Party.{Party}
-use Rattle.nq_base.specs.declared.Who.{Who}
 use Rattle.nq_directory.specs.Names.{named}
 use Rattle.nq_directory.specs.Prefix.{directory}
 use Rattle.nq_directory.proofs.Called.{same-name}
@@ -17,7 +15,7 @@ use Rattle.nq_model.specs.Client.{Client, Lease, UnderWay, is_live}
 use Rattle.nq_model.specs.Kept.{File, find_name}
 use Rattle.nq_model.specs.LeaseInterval.{cover_end}
 use Rattle.nq_model.specs.Message.{Packet}
-use Rattle.nq_model.specs.Profile.{same_bytes, xid_end}
+use Rattle.nq_model.specs.Profile.{same_bytes}
 use Rattle.nq_model.specs.Server.{Phase, serving, recovering}
 use Rattle.nq_model.specs.World.{World}
 use Rattle.nq_client_leases.specs.Leases.{passes}
@@ -26,11 +24,11 @@ use Rattle.nq_name_cache.specs.Names.{DirList, Names, Request, first_number, fou
 use Rattle.nq_name_server.specs.Served.{Served}
 use Rattle.nq_names_run.specs.Lasting.{IsCovered, IsLive, Lasts, id_of}
 use Rattle.nq_names_run.specs.Outer.{Outer, Outside}
-use Rattle.nq_names_run.specs.Outside.{beside, found, found_by, inside}
+use Rattle.nq_names_run.specs.Outside.{beside, found_by, inside}
 use Rattle.nq_names_run.specs.Theorem.{FindsWhatIsKept, kept_as}
 use Rattle.walk_run.proofs.Packets.{In}
 use Rattle.law_names.proofs.Chains.{HasFit, IsServed, WasDrawn, fit-chains}
-use Rattle.law_names.proofs.Claims.{AskedFor, GaveUp, Good, Ground, HostFits, IsForgotten, ListFits, NoticedTo, Outlasts, ToldTo}
+use Rattle.law_names.proofs.Claims.{AskedFor, GaveUp, Ground, HostFits, IsForgotten, ListFits, Outlasts, ToldTo}
 use Rattle.law_names.proofs.Codec.{IsAsking, IsNoticing, IsTold}
 use Rattle.law_names.proofs.Pages.{IsWhole}
 use Rattle.law_names.proofs.ServedMoves.{found-in}

@@ -1,10 +1,9 @@
 -- Each event of a run with lists keeps what holds of every outer world.
-use Rattle.std.proofs.Common.{◌≡◌, ◌≢◌, ◌<◌, ◌≤◌, ◌^◌, ◌⊎◌, ℕ, ◌+◌, ◌==◌, ◌&&◌, Bool, true, false, not, List, [], ◌∷◌, ◌++◌, Option, Some, None, if◌then◌else◌, drop, length, map, refl, sym, subst, ap, ◌∙◌, arith, inl, inr}
-use Rattle.std.specs.Prelude.{⊤, All, slice_get, slice_set}
+use Rattle.std.proofs.Common.{◌≡◌, ◌<◌, ◌≤◌, ◌^◌, ℕ, ◌+◌, ◌==◌, ◌&&◌, Bool, true, false, not, List, [], ◌∷◌, ◌++◌, Option, Some, None, if◌then◌else◌, drop, length, refl, sym, subst, ap, ◌∙◌, arith, inl, inr, append-nil}
+use Rattle.std.specs.Prelude.{All, slice_get, slice_set}
 use Rattle.std.proofs.lemmas.List.Elements.{All-head, All-tail}
 use Rattle.std.proofs.lemmas.Bool.{and_parts, not-true}
 use Rattle.nq_base.specs.Name.{IsName}
-use Rattle.nq_base.specs.declared.Call.{Call}
 use Rattle.nq_base.specs.declared.Event.{Event}
 use Rattle.nq_base.specs.declared.Party.{Party}
 use Rattle.nq_base.specs.declared.Request.{Request}
@@ -21,35 +20,36 @@ use Rattle.law_bounds.specs.Within.{CarriesText}
 use Rattle.law_steps.proofs.OneHost.{of-one-host}
 use Rattle.nq_model.specs.Change.{IsFileWithin}
 use Rattle.nq_model.specs.Client.{Client}
-use Rattle.nq_model.specs.Kept.{File, Kept, find_file, find_name, host_row}
-use Rattle.nq_model.specs.Message.{Datagram, Packet, call, datagram_of, request}
-use Rattle.nq_model.specs.Profile.{most_hosts, most_ids, same_bytes}
+use Rattle.nq_model.specs.Kept.{File, find_file, find_name, host_row}
+use Rattle.nq_model.specs.Message.{Packet, call, datagram_of}
+use Rattle.nq_model.specs.Profile.{most_ids, same_bytes}
 use Rattle.nq_model.specs.Server.{Phase, serving, recovering}
 use Rattle.nq_model.specs.Stepped.{most_events}
-use Rattle.nq_model.specs.World.{Head, World, from_host, sending_host, step}
+use Rattle.nq_model.specs.World.{Head, sending_host, step}
 use Rattle.nq_name_cache.specs.Asking.{Asks, heard, lists_dir}
 use Rattle.nq_name_cache.specs.Names.{Names, before_call}
 use Rattle.nq_name_server.specs.Served.{Served, leaf_behind}
-use Rattle.nq_name_server.specs.Serving.{Serves, ToHost, holds_up, puts_off, reads_dir, ticks, vacates}
-use Rattle.nq_names_run.proofs.Inner.{Core, inner-ran}
+use Rattle.nq_name_server.specs.Serving.{Serves, ToHost, holds_up, puts_off, reads_dir, vacates}
+use Rattle.nq_names_run.proofs.Inner.{inner-ran}
 use Rattle.nq_names_run.specs.declared.event.NameEvent.{NameEvent}
-use Rattle.nq_names_run.specs.Outer.{Outer, Outside, of_boot}
-use Rattle.nq_names_run.specs.Outside.{Changes, after_inner, asks_as, at_side, beside, changes_as, delivers, heard_by, held_or, inner, inside, is_changing, lists, new_side, outside_step, passes, reads, reads_in, renewed, sends, sends_all, sends_from, sends_these, served_as, served_read, served_vacated, serves, takes, to_host, to_server, vacates_own}
+use Rattle.nq_names_run.specs.Outer.{Outer, Outside}
+use Rattle.nq_names_run.specs.Outside.{Changes, asks_as, at_side, beside, changes_as, delivers, heard_by, held_or, inner, is_changing, lists, new_side, outside_step, passes, reads, reads_in, renewed, sends, sends_all, sends_from, sends_these, served_as, served_read, served_vacated, serves, takes, to_host, to_server}
 use Rattle.nq_names_run.specs.Theorem.{BringsPrefix}
 use Rattle.walk_client.proofs.ClientMoves.{none-some, some-same}
 use Rattle.walk_run.proofs.Packets.{In, in-get}
 use Rattle.nq_promises.specs.StepsAreOfOneHost.{receiver_of}
 use Rattle.walk_server.proofs.Rows.{decided, same-number}
 use Rattle.law_names.proofs.Chains.{Chained}
-use Rattle.law_names.proofs.Claims.{AskedFor, GaveUp}
 use Rattle.law_names.proofs.Codec.{IsChange, IsCodec}
-use Rattle.law_names.proofs.EventHosts.{NamesGo, called-names, same-names}
+use Rattle.law_names.proofs.EventHosts.{called-names, same-names}
 use Rattle.law_names.proofs.EventShifts.{ChangesIn, by_create, by_remove, sent-as}
-use Rattle.law_names.proofs.EventSteps.{append-nothing, client-event, crash-event, insides, more_of, receive-event, restart-names, sent-all, tick-event}
+use Rattle.law_names.proofs.EventPackets.{insides, sent-all}
+use Rattle.law_names.proofs.EventSteps.{client-event, crash-event, receive-event, restart-names}
+use Rattle.law_names.proofs.TickSteps.{tick-event}
 use Rattle.law_names.proofs.HearSteps.{heard-after, lists-after, sending}
 use Rattle.law_names.proofs.HostMoves.{AreKept}
 use Rattle.law_names.proofs.InnerRuns.{IsKnown}
-use Rattle.law_names.proofs.OuterFits.{Inv, InvOf, IsBeside, IsInner, IsSide, Stands, asking, giving, noticing, telling}
+use Rattle.law_names.proofs.OuterFits.{Inv, InvOf, IsBeside, IsInner, Stands, asking, giving, noticing, telling}
 use Rattle.law_names.proofs.ServedMoves.{found-in, unheld}
 use Rattle.law_names.proofs.ServerSteps.{delays-inv, held-inv, packets_of, quiet-inv, reads-inv, vacating-inv}
 
@@ -57,7 +57,7 @@ use Rattle.law_names.proofs.ServerSteps.{delays-inv, held-inv, packets_of, quiet
 
 these-sent : (o : Outside) (ds : List ToHost) → sends_these o ds ≡ record o { sent = o.sent ++ packets_of ds }
 unfolding sends
-these-sent o [] = ap (λ l. record o { sent = l }) (append-nothing o.sent)
+these-sent o [] = ap (λ l. record o { sent = l }) (sym (append-nil o.sent))
 these-sent o (d ∷ ds) =
     these-sent (record o { sent = o.sent ++ beside Party.Server (Party.Client d.host) d.bytes ∷ [] }) ds
     ∙ ap (λ l. record o { sent = l }) (again o.sent (beside Party.Server (Party.Client d.host) d.bytes) (packets_of ds))
@@ -72,7 +72,7 @@ served-is o s = these-sent (record o { served = s.served }) s.sends
 
 from-is : (o : Outside) (host : ℕ) (bytes : Option (List ℕ)) → sends_from o host bytes ≡ record o { sent = o.sent ++ sending host bytes }
 unfolding sends
-from-is o host None = ap (λ l. record o { sent = l }) (append-nothing o.sent)
+from-is o host None = ap (λ l. record o { sent = l }) (sym (append-nil o.sent))
 from-is o host (Some bytes) = refl
 
 asked-is : (o : Outside) (host : ℕ) (a : Asks) → asks_as o host a ≡ record o { sides = slice_set o.sides host a.names; sent = o.sent ++ sending host a.sends }
@@ -101,7 +101,7 @@ module _ (codec : IsCodec) (most : ℕ) (head : Head) (o : Outside) (bound : ℕ
   quiet : Later o bound
   quiet = (
     standing,
-    subst (λ l. Inv o.world o.served o.sides l o.ran (bound + 1) standing) (sym (append-nothing o.sent))
+    subst (λ l. Inv o.world o.served o.sides l o.ran (bound + 1) standing) (append-nil o.sent)
         (quiet-inv codec most head o.world o.served o.sides o.sent o.ran bound standing inv known short here),
   )
 
@@ -328,7 +328,7 @@ module _ (codec : IsCodec) (most : ℕ) (head : Head) (o : Outside) (bound : ℕ
       by true g =
           let v = vacating-inv codec most head o.world o.served o.sides o.sent o.ran bound standing inv known short here host t
           (record { packet = p; there = there; sender = sender; beside = alone; no_request = none; reads = e }) (same-number t.who.host host g) in
-          (v.0, subst (λ l. Inv o.world (vacates o.served t) o.sides l o.ran (bound + 1) v.0) (sym (append-nothing o.sent)) v.1)
+          (v.0, subst (λ l. Inv o.world (vacates o.served t) o.sides l o.ran (bound + 1) v.0) (append-nil o.sent) v.1)
       by false g = quiet
 
   reading-own : (host : ℕ) (p : Outer) → In o.sent p → p.sender ≡ Party.Client host → p.is ≡ None → (r : Option ReadDir) → read_dir_in p.bytes ≡ r

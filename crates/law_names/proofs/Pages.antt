@@ -1,12 +1,12 @@
 -- Pages of a directory, put together, have what is kept of it.
-use Rattle.std.proofs.Common.{◌≡◌, ◌≢◌, ◌<◌, ◌≤◌, ℕ, zero, suc, ◌+◌, ◌-◌, ◌==◌, Bool, true, false, not, ◌&&◌, nat_lt, nat_le, List, [], ◌∷◌, Option, Some, None, if◌then◌else◌, take, length, refl, sym, subst, ap, ◌∙◌, arith, inl, inr}
+use Rattle.std.proofs.Common.{◌≡◌, ◌<◌, ◌≤◌, ℕ, zero, suc, Bool, true, false, nat_lt, nat_le, List, [], ◌∷◌, Option, Some, None, if◌then◌else◌, take, length, refl, sym, subst, ap, ◌∙◌, arith, inl, inr}
 use Rattle.std.specs.Prelude.{All}
-use Rattle.std.specs.List.{find, filter}
+use Rattle.std.specs.List.{filter}
 use Rattle.std.proofs.lemmas.List.Elements.{All-head, All-tail}
-use Rattle.std.proofs.lemmas.Bool.{and_parts, and_from}
+use Rattle.std.proofs.lemmas.Bool.{and_parts}
 use Rattle.std.proofs.lemmas.Bool.Decides.{nat_tests}
 use Rattle.nq_directory.specs.declared.FileName.{FileName}
-use Rattle.nq_directory.specs.Names.{file_of, is_before, is_named, named, name_before, put_name, put_names}
+use Rattle.nq_directory.specs.Names.{named, name_before, put_name, put_names}
 use Rattle.nq_directory.specs.Prefix.{directory}
 use Rattle.nq_directory.proofs.Called.{same-name, same-self}
 use Rattle.nq_directory.proofs.Order.{not-before-itself}
@@ -15,7 +15,7 @@ use Rattle.nq_model.specs.Change.{AreApart}
 use Rattle.nq_model.specs.Kept.{File, find_name}
 use Rattle.nq_model.specs.Profile.{same_bytes}
 use Rattle.nq_name_cache.specs.Asking.{last_id}
-use Rattle.nq_name_server.specs.Served.{is_behind, name_of, names_of, names_behind}
+use Rattle.nq_name_server.specs.Served.{is_behind, names_of, names_behind}
 use Rattle.nq_names_run.specs.Lasting.{id_of}
 
 -- ---- a name is put

@@ -1,6 +1,6 @@
 -- The other steps of the server's side: a change of a directory is held up, a list is given up, the clock ticks.
-use Rattle.std.proofs.Common.{◌≡◌, ◌≢◌, ◌<◌, ◌≤◌, ◌⊎◌, ℕ, ◌+◌, ◌%◌, ◌==◌, Bool, true, false, not, ◌&&◌, ◌||◌, nat_lt, List, [], ◌∷◌, ◌++◌, Option, Some, None, if◌then◌else◌, length, suc, refl, sym, subst, ap, ◌∙◌, arith, inl, inr}
-use Rattle.std.specs.List.{find, filter, prefix_len}
+use Rattle.std.proofs.Common.{◌≡◌, ◌≢◌, ◌<◌, ◌≤◌, ◌⊎◌, ℕ, ◌+◌, ◌%◌, ◌==◌, Bool, true, false, not, ◌&&◌, List, [], ◌∷◌, Option, Some, None, if◌then◌else◌, length, refl, sym, subst, ap, ◌∙◌, arith, inl, inr}
+use Rattle.std.specs.List.{find, filter}
 use Rattle.std.proofs.lemmas.Bool.{and_parts, and_from}
 use Rattle.std.proofs.lemmas.Bool.Decides.{nat_tests}
 use Rattle.nq_base.specs.declared.Access.{Access}
@@ -9,13 +9,11 @@ use Rattle.nq_base.specs.declared.Question.{Question}
 use Rattle.nq_base.specs.declared.Row.{Row}
 use Rattle.nq_base.specs.declared.Tag.{Tag}
 use Rattle.nq_base.specs.declared.Who.{Who}
-use Rattle.nq_directory.proofs.Called.{same-name}
 use Rattle.nq_listing.specs.declared.DirTag.{DirTag}
-use Rattle.nq_model.specs.Ask.{ask, conflicts, free, granted, no_lease, put_off_by_own, marked}
+use Rattle.nq_model.specs.Ask.{ask, conflicts, free}
 use Rattle.nq_model.specs.Kept.{File}
-use Rattle.nq_model.specs.LeaseInterval.{claim_of, HasFitting}
-use Rattle.nq_model.specs.Profile.{same_bytes, xid_end}
-use Rattle.nq_model.specs.ServerStep.{end_reading, is_over, vacated_rows}
+use Rattle.nq_model.specs.Profile.{xid_end}
+use Rattle.nq_model.specs.ServerStep.{is_over, vacated_rows}
 use Rattle.nq_model.specs.Table.{Table, caches, same_tag, tag_below, is_row_of, find_row, drop_row, with_rows}
 use Rattle.nq_name_server.specs.Served.{Served, number_of}
 use Rattle.nq_name_server.specs.Serving.{Serves, ToHost, notices, notice_to, changes_for, readers, holds, holds_for, holds_as, holds_up, gives_up, vacates, ticks}
@@ -23,12 +21,11 @@ use Rattle.walk_client.proofs.ClientMoves.{some-same, none-some}
 use Rattle.walk_leases.proofs.Covers.{GoesOnAt, fitting-goes-on, marked-goes-on, same-goes-on}
 use Rattle.walk_leases.proofs.ServerEffects.{unique-in}
 use Rattle.walk_run.proofs.Packets.{In}
-use Rattle.walk_run.proofs.TagFacts.{IsDrawn}
-use Rattle.walk_server.proofs.AskCases.{AskCases, asks}
+use Rattle.walk_server.proofs.AskCases.{asks}
 use Rattle.walk_server.proofs.RowChanges.{find-not-vacated}
 use Rattle.walk_server.proofs.Rows.{decided, same-number, number-same, found-row}
 use Rattle.walk_server.proofs.TableFits.{TableFits}
-use Rattle.law_names.proofs.Chains.{Chained, HasFit, IsServed, Leads, WasDrawn, append-none, leads, number-one}
+use Rattle.law_names.proofs.Chains.{Chained, HasFit, IsServed, Leads, append-none, leads, number-one}
 use Rattle.law_names.proofs.Tables.{Follows, fewer-follows, marked-follows, same-follows, stand_ins, stays-on, vacated-follows}
 
 -- ---- members of lists

@@ -1,9 +1,7 @@
 -- A READDIRLOOK that is served: what follows on the table, and what is granted.
-use Rattle.std.proofs.Common.{◌≡◌, ◌≢◌, ◌<◌, ◌≤◌, ◌⊎◌, ℕ, ◌+◌, ◌-◌, ◌==◌, Bool, true, false, not, ◌&&◌, ◌||◌, nat_lt, List, [], ◌∷◌, ◌++◌, Option, Some, None, if◌then◌else◌, is_some, length, max, min, refl, sym, subst, ap, ◌∙◌, arith, inl, inr}
-use Rattle.std.specs.List.{filter}
+use Rattle.std.proofs.Common.{◌≡◌, ◌≢◌, ◌≤◌, ◌⊎◌, ℕ, ◌+◌, ◌==◌, Bool, true, false, not, ◌&&◌, ◌||◌, nat_lt, List, [], ◌∷◌, ◌++◌, Option, Some, None, if◌then◌else◌, is_some, length, refl, sym, subst, ap, ◌∙◌, arith, inl, inr}
 use Rattle.std.proofs.lemmas.Bool.{and_from}
 use Rattle.std.proofs.lemmas.Bool.Decides.{nat_tests}
-use Rattle.nq_base.specs.declared.Access.{Access}
 use Rattle.nq_base.specs.declared.Asked.{Asked}
 use Rattle.nq_base.specs.declared.Grant.{Grant}
 use Rattle.nq_base.specs.declared.Mode.{Mode}
@@ -17,22 +15,22 @@ use Rattle.nq_listing.specs.declared.ReadDir.{ReadDir}
 use Rattle.nq_model.specs.Ask.{ask, term_of, grant_of, granted, no_lease, put_off_by_own, free, sharing_row, caching_row, shared_again, renewed_row}
 use Rattle.nq_model.specs.Kept.{File, find_file}
 use Rattle.nq_model.specs.LeaseInterval.{claim_of, HasFitting}
-use Rattle.nq_model.specs.Profile.{skew, granted_term, shortest_term}
+use Rattle.nq_model.specs.Profile.{skew, granted_term}
 use Rattle.nq_model.specs.Table.{Table, caches, tag_below, is_row_of, find_row, drop_row, put_row, with_rows, after_draw}
 use Rattle.nq_name_cache.specs.Asking.{is_reading}
 use Rattle.nq_name_server.specs.Served.{Served, Leaf, most_directories, number_of}
-use Rattle.nq_name_server.specs.Serving.{Serves, ToHost, lists_for, tells, puts_off, notices, notice_to, notice_after, evicting, delays, answers, leased, own_again, for_asker, asks_table, reads_numbered, reads_new, reads_as, reads_dir}
+use Rattle.nq_name_server.specs.Serving.{Serves, ToHost, lists_for, tells, puts_off, notice_to, evicting, delays, answers, leased, own_again, for_asker, reads_numbered, reads_as, reads_dir}
 use Rattle.walk_client.proofs.ClientMoves.{some-same, none-some}
 use Rattle.walk_leases.proofs.Covers.{fitting-goes-on, granted-key}
 use Rattle.walk_run.proofs.Packets.{In, in-append}
 use Rattle.walk_run.proofs.TagFacts.{IsDrawn}
-use Rattle.walk_server.proofs.AskCases.{AskCases, asks, clash_in, IsGranted, shares_again, begins_sharing, begins_caching, renews_row}
+use Rattle.walk_server.proofs.AskCases.{asks, clash_in, IsGranted, shares_again, begins_sharing, begins_caching, renews_row}
 use Rattle.walk_server.proofs.Incarnations.{who-same}
 use Rattle.walk_server.proofs.RowChanges.{find-put-same, find-row-dropped, find-other-dropped}
 use Rattle.walk_server.proofs.Rows.{decided, same-number, number-same, found-row}
-use Rattle.walk_server.proofs.TableFits.{TableFits, RowFits, fits-granted, tag-in-order}
+use Rattle.walk_server.proofs.TableFits.{TableFits, fits-granted, tag-in-order}
 use Rattle.law_names.proofs.Chains.{Chained, HasFit, IsServed, Leads, WasDrawn, append-none, leads, more-served, number-below, number-more, number-new, then-leads}
-use Rattle.law_names.proofs.Tables.{Follows, ask-follows, ask-goes-on, fewer-follows, fresh-above, granted-follows, same-follows, stand_ins, stands-in, then-follows}
+use Rattle.law_names.proofs.Tables.{Follows, ask-follows, ask-goes-on, fewer-follows, fresh-above, same-follows, stand_ins, stands-in, then-follows}
 
 -- ---- the asker's row of another incarnation goes
 

@@ -1,17 +1,15 @@
 -- The server's side of leased directories moves: what holds of every outer world is kept.
-use Rattle.std.proofs.Common.{◌≡◌, ◌≢◌, ◌<◌, ◌≤◌, ◌^◌, ◌⊎◌, ℕ, ◌+◌, ◌==◌, Bool, true, false, List, [], ◌∷◌, ◌++◌, Option, Some, None, if◌then◌else◌, length, max, min, refl, sym, subst, ap, ◌∙◌, arith, inl, inr}
-use Rattle.std.specs.Prelude.{⊤, All, slice_get}
+use Rattle.std.proofs.Common.{◌≡◌, ◌<◌, ◌≤◌, ◌⊎◌, ℕ, ◌+◌, true, List, ◌++◌, Some, None, length, refl, sym, ◌∙◌, arith, inl, inr}
+use Rattle.std.specs.Prelude.{slice_get}
 use Rattle.nq_base.specs.declared.Event.{Event}
 use Rattle.nq_base.specs.declared.Grant.{Grant}
 use Rattle.nq_base.specs.declared.Party.{Party}
 use Rattle.nq_base.specs.declared.Tag.{Tag}
-use Rattle.nq_base.specs.declared.Who.{Who}
 use Rattle.nq_listing.specs.declared.DirTag.{DirTag}
 use Rattle.nq_listing.specs.declared.ReadDir.{ReadDir}
-use Rattle.nq_listing.specs.Messages.{Answer, Listing, page, wait}
+use Rattle.nq_listing.specs.Messages.{Answer, Listing, page}
 use Rattle.nq_model.specs.Kept.{host_row}
 use Rattle.nq_model.specs.LeaseInterval.{cover_end}
-use Rattle.nq_model.specs.Server.{Phase, serving, recovering}
 use Rattle.nq_model.specs.Table.{tag_below}
 use Rattle.nq_model.specs.World.{World}
 use Rattle.nq_name_cache.specs.Asking.{is_reading}
@@ -20,9 +18,9 @@ use Rattle.nq_name_server.specs.Served.{Served}
 use Rattle.nq_names_run.specs.Outer.{Outer}
 use Rattle.walk_client.proofs.ClientMoves.{none-some}
 use Rattle.walk_run.proofs.Packets.{In, in-append}
-use Rattle.law_names.proofs.Chains.{HasFit, IsServed, Leads, WasDrawn}
-use Rattle.law_names.proofs.Claims.{AskedFor, GaveUp, Ground, HostFits, IsAbove, IsClaimed, NoticedTo, PageFits, Shift, ToldTo, list-shifted, page-shifted, part-shifted}
-use Rattle.law_names.proofs.OuterFits.{Inv, IsBeside, IsInner, IsOwn, IsSide, SideFits, Stands, asking, giving, ground, noticing, telling}
+use Rattle.law_names.proofs.Chains.{HasFit, Leads, WasDrawn}
+use Rattle.law_names.proofs.Claims.{AskedFor, GaveUp, PageFits, Shift, ToldTo, list-shifted, page-shifted, part-shifted}
+use Rattle.law_names.proofs.OuterFits.{Inv, IsBeside, IsInner, IsSide, Stands, asking, giving, ground, noticing, telling}
 
 -- packets that the server's side sends beside those of the inner world
 pub record AreServed (more : List Outer) : Type 0 where

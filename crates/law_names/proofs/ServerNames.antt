@@ -1,5 +1,5 @@
 -- What each step of the inner server does to the names of the kept files, to the incarnations of hosts, and to a recovery.
-use Rattle.std.proofs.Common.{◌≡◌, ◌<◌, ◌≤◌, ℕ, ◌+◌, ◌==◌, Bool, true, false, List, [], ◌∷◌, ◌++◌, Option, Some, None, if◌then◌else◌, max, refl, sym, subst, ap, ◌∙◌, arith}
+use Rattle.std.proofs.Common.{◌≡◌, ◌≤◌, ℕ, ◌+◌, List, [], ◌∷◌, ◌++◌, Option, Some, None, max, refl, sym, subst, ap, ◌∙◌, arith}
 use Rattle.std.specs.Prelude.{⊤}
 use Rattle.nq_base.specs.declared.Request.{Request}
 use Rattle.nq_base.specs.declared.Who.{Who}
@@ -8,13 +8,12 @@ use Rattle.nq_model.specs.Decide.{decides, creates, writes_through, stores, wrot
 use Rattle.nq_model.specs.Kept.{File, Kept, find_file, drop_file, fenced_file, new_file, replace_file, written_file, resized_file, with_files, with_new_file, with_row, host_row}
 use Rattle.nq_model.specs.Message.{Datagram, request}
 use Rattle.nq_model.specs.Profile.{write_slack}
-use Rattle.nq_model.specs.Server.{Phase, serving, recovering, Server, ServerStep, quiet, drops, says, after_notices, keeping, keeping_with, with_table}
-use Rattle.nq_model.specs.ServerStep.{attaches, vacates, tells_later, serves, leases, receive, tick, crash, boot, booted, fence}
-use Rattle.nq_model.specs.Table.{Table}
+use Rattle.nq_model.specs.Server.{Phase, serving, recovering, Server, quiet, drops, says, after_notices, keeping, keeping_with, with_table}
+use Rattle.nq_model.specs.ServerStep.{attaches, vacates, tells_later, serves, leases, receive, fence}
 use Rattle.nq_name_server.specs.Served.{names_of}
-use Rattle.walk_server.proofs.KeptChanges.{later-incs, same-incs, same-lines, booted-line}
+use Rattle.walk_server.proofs.KeptChanges.{later-incs, same-incs}
 use Rattle.walk_server.proofs.ServerCases.{server-hears}
-use Rattle.walk_server.proofs.ServerMoves.{phase-moves, server-moves, tick-moves}
+use Rattle.walk_server.proofs.ServerMoves.{phase-moves, server-moves}
 use Rattle.walk_server.proofs.ServerOutcomes.{IsChanging, IsFresh}
 use Rattle.law_names.proofs.Claims.{Outlasts}
 use Rattle.law_names.proofs.Entries.{all-named, names-replaced}

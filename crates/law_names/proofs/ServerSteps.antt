@@ -1,6 +1,6 @@
 -- What comes to the server beside the inner world keeps what holds of every outer world.
-use Rattle.std.proofs.Common.{◌≡◌, ◌≢◌, ◌<◌, ◌≤◌, ◌^◌, ◌⊎◌, ℕ, zero, suc, ◌+◌, ◌==◌, ◌&&◌, Bool, true, false, List, [], ◌∷◌, ◌++◌, Option, Some, None, if◌then◌else◌, length, max, min, take, nat_lt, refl, sym, subst, ap, ◌∙◌, arith, inl, inr}
-use Rattle.std.specs.Prelude.{⊤, All, slice_get}
+use Rattle.std.proofs.Common.{◌≡◌, ◌≤◌, ◌⊎◌, ℕ, zero, suc, ◌+◌, ◌==◌, Bool, true, false, List, [], ◌∷◌, ◌++◌, Option, Some, None, if◌then◌else◌, length, take, nat_lt, refl, sym, subst, ap, ◌∙◌, arith, inl, inr}
+use Rattle.std.specs.Prelude.{All, slice_get}
 use Rattle.std.specs.List.{filter}
 use Rattle.std.proofs.lemmas.Bool.{and_from}
 use Rattle.std.proofs.lemmas.List.Elements.{All-cons, All-head, All-nil, All-tail}
@@ -12,37 +12,37 @@ use Rattle.nq_base.specs.declared.Who.{Who}
 use Rattle.nq_listing.specs.declared.DirTag.{DirTag}
 use Rattle.nq_listing.specs.declared.ReadDir.{ReadDir}
 use Rattle.nq_listing.specs.Messages.{Answer, IsEntry, IsReadDir, Listing, page, wait, most_names}
-use Rattle.nq_wire.specs.Parts.{IsGrant, IsTag}
-use Rattle.nq_listing.specs.Reading.{read_dir_in, told_in}
+use Rattle.nq_wire.specs.Parts.{IsTag}
+use Rattle.nq_listing.specs.Reading.{told_in}
 use Rattle.nq_directory.specs.declared.FileName.{FileName}
 use Rattle.nq_model.specs.Change.{IsFileWithin}
-use Rattle.nq_model.specs.Kept.{File, Kept, host_row}
+use Rattle.nq_model.specs.Kept.{File, host_row}
 use Rattle.nq_model.specs.LeaseInterval.{cover_end}
-use Rattle.nq_model.specs.Profile.{granted_term, longest_term, most_ids, shortest_term, skew}
+use Rattle.nq_model.specs.Profile.{granted_term, most_ids}
 use Rattle.nq_model.specs.Server.{Phase, serving, recovering}
 use Rattle.nq_model.specs.Skew.{ticks_of}
 use Rattle.nq_model.specs.Stepped.{most_events}
-use Rattle.nq_model.specs.Table.{Table, tag_below}
+use Rattle.nq_model.specs.Table.{Table}
 use Rattle.nq_model.specs.World.{Head, World}
 use Rattle.nq_name_cache.specs.Asking.{is_reading}
 use Rattle.nq_name_cache.specs.Names.{Names, Request}
 use Rattle.nq_name_server.specs.Served.{Leaf, Served, is_behind, leaf_behind, names_behind, names_of, number_of}
-use Rattle.nq_name_server.specs.Serving.{Serves, ToHost, gives_up, holds_as, holds_up, notice_to, puts_off, reads_dir, tells, vacates}
+use Rattle.nq_name_server.specs.Serving.{Serves, ToHost, gives_up, holds_as, holds_up, puts_off, reads_dir, vacates}
 use Rattle.nq_names_run.specs.Outer.{Outer}
 use Rattle.nq_names_run.specs.Outside.{beside}
-use Rattle.walk_client.proofs.ClientMoves.{none-some, some-same}
+use Rattle.walk_client.proofs.ClientMoves.{none-some}
 use Rattle.walk_run.proofs.Clocks.{moment-past}
 use Rattle.walk_run.proofs.Packets.{In}
 use Rattle.walk_server.proofs.Incarnations.{who-same}
 use Rattle.walk_server.proofs.Rows.{number-same}
 use Rattle.law_names.proofs.Chains.{Chained, HasFit, IsServed, Leads, WasDrawn, number-in, same-leads}
 use Rattle.law_names.proofs.Claims.{AskedFor, GaveUp, IsLeaf, Outlasts, PageFits, ToldTo}
-use Rattle.law_names.proofs.Codec.{IsAsking, IsCodec, IsNoticing, IsSame, IsTelling, IsTold}
+use Rattle.law_names.proofs.Codec.{IsCodec, IsSame, IsTelling}
 use Rattle.law_names.proofs.InnerRuns.{IsKnown}
-use Rattle.law_names.proofs.OuterFits.{Inv, IsBeside, IsNew, IsSide, Stands, asking, giving, ground, noticing, telling}
-use Rattle.law_names.proofs.ServedMoves.{HeldServed, IsNotice, VacatedServed, holds-served, vacates-served}
+use Rattle.law_names.proofs.OuterFits.{Inv, IsBeside, IsNew, IsSide, Stands, ground, noticing, telling}
+use Rattle.law_names.proofs.ServedMoves.{HeldServed, IsNotice, holds-served, vacates-served}
 use Rattle.law_names.proofs.ServedReads.{IsGiven, IsSaid, ReadServed, later, leaf_told, notice, reads-served}
-use Rattle.law_names.proofs.ServedSteps.{AreServed, ServedAfter, gave-served, served-inv}
+use Rattle.law_names.proofs.ServedSteps.{AreServed, gave-served, served-inv}
 
 -- ---- datagrams to hosts, as packets
 

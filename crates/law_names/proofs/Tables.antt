@@ -1,10 +1,8 @@
 -- A lease table whose files are directories: what follows on what, in each step of the server's side.
-use Rattle.std.proofs.Common.{◌≡◌, ◌≢◌, ◌<◌, ◌≤◌, ◌⊎◌, ℕ, zero, suc, ◌+◌, ◌==◌, Bool, true, false, not, ◌&&◌, ◌||◌, nat_lt, nat_le, List, [], ◌∷◌, Option, Some, None, if◌then◌else◌, is_some, length, max, refl, sym, subst, ap, ◌∙◌, arith, inl, inr}
-use Rattle.std.specs.List.{find, filter}
-use Rattle.std.proofs.lemmas.Bool.{and_parts, not-true}
+use Rattle.std.proofs.Common.{◌≡◌, ◌≢◌, ◌<◌, ◌⊎◌, ℕ, zero, suc, ◌+◌, ◌==◌, Bool, true, false, not, ◌&&◌, nat_lt, nat_le, List, [], ◌∷◌, Option, Some, None, if◌then◌else◌, is_some, refl, sym, subst, ap, ◌∙◌, arith, inl, inr}
+use Rattle.std.specs.List.{filter}
 use Rattle.std.proofs.lemmas.Bool.Decides.{nat_tests}
 use Rattle.nq_base.specs.declared.Access.{Access}
-use Rattle.nq_base.specs.declared.Mode.{Mode}
 use Rattle.nq_base.specs.declared.Question.{Question}
 use Rattle.nq_base.specs.declared.Row.{Row}
 use Rattle.nq_base.specs.declared.Tag.{Tag}
@@ -13,14 +11,14 @@ use Rattle.nq_base.specs.declared.Who.{Who}
 use Rattle.nq_model.specs.Ask.{ask, marked, free, sharing_row, caching_row, shared_again, renewed_row, granted, no_lease, put_off_by_own, term_of}
 use Rattle.nq_model.specs.Kept.{File, find_file, new_file}
 use Rattle.nq_model.specs.ServerStep.{access_of, end_reading, is_over, vacated_rows}
-use Rattle.nq_model.specs.Table.{Table, caches, is_writing, same_tag, tag_below, is_row_of, find_row, drop_row, put_row, with_rows, after_draw}
+use Rattle.nq_model.specs.Table.{Table, caches, is_writing, tag_below, is_row_of, find_row, put_row, with_rows, after_draw}
 use Rattle.walk_client.proofs.ClientMoves.{some-same, none-some}
-use Rattle.walk_leases.proofs.Covers.{AreOfBoot, GoesOn, GoesOnAt, same-goes-on, marked-goes-on, granted-goes-on, granted-key, waiting-goes-on}
+use Rattle.walk_leases.proofs.Covers.{AreOfBoot, GoesOnAt, same-goes-on, marked-goes-on, granted-goes-on, waiting-goes-on}
 use Rattle.walk_run.proofs.TagFacts.{IsDrawn}
-use Rattle.walk_server.proofs.AskCases.{AskCases, asks, clash_in, own_in, has_room, with_marked, with_waiter, IsGranted, shares_again, begins_sharing, begins_caching, renews_row}
-use Rattle.walk_server.proofs.RowChanges.{of-key, found-put, found-marked, mark, mark-is, found-kept, find-kept, kept_if, found-vacated, find-not-vacated, unique-vacated, unique-filtered, find-other-dropped, find-row-dropped}
+use Rattle.walk_server.proofs.AskCases.{asks, clash_in, with_marked, with_waiter, IsGranted, shares_again, begins_sharing, begins_caching, renews_row}
+use Rattle.walk_server.proofs.RowChanges.{of-key, found-put, found-marked, mark-is, found-kept, find-kept, kept_if, found-vacated, unique-vacated, unique-filtered}
 use Rattle.walk_server.proofs.Rows.{decided, same-number, number-same, found-row}
-use Rattle.walk_server.proofs.TableFits.{TableFits, RowFits, fits-files, fits-fewer, fits-granted, fits-marked, fits-waiter}
+use Rattle.walk_server.proofs.TableFits.{TableFits, fits-fewer, fits-granted, fits-marked, fits-waiter}
 
 -- ---- files that stand for directories
 

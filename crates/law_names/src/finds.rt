@@ -1,5 +1,6 @@
 //! What hosts find.
 
+ghost use Rattle.law_names.specs.Met.{FindsAreMet};
 ghost use Rattle.nq_names_run.specs.Lasting.{EachListLasts};
 ghost use Rattle.nq_names_run.specs.Theorem.{EachFindIsKept};
 
@@ -14,4 +15,9 @@ pub fn each_find_is_kept()
 /// that ends later, or it recovers for longer than that, and the list has what is kept of its directory.
 pub fn lists_last()
     ensures { EachListLasts }
+{}
+
+/// There is such a schedule: a host lists a directory, and knows the file of a name in it, and of another name that no file has it.
+pub fn finds_are_met()
+    ensures { FindsAreMet }
 {}

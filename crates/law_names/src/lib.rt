@@ -4,4 +4,4 @@
 
 mod finds;
 
-pub use finds::{each_find_is_kept, lists_last};
+pub use finds::{each_find_is_kept, finds_are_met, lists_last};
