@@ -1,3 +1,5 @@
+pub mod AnswerCauses
+pub mod Causes
 pub mod ClientRests
 pub mod RunAnswers
 pub mod RunTells

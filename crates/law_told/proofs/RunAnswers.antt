@@ -1,8 +1,7 @@
--- In every run what an answer tells of files was so at the server.
+-- In every run what an answer says was so at the server: what it tells of files, and its cause where it refuses.
 use Rattle.std.proofs.Common.{◌≡◌, ℕ, ◌+◌, List, [], ◌∷◌, ◌++◌, Option, Some, None, length, refl, sym, subst, ◌∙◌, inl, inr}
 use Rattle.std.specs.Prelude.{slice_get}
 use Rattle.nq_base.specs.declared.Answer.{Answer}
-use Rattle.nq_base.specs.declared.Call.{Call}
 use Rattle.nq_base.specs.declared.Entry.{Entry}
 use Rattle.nq_base.specs.declared.Event.{Event}
 use Rattle.nq_base.specs.declared.Party.{Party}
@@ -24,50 +23,46 @@ use Rattle.nq_model.specs.ServerStep.{receive, tick, crash}
 use Rattle.nq_model.specs.Settle.{said}
 use Rattle.nq_model.specs.Skew.{IsWithinSkew}
 use Rattle.nq_model.specs.World.{Head, World, after_server, after_client, at_client, after_hearing, sending_host, deliver_to_client, deliver_to, deliver, start, run}
-use Rattle.nq_promises.specs.AnswersTellWhatWas.{HasNamed, HasLength, ToldSo, TellsSoAt, AnswersTellWhatWas}
-use Rattle.nq_promises.specs.Bounds.{KeepsBounds}
-use Rattle.nq_promises.specs.RepliesTellWhatWas.{Once, KeepsNamed, KeepsAt}
+use Rattle.nq_promises.specs.AnswersTellWhatWas.{ToldSo, TellsSoAt, AnswersTellWhatWas}
+use Rattle.nq_promises.specs.Bounds.{KeepsBounds, InEveryRun}
+use Rattle.nq_promises.specs.RepliesTellWhatWas.{Once}
 use Rattle.walk_calls.proofs.Placed.{Placed, call-told, call-later}
-use Rattle.walk_client.proofs.RepliedCases.{IsNamed, looked_up, created, attributes}
+use Rattle.walk_entries.proofs.ClientEntries.{IsTelling}
 use Rattle.walk_run.proofs.Clocks.{within-before}
 use Rattle.walk_run.proofs.NoCrash.{bounds-before}
 use Rattle.walk_run.proofs.Packets.{In, in-get, Asked, Told as ToldTo}
 use Rattle.walk_run.proofs.RunCases.{client_at}
 use Rattle.walk_run.proofs.Worlds.{Holds, IsAt, to-told, run-holds}
+use Rattle.law_calm.proofs.Meant.{requests-are-meant}
 use Rattle.law_calls.proofs.RunCalls.{calls-known}
-use Rattle.law_synchronized.proofs.OkFacts.{IsFor, KeepsOf}
+use Rattle.law_synchronized.proofs.OkFacts.{KeepsOf}
 use Rattle.law_synchronized.proofs.Standings.{oks-in-every-run}
+use Rattle.law_told.specs.RefusalsHaveCauses.{HasCauseAt, AnswersHaveCauses}
+use Rattle.law_told.proofs.AnswerCauses.{Says, SaysAt, Leases, later-says, telling-says}
 use Rattle.law_told.proofs.ClientRests.{IsCachedNext, Rests, AllRest, call-rests, tick-rests, hear-rests, restart-rests}
-use Rattle.law_told.proofs.RunTells.{once-map, HadSo, IsTrue, all-true}
+use Rattle.law_told.proofs.RunTells.{HadSo, IsTrue, all-true}
 use Rattle.law_told.proofs.ServerEntries.{IsNoAnswer, NoneAnswers, receive-answers-none, tick-answers-none, crash-answers-none}
 
 -- ---- facts of later schedules
 
-later-so : (head : Head) (event : Event) (earlier : List Event) (value : ℕ) (o : Option Told) → ToldSo head earlier value o
-    → ToldSo head (event ∷ earlier) value o
-later-so head event earlier value (Some (Told.Lookup name)) so = inr so
-later-so head event earlier value (Some (Told.Create name blocks)) so = inr so
-later-so head event earlier value (Some (Told.Attr file)) so = inr so
-later-so head event earlier value other so = tt
-
-later-at : (head : Head) (event : Event) (earlier : List Event) (e : Entry) (before : List Entry) → TellsSoAt head earlier e before
-    → TellsSoAt head (event ∷ earlier) e before
-later-at head event earlier (Entry.A who q (Said.OkValue value)) before so = later-so head event earlier value (call_of before who q) so
+later-at : (head : Head) (event : Event) (earlier : List Event) (e : Entry) (before : List Entry) → SaysAt head earlier e before
+    → SaysAt head (event ∷ earlier) e before
+later-at head event earlier (Entry.A who q answer) before so = later-says head event earlier answer (call_of before who q) so
 later-at head event earlier other before so = tt
 
-later-all : (head : Head) (event : Event) (earlier : List Event) (journal : List Entry) → Throughout (TellsSoAt head earlier) journal
-    → Throughout (TellsSoAt head (event ∷ earlier)) journal
+later-all : (head : Head) (event : Event) (earlier : List Event) (journal : List Entry) → Throughout (SaysAt head earlier) journal
+    → Throughout (SaysAt head (event ∷ earlier)) journal
 later-all head event earlier [] all = tt
 later-all head event earlier (e ∷ before) all = (later-at head event earlier e before all.0, later-all head event earlier before all.1)
 
 -- ---- entries of a step
 
-no-answer-so : (head : Head) (events : List Event) (e : Entry) (before : List Entry) → IsNoAnswer e → TellsSoAt head events e before
+no-answer-so : (head : Head) (events : List Event) (e : Entry) (before : List Entry) → IsNoAnswer e → SaysAt head events e before
 no-answer-so head events (Entry.A who q said) before none = absurd none
 no-answer-so head events other before none = tt
 
-server-so : (head : Head) (events : List Event) (entries journal : List Entry) → NoneAnswers entries → Throughout (TellsSoAt head events) journal
-    → Throughout (TellsSoAt head events) (entries ++ journal)
+server-so : (head : Head) (events : List Event) (entries journal : List Entry) → NoneAnswers entries → Throughout (SaysAt head events) journal
+    → Throughout (SaysAt head events) (entries ++ journal)
 server-so head events [] journal none all = all
 server-so head events (e ∷ entries) journal none all =
     (no-answer-so head events e (entries ++ journal) none.0, server-so head events entries journal none.1 all)
@@ -86,11 +81,11 @@ reads-more file block e before who q reads = case (call_of before who q) refl re
     case None is r = absurd r
     case (Some told) is r = subst (Reads file block) (sym (call-told e before who q told is)) r
 
--- what an answer of a step rests on, beside a cached read: its call was told, and what it tells was so
-record TellsOf (head : Head) (events : List Event) (journal : List Entry) (who : Who) (q value : ℕ) : Type 0 where
+-- what an answer of a step rests on, beside a cached read: its call was told, and what it says was so
+record TellsOf (head : Head) (events : List Event) (journal : List Entry) (who : Who) (q : ℕ) (answer : Said) : Type 0 where
   asks : Told
   call : call_of journal who q ≡ Some asks
-  so : ToldSo head events value (Some asks)
+  so : Says head events answer (Some asks)
 
 cached-so : (head : Head) (events : List Event) (who : Who) (q value : ℕ) (entries journal : List Entry) → IsCachedNext who q entries
     → Throughout Placed (entries ++ journal) → ToldSo head events value (call_of (entries ++ journal) who q)
@@ -102,15 +97,22 @@ cached-so head events who q value (Entry.R by n file block v None ∷ before) jo
     (reads-more file block (Entry.R by n file block v None) (before ++ journal) who q mine)
 cached-so head events who q value other journal next placed = absurd next
 
+caused-so : (head : Head) (events : List Event) (who : Who) (q : ℕ) (answer : Said) (entries journal : List Entry) → TellsOf head events journal who q answer
+    → Says head events answer (call_of (entries ++ journal) who q)
+caused-so head events who q answer entries journal cause =
+    subst (Says head events answer) (sym (call-later entries journal who q cause.asks cause.call)) cause.so
+
 rests-so : (head : Head) (events : List Event) (e : Entry) (entries journal : List Entry) → Rests (TellsOf head events journal) e entries
-    → Throughout Placed (entries ++ journal) → TellsSoAt head events e (entries ++ journal)
+    → Throughout Placed (entries ++ journal) → SaysAt head events e (entries ++ journal)
 rests-so head events (Entry.A who q (Said.OkValue value)) entries journal (inl next) placed = cached-so head events who q value entries journal next placed
-rests-so head events (Entry.A who q (Said.OkValue value)) entries journal (inr cause) placed =
-    subst (ToldSo head events value) (sym (call-later entries journal who q cause.asks cause.call)) cause.so
+rests-so head events (Entry.A who q (Said.OkValue value)) entries journal (inr cause) placed = caused-so head events who q (Said.OkValue value) entries journal cause
+rests-so head events (Entry.A who q Said.NoEntry) entries journal rests placed = caused-so head events who q Said.NoEntry entries journal (rests refl)
+rests-so head events (Entry.A who q Said.Stale) entries journal rests placed = caused-so head events who q Said.Stale entries journal (rests refl)
+rests-so head events (Entry.A who q Said.Exists) entries journal rests placed = caused-so head events who q Said.Exists entries journal (rests refl)
 rests-so head events other entries journal rests placed = tt
 
 client-so : (head : Head) (events : List Event) (entries journal : List Entry) → AllRest (TellsOf head events journal) entries
-    → Throughout Placed (entries ++ journal) → Throughout (TellsSoAt head events) journal → Throughout (TellsSoAt head events) (entries ++ journal)
+    → Throughout Placed (entries ++ journal) → Throughout (SaysAt head events) journal → Throughout (SaysAt head events) (entries ++ journal)
 client-so head events [] journal rest placed all = all
 client-so head events (e ∷ entries) journal rest placed all =
     (rests-so head events e entries journal rest.0 placed.1, client-so head events entries journal rest.1 placed.1 all)
@@ -119,41 +121,44 @@ client-so head events (e ∷ entries) journal rest placed all =
 
 module _ (most : ℕ) (head : Head) (event : Event) (earlier : List Event) (bounds : KeepsBounds most head earlier)
     (within : IsWithinSkew head.hosts most earlier) (placed : Throughout Placed (run head (event ∷ earlier)).journal)
-    (all : Throughout (TellsSoAt head earlier) (run head earlier).journal) where
+    (all : Throughout (SaysAt head earlier) (run head earlier).journal) where
   abbrev w : World
   w = run head earlier
 
-  before : Throughout (TellsSoAt head (event ∷ earlier)) w.journal
+  before : Throughout (SaysAt head (event ∷ earlier)) w.journal
   before = later-all head event earlier w.journal all
 
-  unmoved : run head (event ∷ earlier) ≡ w → Throughout (TellsSoAt head (event ∷ earlier)) (run head (event ∷ earlier)).journal
-  unmoved is = subst (λ v. Throughout (TellsSoAt head (event ∷ earlier)) v.journal) (sym is) before
+  unmoved : run head (event ∷ earlier) ≡ w → Throughout (SaysAt head (event ∷ earlier)) (run head (event ∷ earlier)).journal
+  unmoved is = subst (λ v. Throughout (SaysAt head (event ∷ earlier)) v.journal) (sym is) before
 
   -- a step of a client
   stepped : (host : ℕ) (t : ClientStep) → run head (event ∷ earlier) ≡ after_client w host t
-      → AllRest (TellsOf head (event ∷ earlier) w.journal) t.entries → Throughout (TellsSoAt head (event ∷ earlier)) (run head (event ∷ earlier)).journal
+      → AllRest (TellsOf head (event ∷ earlier) w.journal) t.entries → Throughout (SaysAt head (event ∷ earlier)) (run head (event ∷ earlier)).journal
   unfolding after_client
   stepped host t is rest =
-      subst (λ v. Throughout (TellsSoAt head (event ∷ earlier)) v.journal) (sym is)
+      subst (λ v. Throughout (SaysAt head (event ∷ earlier)) v.journal) (sym is)
       (client-so head (event ∷ earlier) t.entries w.journal rest (subst (λ v. Throughout Placed v.journal) is placed) before)
 
   -- a step of the server
   served : (t : ServerStep) → run head (event ∷ earlier) ≡ after_server w t → NoneAnswers t.entries
-      → Throughout (TellsSoAt head (event ∷ earlier)) (run head (event ∷ earlier)).journal
+      → Throughout (SaysAt head (event ∷ earlier)) (run head (event ∷ earlier)).journal
   unfolding after_server
   served t is none =
-      subst (λ v. Throughout (TellsSoAt head (event ∷ earlier)) v.journal) (sym is)
+      subst (λ v. Throughout (SaysAt head (event ∷ earlier)) v.journal) (sym is)
       (server-so head (event ∷ earlier) t.entries w.journal none before)
 
   -- the answer to a call is what its reply tells
   module _ (host : ℕ) (c : Client) (is : client_at head earlier host ≡ Some c) where
-    told-so : (xid : ℕ) (r : Reply) (ticket : Ticket) (u : UnderWay) (answer : Answer) (value : ℕ) → ToldTo w.packets host (reply xid r)
-        → c.ticket ≡ Some ticket → xid ≡ ticket.xid → inc_of r ≡ c.who.inc → c.call ≡ Some u → ticket.job ≡ for_call → IsNamed ticket.request r answer
-        → said answer None ≡ Said.OkValue value → TellsOf head (event ∷ earlier) w.journal c.who u.q value
-    told-so xid r ticket u answer value sent has same inc call job named gives = record {
+    told-so : (xid : ℕ) (r : Reply) (ticket : Ticket) (u : UnderWay) (answer : Answer) → ToldTo w.packets host (reply xid r)
+        → c.ticket ≡ Some ticket → xid ≡ ticket.xid → inc_of r ≡ c.who.inc → c.call ≡ Some u → ticket.job ≡ for_call → IsTelling ticket.request r answer
+        → TellsOf head (event ∷ earlier) w.journal c.who u.q (said answer None)
+    told-so xid r ticket u answer sent has same inc call job telling = record {
       asks = told u.call;
       call = (keeps.is_open u call).tells;
-      so = later-so head event earlier value (Some (told u.call)) (by answer named gives);
+      so =
+          later-says head event earlier (said answer None) (Some (told u.call))
+          (telling-says head earlier host xid c.who.inc u c.dirty c.push ticket.request r answer telling inc (keeps.fits ticket u has job call)
+          (leases ticket.request refl) was);
     } where
       at : IsAt host c w.packets
       at = (run-holds head earlier).clients host c is
@@ -172,48 +177,21 @@ module _ (most : ℕ) (head : Head) (event : Event) (earlier : List Event) (boun
       was : Once (HadSo host xid r ticket.request) head earlier
       was = subst (λ q. Once (HadSo host xid r q) head earlier) (sym own) true_reply.was
 
-      for : IsFor u c.dirty c.push ticket.request
-      for = keeps.fits ticket u has job call
-
-      by : (a : Answer) → IsNamed ticket.request r a → said a None ≡ Said.OkValue value → ToldSo head earlier value (Some (told u.call))
-      by a (looked_up who name i file blocks asks e) g =
-          let same_value : file ≡ value = cc in
-          let is_call : u.call ≡ Call.Lookup name = subst (IsFor u c.dirty c.push) asks for in
-          let had : Once (HadSo host xid (Reply.Lookup i file blocks) (Request.Lookup who name)) head earlier =
-          subst (λ b. Once (HadSo host xid b (Request.Lookup who name)) head earlier) e (subst (λ q. Once (HadSo host xid r q) head earlier) asks was) in
-          subst (λ k. ToldSo head earlier value (Some (told k))) (sym is_call)
-          (once-map (HadSo host xid (Reply.Lookup i file blocks) (Request.Lookup who name)) (HasNamed name value) head earlier
-          (λ v so. (blocks, subst (λ n. KeepsNamed v.server.kept.files name n blocks) same_value so.1)) had)
-      by a (created who seq name blocks i file asks e) g =
-          let same_value : file ≡ value = cc in
-          let is_call : u.call ≡ Call.Create name blocks = subst (IsFor u c.dirty c.push) asks for in
-          let had : Once (HadSo host xid (Reply.Create i file) (Request.Create who seq name blocks)) head earlier =
-          subst (λ b. Once (HadSo host xid b (Request.Create who seq name blocks)) head earlier) e
-          (subst (λ q. Once (HadSo host xid r q) head earlier) asks was) in
-          subst (λ k. ToldSo head earlier value (Some (told k))) (sym is_call)
-          (once-map (HadSo host xid (Reply.Create i file) (Request.Create who seq name blocks)) (λ v. KeepsNamed v.server.kept.files name value blocks)
-          head earlier
-          (λ v so. subst (λ n. KeepsNamed v.server.kept.files name n blocks) same_value so.1) had)
-      by a (attributes who file i blocks rev asks e) g =
-          let same_value : blocks ≡ value = cc in
-          let is_call : u.call ≡ Call.Attr file = subst (IsFor u c.dirty c.push) asks for in
-          let had : Once (HadSo host xid (Reply.GetAttr i blocks rev) (Request.GetAttr who file)) head earlier =
-          subst (λ b. Once (HadSo host xid b (Request.GetAttr who file)) head earlier) e (subst (λ q. Once (HadSo host xid r q) head earlier) asks was) in
-          subst (λ k. ToldSo head earlier value (Some (told k))) (sym is_call)
-          (once-map (HadSo host xid (Reply.GetAttr i blocks rev) (Request.GetAttr who file)) (HasLength file value) head earlier
-          (λ v so. (rev, subst (λ n. KeepsAt v.server.kept.files file n rev) same_value so.1)) had)
+      leases : (q : Request) → ticket.request ≡ q → Leases head earlier host xid c.who.inc u c.dirty c.push q
+      leases (Request.GetLease who file want) asks = ((requests-are-meant head earlier host c ticket u is has job call).leases who file want asks).0
+      leases other asks = tt
 
   -- ---- each event
 
   at-host : (host : ℕ) (f : Client → ClientStep) → ((c : Client) → AllRest (TellsOf head (event ∷ earlier) w.journal) (f c).entries)
       → (o : Option Client) → run head (event ∷ earlier) ≡ at_client w host f o
-      → Throughout (TellsSoAt head (event ∷ earlier)) (run head (event ∷ earlier)).journal
+      → Throughout (SaysAt head (event ∷ earlier)) (run head (event ∷ earlier)).journal
   at-host host f rest None is = unmoved is
   at-host host f rest (Some c) is = stepped host (f c) is (rest c)
 
   hearing : (k : ℕ) (p : Packet) (host : ℕ) (c : Client) → In w.packets p → p.to ≡ Party.Client host → client_at head earlier host ≡ Some c
       → (o : Option ClientStep) → hear c k p.message ≡ o → run head (event ∷ earlier) ≡ after_hearing w host o
-      → Throughout (TellsSoAt head (event ∷ earlier)) (run head (event ∷ earlier)).journal
+      → Throughout (SaysAt head (event ∷ earlier)) (run head (event ∷ earlier)).journal
   hearing k p host c i to there None hears is = unmoved is
   hearing k p host c i to there (Some t) hears is =
       let held : Holds w = run-holds head earlier in
@@ -221,30 +199,30 @@ module _ (most : ℕ) (head : Head) (event : Event) (earlier : List Event) (boun
       stepped host t is
       (hear-rests (TellsOf head (event ∷ earlier) w.journal) c k p.message t hears
       (λ ticket has. ((held.clients host c there).alone.asking.ticketed ticket has).fits)
-      (λ xid r ticket u answer value m has same inc call job named gives. told-so host c there xid r ticket u answer value
-      (subst (ToldTo w.packets host) m sent) has same inc call job named gives))
+      (λ xid r ticket u answer m has same inc call job telling. told-so host c there xid r ticket u answer
+      (subst (ToldTo w.packets host) m sent) has same inc call job telling))
 
   to-client : (k : ℕ) (p : Packet) (host : ℕ) → In w.packets p → p.to ≡ Party.Client host → (o : Option Client) → client_at head earlier host ≡ o
       → run head (event ∷ earlier) ≡ deliver_to_client w k host p.message o
-      → Throughout (TellsSoAt head (event ∷ earlier)) (run head (event ∷ earlier)).journal
+      → Throughout (SaysAt head (event ∷ earlier)) (run head (event ∷ earlier)).journal
   to-client k p host i to None there is = unmoved is
   to-client k p host i to (Some c) there is = hearing k p host c i to there (hear c k p.message) refl is
 
   to-party : (k : ℕ) (p : Packet) (party : Party) → In w.packets p → p.to ≡ party → run head (event ∷ earlier) ≡ deliver_to w k p party
-      → Throughout (TellsSoAt head (event ∷ earlier)) (run head (event ∷ earlier)).journal
+      → Throughout (SaysAt head (event ∷ earlier)) (run head (event ∷ earlier)).journal
   to-party k p Party.Server i to is =
       served (receive w.server (sending_host p.sender) (length w.packets) (datagram_of p.message)) is
       (receive-answers-none w.server (sending_host p.sender) (length w.packets) (datagram_of p.message))
   to-party k p (Party.Client host) i to is = to-client k p host i to (client_at head earlier host) refl is
 
   delivered : (k : ℕ) (o : Option Packet) → slice_get w.packets k ≡ o → run head (event ∷ earlier) ≡ deliver w k o
-      → Throughout (TellsSoAt head (event ∷ earlier)) (run head (event ∷ earlier)).journal
+      → Throughout (SaysAt head (event ∷ earlier)) (run head (event ∷ earlier)).journal
   delivered k None there is = unmoved is
   delivered k (Some p) there is = to-party k p p.to (in-get w.packets k p there) refl is
 
 by-event : (most : ℕ) (head : Head) (event : Event) (earlier : List Event) → KeepsBounds most head earlier → IsWithinSkew head.hosts most earlier
-    → Throughout Placed (run head (event ∷ earlier)).journal → Throughout (TellsSoAt head earlier) (run head earlier).journal
-    → Throughout (TellsSoAt head (event ∷ earlier)) (run head (event ∷ earlier)).journal
+    → Throughout Placed (run head (event ∷ earlier)).journal → Throughout (SaysAt head earlier) (run head earlier).journal
+    → Throughout (SaysAt head (event ∷ earlier)) (run head (event ∷ earlier)).journal
 by-event most head (Event.Call host op) earlier bounds within placed all =
     at-host most head (Event.Call host op) earlier bounds within placed all host (λ c. client_call c op)
     (λ c. call-rests (TellsOf head (Event.Call host op ∷ earlier) (run head earlier).journal) c op) (slice_get (run head earlier).clients host) refl
@@ -264,15 +242,40 @@ by-event most head (Event.Crash longest) earlier bounds within placed all =
     served most head (Event.Crash longest) earlier bounds within placed all (crash (run head earlier).server longest) refl
     (crash-answers-none (run head earlier).server longest)
 
-starts-so : (head : Head) → Throughout (TellsSoAt head []) (start head).journal
+starts-so : (head : Head) → Throughout (SaysAt head []) (start head).journal
 unfolding start
 starts-so head = tt
 
-pub answers-tell-what-was : AnswersTellWhatWas
-answers-tell-what-was most head [] bounds within = starts-so head
-answers-tell-what-was most head (event ∷ earlier) bounds within =
+answers-say-what-was : InEveryRun (λ head events. Throughout (SaysAt head events) (run head events).journal)
+answers-say-what-was most head [] bounds within = starts-so head
+answers-say-what-was most head (event ∷ earlier) bounds within =
     let bounded : KeepsBounds most head earlier = bounds-before most head event earlier bounds in
     let skewed : IsWithinSkew head.hosts most earlier = within-before head.hosts most event earlier within in
     by-event most head event earlier bounded skewed
     (calls-known most head (event ∷ earlier) bounds within).journal.placed
-    (answers-tell-what-was most head earlier bounded skewed)
+    (answers-say-what-was most head earlier bounded skewed)
+
+-- ---- the laws
+
+says-all : (P : Entry → List Entry → Type 0) (head : Head) (events : List Event)
+    → ((e : Entry) (before : List Entry) → SaysAt head events e before → P e before) → (journal : List Entry)
+    → Throughout (SaysAt head events) journal → Throughout P journal
+says-all P head events f [] all = tt
+says-all P head events f (e ∷ before) all = (f e before all.0, says-all P head events f before all.1)
+
+tells-at : (head : Head) (events : List Event) (e : Entry) (place : List Entry) → SaysAt head events e place → TellsSoAt head events e place
+tells-at head events (Entry.A who q (Said.OkValue value)) place so = so
+tells-at head events other place so = tt
+
+cause-at : (head : Head) (events : List Event) (e : Entry) (place : List Entry) → SaysAt head events e place → HasCauseAt head events e place
+cause-at head events (Entry.A who q (Said.OkValue value)) place so = tt
+cause-at head events (Entry.A who q answer) place so = so
+cause-at head events other place so = tt
+
+pub answers-tell-what-was : AnswersTellWhatWas
+answers-tell-what-was most head events bounds within =
+    says-all (TellsSoAt head events) head events (tells-at head events) (run head events).journal (answers-say-what-was most head events bounds within)
+
+pub answers-have-causes : AnswersHaveCauses
+answers-have-causes most head events bounds within =
+    says-all (HasCauseAt head events) head events (cause-at head events) (run head events).journal (answers-say-what-was most head events bounds within)

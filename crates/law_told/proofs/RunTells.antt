@@ -4,13 +4,13 @@ use Rattle.std.specs.Prelude.{◌-◌, slice_get, replicate, unwrap_or, zero, su
 use Rattle.nq_base.specs.declared.Event.{Event}
 use Rattle.nq_base.specs.declared.HostRow.{HostRow}
 use Rattle.nq_base.specs.declared.Party.{Party}
+use Rattle.nq_base.specs.declared.Refusal.{Refusal}
 use Rattle.nq_base.specs.declared.Reply.{Reply}
 use Rattle.nq_base.specs.declared.Request.{Request}
-use Rattle.nq_base.specs.declared.Verdict.{Verdict}
 use Rattle.nq_base.specs.declared.Who.{Who}
 use Rattle.nq_model.specs.Client.{Client, ClientStep}
 use Rattle.nq_model.specs.ClientStep.{client_call, client_tick, restart}
-use Rattle.nq_model.specs.Decide.{verdict_reply, done_reply}
+use Rattle.nq_model.specs.Decide.{verdict_reply}
 use Rattle.nq_model.specs.Hear.{hear, inc_of}
 use Rattle.nq_model.specs.Kept.{File, Kept, find_file, with_files, fresh_row, host_row}
 use Rattle.nq_model.specs.Message.{Message, Packet, call, reply, request, asker, datagram_of, sequence_of}
@@ -18,7 +18,7 @@ use Rattle.nq_model.specs.Profile.{most_hosts}
 use Rattle.nq_model.specs.Server.{Server, ServerStep, quiet, with_table, keeping_with, to_host}
 use Rattle.nq_model.specs.ServerStep.{receive, tick, crash, boot, fence, at_time, opens, ends_writing}
 use Rattle.nq_model.specs.World.{Head, World, from_host, after_server, after_client, at_client, after_hearing, sending_host, deliver_to_client, deliver_to, deliver, first_row, start, run}
-use Rattle.nq_promises.specs.RepliesTellWhatWas.{Once, IsSo, WasSo, RepliesTellWhatWas}
+use Rattle.nq_promises.specs.RepliesTellWhatWas.{Once, WasSo, RepliesTellWhatWas}
 use Rattle.walk_run.proofs.Mail.{none-to-host}
 use Rattle.walk_run.proofs.Packets.{In, in-append, in-left, in-get, Asked, Told}
 use Rattle.walk_run.proofs.Worlds.{to-server, run-holds}
@@ -28,6 +28,8 @@ use Rattle.walk_server.proofs.ServerCases.{server-ticks}
 use Rattle.law_bounds.proofs.WorldNumbers.{drawn-up-to}
 use Rattle.law_requests.proofs.OneRequests.{one-in-every-run}
 use Rattle.law_requests.proofs.Places.{in-place}
+use Rattle.law_told.specs.RefusalsHaveCauses.{HadCause, RefusalsHaveCauses}
+use Rattle.law_told.proofs.Causes.{IsTold}
 use Rattle.law_told.proofs.ServerTells.{Reason, so_before, so_after, again, Tells, RowMove, row_stays, row_begins, row_decided, receive-tells}
 
 -- ---- moments
@@ -43,9 +45,9 @@ once-map P Q head (event ∷ earlier) f (inr before) = inr (once-map P Q head ea
 
 -- ---- what is kept of a run
 
--- the request had been sent, and what the reply tells was so
+-- the request had been sent, what the reply tells was so, and a refusal had its cause
 abbrev pub HadSo : (host xid : ℕ) → Reply → Request → World → Type 0
-HadSo host xid a r w = Asked w.packets host xid r × IsSo w.server.kept.files a r
+HadSo host xid a r w = Asked w.packets host xid r × IsTold w.server.kept.files a r
 
 pub record IsTrue (head : Head) (events : List Event) (host xid : ℕ) (a : Reply) : Type 0 where
   pub asks : Request
@@ -65,10 +67,10 @@ record IsDeed (head : Head) (events : List Event) (k : ℕ) (line : HostRow) : T
   inc : who.inc ≡ line.inc
   sequence : sequence_of asks ≡ Some line.seq
   sent : Asked (run head events).packets k xid asks
-  was : Once (HadSo k xid (done_reply line.inc line.value asks) asks) head events
+  was : Once (HadSo k xid (verdict_reply line.inc line.verdict line.value asks) asks) head events
 
 abbrev RowTrue : Head → List Event → ℕ → HostRow → Type 0
-RowTrue head events k line = line.verdict ≡ Verdict.Done → 1 ≤ line.seq → IsDeed head events k line
+RowTrue head events k line = 1 ≤ line.seq → IsDeed head events k line
 
 pub record AllTrue (head : Head) (events : List Event) : Type 0 where
   pub replies : (host xid : ℕ) (a : Reply) → Told (run head events).packets host (reply xid a) → IsTrue head events host xid a
@@ -106,13 +108,13 @@ same-true head event earlier w is old more rows t = record {
   replies =
       λ host xid a told. later-true head event earlier host xid a (λ h x r asked. subst (λ v. Asked v.packets h x r) (sym is) (more h x r asked))
       (t.replies host xid a (old host xid a (subst (λ v. Told v.packets host (reply xid a)) is told)));
-  rows = λ k done one.
+  rows = λ k one.
       let same : host_row (run head (event ∷ earlier)).server.kept k ≡ host_row (run head earlier).server.kept k = ap (λ v. host_row v.server.kept k) is
       ∙ rows k in
       subst (IsDeed head (event ∷ earlier) k) (sym same)
       (later-deed head event earlier k (host_row (run head earlier).server.kept k)
       (λ host xid r asked. subst (λ v. Asked v.packets host xid r) (sym is) (more host xid r asked))
-      (t.rows k (ap (λ l. l.verdict) (sym same) ∙ done) (subst (λ l. 1 ≤ l.seq) same one)));
+      (t.rows k (subst (λ l. 1 ≤ l.seq) same one)));
 }
 
 unmoved : (head : Head) (event : Event) (earlier : List Event) → run head (event ∷ earlier) ≡ run head earlier → AllTrue head earlier
@@ -191,17 +193,18 @@ crash-silent s longest = (refl, λ k. booted-line s.kept longest k (s.kept.opene
 
 -- ---- a datagram at the server
 
--- a kept row of a done request tells what was so of each request with its sequence
+-- a kept row tells what was so of each request with its sequence
 repeats : (head : Head) (earlier : List Event) (host xid seq : ℕ) (r : Request) (who : Who) (line : HostRow) → IsDeed head earlier who.host line
     → Asked (run head earlier).packets host xid r → host ≡ who.host → asker r ≡ Some who → sequence_of r ≡ Some seq → line.inc ≡ who.inc
-    → line.seq ≡ seq → Once (HadSo host xid (done_reply who.inc line.value r) r) head earlier
+    → line.seq ≡ seq → Once (HadSo host xid (verdict_reply who.inc line.verdict line.value r) r) head earlier
 repeats head earlier host xid seq r who line deed asked home by sq inc same =
-    once-map (HadSo who.host deed.xid (done_reply line.inc line.value deed.asks) deed.asks) (HadSo host xid (done_reply who.inc line.value r) r) head earlier
+    once-map (HadSo who.host deed.xid (verdict_reply line.inc line.verdict line.value deed.asks) deed.asks)
+    (HadSo host xid (verdict_reply who.inc line.verdict line.value r) r) head earlier
     (λ v had.
-    subst (λ n. HadSo host xid (done_reply n line.value r) r v) inc
-    (subst (λ q. HadSo host xid (done_reply line.inc line.value q) q v) one.1
-    (subst (λ x. HadSo host x (done_reply line.inc line.value deed.asks) deed.asks v) one.0
-    (subst (λ h. HadSo h deed.xid (done_reply line.inc line.value deed.asks) deed.asks v) (sym home) had))))
+    subst (λ n. HadSo host xid (verdict_reply n line.verdict line.value r) r v) inc
+    (subst (λ q. HadSo host xid (verdict_reply line.inc line.verdict line.value q) q v) one.1
+    (subst (λ x. HadSo host x (verdict_reply line.inc line.verdict line.value deed.asks) deed.asks v) one.0
+    (subst (λ h. HadSo h deed.xid (verdict_reply line.inc line.verdict line.value deed.asks) deed.asks v) (sym home) had))))
     deed.was
   where
     same-who : deed.who ≡ who
@@ -240,30 +243,21 @@ module _ (head : Head) (event : Event) (earlier : List Event) (p : Packet) (i : 
     unfolding after_server
     asked-later host xid r asked = subst (λ v. Asked v.packets host xid r) (sym is) (in-left w.packets step_of.sends (from_host host (call xid r)) asked)
 
-    so-later : (a : Reply) (r : Request) → IsSo step_of.server.kept.files a r → IsSo (run head (event ∷ earlier)).server.kept.files a r
+    so-later : (a : Reply) (r : Request) → IsTold step_of.server.kept.files a r → IsTold (run head (event ∷ earlier)).server.kept.files a r
     unfolding after_server
-    so-later a r so = subst (λ v. IsSo v.server.kept.files a r) (sym is) so
+    so-later a r so = subst (λ v. IsTold v.server.kept.files a r) (sym is) so
 
     why-true : (host xid : ℕ) (a : Reply) (r : Request) (who : Who) → Asked w.packets host xid r → host ≡ who.host → asker r ≡ Some who
         → Reason w.server step_of.server.kept.files who r a → Once (HadSo host xid a r) head (event ∷ earlier)
     why-true host xid a r who asked home by (so_before so) = inr (once-now (HadSo host xid a r) head earlier (asked, so))
     why-true host xid a r who asked home by (so_after so) = inl (asked-later host xid r asked, so-later a r so)
     why-true host xid a r who asked home by (again seq sq inc same e) =
-        inr (subst (λ b. Once (HadSo host xid b r) head earlier) (sym e) (by-verdict line.verdict refl))
+        let low : 1 ≤ seq = (drawn-up-to head earlier).sent_first host xid r seq asked sq in
+        inr (subst (λ b. Once (HadSo host xid b r) head earlier) (sym e)
+        (repeats head earlier host xid seq r who line (t.rows who.host (omega arith)) asked home by sq inc same))
       where
         line : HostRow
         line = host_row w.server.kept who.host
-
-        by-verdict : (v : Verdict) → line.verdict ≡ v → Once (HadSo host xid (verdict_reply who.inc v line.value r) r) head earlier
-        by-verdict Verdict.Done done =
-            let low : 1 ≤ seq = (drawn-up-to head earlier).sent_first host xid r seq asked sq in
-            repeats head earlier host xid seq r who line (t.rows who.host done (omega arith)) asked home by sq inc same
-        by-verdict Verdict.Fenced other = once-now (HadSo host xid (verdict_reply who.inc Verdict.Fenced line.value r) r) head earlier (asked, tt)
-        by-verdict Verdict.Exist other = once-now (HadSo host xid (verdict_reply who.inc Verdict.Exist line.value r) r) head earlier (asked, tt)
-        by-verdict Verdict.NoSpace other = once-now (HadSo host xid (verdict_reply who.inc Verdict.NoSpace line.value r) r) head earlier (asked, tt)
-        by-verdict Verdict.Invalid other = once-now (HadSo host xid (verdict_reply who.inc Verdict.Invalid line.value r) r) head earlier (asked, tt)
-        by-verdict Verdict.Stale other = once-now (HadSo host xid (verdict_reply who.inc Verdict.Stale line.value r) r) head earlier (asked, tt)
-        by-verdict Verdict.TryLater other = once-now (HadSo host xid (verdict_reply who.inc Verdict.TryLater line.value r) r) head earlier (asked, tt)
 
     new-reply : (host xid : ℕ) (a : Reply) → Tells w.server step_of.server.kept.files (datagram_of p.message) (sending_host p.sender) host xid a
         → IsTrue head (event ∷ earlier) host xid a
@@ -281,12 +275,12 @@ module _ (head : Head) (event : Event) (earlier : List Event) (p : Packet) (i : 
 
     row-true : (k : ℕ) (line : HostRow) → RowMove w.server step_of.server.kept.files (datagram_of p.message) (sending_host p.sender) k line
         → RowTrue head (event ∷ earlier) k line
-    row-true k line (row_stays same) done one =
+    row-true k line (row_stays same) one =
         subst (IsDeed head (event ∷ earlier) k) (sym same)
         (later-deed head event earlier k (host_row w.server.kept k) asked-later
-        (t.rows k (ap (λ l. l.verdict) (sym same) ∙ done) (subst (λ l. 1 ≤ l.seq) same one)))
-    row-true k line (row_begins none) done one = absurd (omega arith)
-    row-true k line (row_decided xid r who is_it by from here inc sq so) done one =
+        (t.rows k (subst (λ l. 1 ≤ l.seq) same one)))
+    row-true k line (row_begins none) one = absurd (omega arith)
+    row-true k line (row_decided xid r who is_it by from here inc sq so) one =
         let asked : Asked w.packets k xid r = subst (λ h. Asked w.packets h xid r) (sym from ∙ sym here) (asked-of xid r is_it) in
         record {
           xid = xid;
@@ -297,7 +291,7 @@ module _ (head : Head) (event : Event) (earlier : List Event) (p : Packet) (i : 
           inc = sym inc;
           sequence = sq;
           sent = asked-later k xid r asked;
-          was = inl (asked-later k xid r asked, so-later (done_reply line.inc line.value r) r (so done));
+          was = inl (asked-later k xid r asked, so-later (verdict_reply line.inc line.verdict line.value r) r so);
         }
 
     received-true : AllTrue head (event ∷ earlier)
@@ -367,7 +361,7 @@ starts-true : (head : Head) → AllTrue head []
 unfolding start
 starts-true head = record {
   replies = λ host xid a told. absurd told;
-  rows = λ k done one. let none = start-seq head k in absurd (omega arith);
+  rows = λ k one. let none = start-seq head k in absurd (omega arith);
 }
 
 pub all-true : (head : Head) (events : List Event) → AllTrue head events
@@ -375,7 +369,7 @@ all-true head [] = starts-true head
 all-true head (event ∷ earlier) = step-true head event earlier (all-true head earlier)
 
 placed : (host xid : ℕ) (a : Reply) (r : Request) (w : World) → HadSo host xid a r w → WasSo w host xid a r
-placed host xid a r w had = let at = in-place w.packets (from_host host (call xid r)) had.0 in record { place = at.0; sent = at.2; so = had.1 }
+placed host xid a r w had = let at = in-place w.packets (from_host host (call xid r)) had.0 in record { place = at.0; sent = at.2; so = had.1.0 }
 
 pub replies-tell-what-was : RepliesTellWhatWas
 replies-tell-what-was head events place host xid a there =
@@ -386,4 +380,20 @@ replies-tell-what-was head events place host xid a there =
       by = t.by;
       inc = t.inc;
       was = once-map (HadSo host xid a t.asks) (λ w. WasSo w host xid a t.asks) head events (placed host xid a t.asks) t.was;
+    }
+
+caused : (host xid inc : ℕ) (status : Refusal) (r : Request) (w : World) → HadSo host xid (Reply.Refused inc status) r w → HadCause w host xid status r
+caused host xid inc status r w had =
+    let at = in-place w.packets (from_host host (call xid r)) had.0 in record { place = at.0; sent = at.2; cause = had.1.1 }
+
+pub refusals-have-causes : RefusalsHaveCauses
+refusals-have-causes head events place host xid inc status there =
+    let a : Reply = Reply.Refused inc status in
+    let t = (all-true head events).replies host xid a (in-get (run head events).packets place (to_host host (reply xid a)) there) in
+    record {
+      asks = t.asks;
+      who = t.who;
+      by = t.by;
+      inc = t.inc;
+      was = once-map (HadSo host xid a t.asks) (λ w. HadCause w host xid status t.asks) head events (caused host xid inc status t.asks) t.was;
     }

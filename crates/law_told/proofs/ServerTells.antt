@@ -12,7 +12,7 @@ use Rattle.nq_base.specs.declared.Request.{Request}
 use Rattle.nq_base.specs.declared.Row.{Row}
 use Rattle.nq_base.specs.declared.Verdict.{Verdict}
 use Rattle.nq_base.specs.declared.Who.{Who}
-use Rattle.nq_model.specs.Decide.{Decision, in_the_way, verdict_reply, done_reply, row_after, decides, creates, writes_through, stores, wrote, stores_recovering, resizes, removes, puts_off, commits}
+use Rattle.nq_model.specs.Decide.{Decision, in_the_way, verdict_reply, row_after, decides, creates, writes_through, stores, wrote, stores_recovering, resizes, removes, puts_off, commits}
 use Rattle.nq_model.specs.Hear.{inc_of}
 use Rattle.nq_model.specs.Kept.{File, Kept, blocks_of, find_name, new_file, host_row, with_row, with_files, with_new_file}
 use Rattle.nq_model.specs.Message.{Message, Packet, reply, asker, Datagram, request, sequence_of}
@@ -20,13 +20,15 @@ use Rattle.nq_model.specs.Profile.{same_bytes}
 use Rattle.nq_model.specs.Server.{Server, ServerStep, to_host, says, quiet, drops, notices, keeping, keeping_with, with_table, after_notices}
 use Rattle.nq_model.specs.ServerStep.{attaches, vacates, tells_later, serves, leases, receive}
 use Rattle.nq_model.specs.Table.{Table}
-use Rattle.nq_promises.specs.RepliesTellWhatWas.{KeepsNamed, IsSo}
+use Rattle.nq_promises.specs.RepliesTellWhatWas.{KeepsNamed}
+use Rattle.law_told.specs.RefusalsHaveCauses.{IsCause}
+use Rattle.law_told.proofs.Causes.{IsTold, refused-told, none-beyond, requested-lacks, declined-told}
 use Rattle.walk_run.proofs.Packets.{In, in-append, told-same, reply-same}
 use Rattle.walk_run.proofs.ServerSays.{notices-no-reply, verdict-inc, plain-inc}
 use Rattle.walk_server.proofs.KeptChanges.{line-as}
 use Rattle.walk_server.proofs.Rows.{number-same}
 use Rattle.walk_server.proofs.ServerCases.{server-hears}
-use Rattle.walk_server.proofs.ServerOutcomes.{line_of, IsFrom, CanCreate, error-no-reply, IsDeclined, declined-not, IsPlain, unattached, attached_again, not_yet, no_entry, entry, no_attributes, attributes, no_file, no_block, decided_again, is_old}
+use Rattle.walk_server.proofs.ServerOutcomes.{line_of, IsFrom, CanCreate, error-no-reply, IsDeclined, IsPlain, unattached, attached_again, not_yet, no_entry, entry, no_attributes, attributes, no_file, no_block, decided_again, is_old}
 
 -- ---- a new file is found by its name
 
@@ -54,8 +56,8 @@ made-named kept name blocks free low = record {
 
 -- what is told was so before the step, is so after it, or was kept of the request that was decided last
 pub data Reason (s : Server) (after : List File) (who : Who) (r : Request) (a : Reply) : Type 0 where
-  so_before : IsSo s.kept.files a r → Reason s after who r a
-  so_after : IsSo after a r → Reason s after who r a
+  so_before : IsTold s.kept.files a r → Reason s after who r a
+  so_after : IsTold after a r → Reason s after who r a
   again : (seq : ℕ) → sequence_of r ≡ Some seq → (line_of s who).inc ≡ who.inc → (line_of s who).seq ≡ seq
       → a ≡ verdict_reply who.inc (line_of s who).verdict (line_of s who).value r → Reason s after who r a
 
@@ -70,48 +72,36 @@ pub record Tells (s : Server) (after : List File) (d : Datagram) (sender host xi
   pub inc : inc_of a ≡ who.inc
   pub why : Reason s after who asks a
 
--- a host's row stays, begins anew, or is that of a request which was decided; what a done one is told is so after the step
+-- a host's row stays, begins anew, or is that of a request which was decided; what its reply tells is so after the step
 pub data RowMove (s : Server) (after : List File) (d : Datagram) (sender k : ℕ) (line : HostRow) : Type 0 where
   row_stays : line ≡ host_row s.kept k → RowMove s after d sender k line
   row_begins : line.seq ≡ 0 → RowMove s after d sender k line
   row_decided : (xid : ℕ) (r : Request) (who : Who) → d ≡ request xid r → asker r ≡ Some who → who.host ≡ sender → k ≡ who.host → line.inc ≡ who.inc
-      → sequence_of r ≡ Some line.seq → (line.verdict ≡ Verdict.Done → IsSo after (done_reply line.inc line.value r) r) → RowMove s after d sender k line
+      → sequence_of r ≡ Some line.seq → IsTold after (verdict_reply line.inc line.verdict line.value r) r → RowMove s after d sender k line
 
-refused-so : (files : List File) (r : Request) (a : Reply) (inc : ℕ) (status : Refusal) → a ≡ Reply.Refused inc status → IsSo files a r
-refused-so files r a inc status e = subst (λ b. IsSo files b r) (sym e) tt
-
--- a verdict that is not Done tells nothing of files
-undone-so : (files : List File) (inc : ℕ) (v : Verdict) (value : ℕ) (r : Request) → (v ≡ Verdict.Done → ⊥) → IsSo files (verdict_reply inc v value r) r
-undone-so files inc Verdict.Done value r other = absurd (other refl)
-undone-so files inc Verdict.Fenced value r other = tt
-undone-so files inc Verdict.Exist value r other = tt
-undone-so files inc Verdict.NoSpace value r other = tt
-undone-so files inc Verdict.Invalid value r other = tt
-undone-so files inc Verdict.Stale value r other = tt
-undone-so files inc Verdict.TryLater value r other = tt
-
-done-so : (files : List File) (inc : ℕ) (v : Verdict) (value : ℕ) (r : Request) → v ≡ Verdict.Done → IsSo files (verdict_reply inc v value r) r
-    → IsSo files (done_reply inc value r) r
-done-so files inc v value r done so = subst (λ w. IsSo files (verdict_reply inc w value r) r) done so
-
-plain-so : (s : Server) (after : List File) (who : Who) (r : Request) (a : Reply) → IsPlain s who r a → Reason s after who r a
-plain-so s after who r a (unattached above other e) = so_before (refused-so s.kept.files r a _ _ e)
-plain-so s after who r a (attached_again is same e) = so_before (subst (λ b. IsSo s.kept.files b r) (sym e) tt)
-plain-so s after who r a (not_yet same rec only e) = so_before (refused-so s.kept.files r a _ _ e)
-plain-so s after who r a (no_entry name same p is none e) = so_before (refused-so s.kept.files r a _ _ e)
-plain-so s after who r a (entry name f same p is some e) =
-    so_before (subst (λ b. IsSo s.kept.files b r) (sym e)
-    (subst (λ q. IsSo s.kept.files (Reply.Lookup who.inc f.id (blocks_of f)) q) (sym is)
-    (record { file = f; found = some; has_id = refl; has_length = refl })))
-plain-so s after who r a (no_attributes file same p is none e) = so_before (refused-so s.kept.files r a _ _ e)
-plain-so s after who r a (attributes file f same p is some e) =
-    so_before (subst (λ b. IsSo s.kept.files b r) (sym e)
-    (subst (λ q. IsSo s.kept.files (Reply.GetAttr who.inc (blocks_of f) f.rev) q) (sym is)
-    (record { file = f; found = some; has_length = refl; has_rev = refl })))
-plain-so s after who r a (no_file file same p on none e) = so_before (refused-so s.kept.files r a _ _ e)
-plain-so s after who r a (no_block q file block want f same p is some none e) = so_before (refused-so s.kept.files r a _ _ e)
-plain-so s after who r a (decided_again seq same sq eq e) = again seq sq (sym same) (sym eq) e
-plain-so s after who r a (is_old seq same sq below e) = so_before (refused-so s.kept.files r a _ _ e)
+plain-told : (s : Server) (after : List File) (who : Who) (r : Request) (a : Reply) → IsPlain s who r a → Reason s after who r a
+plain-told s after who r a (unattached above other e) = so_before (refused-told s.kept.files r a _ _ e tt)
+plain-told s after who r a (attached_again is same e) = so_before (subst (λ b. IsTold s.kept.files b r) (sym e) (tt, tt))
+plain-told s after who r a (not_yet same rec only e) = so_before (refused-told s.kept.files r a _ _ e tt)
+plain-told s after who r a (no_entry name same p is none e) =
+    so_before (refused-told s.kept.files r a _ _ e (subst (λ q. IsCause s.kept.files Refusal.NoEnt q) (sym is) none))
+plain-told s after who r a (entry name f same p is some e) =
+    so_before (subst (λ b. IsTold s.kept.files b r) (sym e)
+    (subst (λ q. IsTold s.kept.files (Reply.Lookup who.inc f.id (blocks_of f)) q) (sym is)
+    (record { file = f; found = some; has_id = refl; has_length = refl }, tt)))
+plain-told s after who r a (no_attributes file same p is none e) =
+    so_before (refused-told s.kept.files r a _ _ e (subst (λ q. IsCause s.kept.files Refusal.Stale q) (sym is) none))
+plain-told s after who r a (attributes file f same p is some e) =
+    so_before (subst (λ b. IsTold s.kept.files b r) (sym e)
+    (subst (λ q. IsTold s.kept.files (Reply.GetAttr who.inc (blocks_of f) f.rev) q) (sym is)
+    (record { file = f; found = some; has_length = refl; has_rev = refl }, tt)))
+plain-told s after who r a (no_file file same p on none e) =
+    so_before (refused-told s.kept.files r a _ _ e (requested-lacks s.kept.files r file on none))
+plain-told s after who r a (no_block q file block want f same p is some none e) =
+    so_before (refused-told s.kept.files r a _ _ e
+    (subst (λ z. IsCause s.kept.files Refusal.Inval z) (sym is) (record { file = f; found = some; beyond = none-beyond f.bodies block none })))
+plain-told s after who r a (decided_again seq same sq eq e) = again seq sq (sym same) (sym eq) e
+plain-told s after who r a (is_old seq same sq below e) = so_before (refused-told s.kept.files r a _ _ e tt)
 
 -- ---- the step
 
@@ -158,19 +148,19 @@ module _ (s : Server) (sender next : ℕ) (d : Datagram) (no_null : (xid : ℕ) 
   unfolding tells_later after_notices
   later xid who r table rows e by from = (
     behind-notices s.kept.files s.notice rows who.host xid (Reply.Refused who.inc Refusal.TryLater)
-        (answers s.kept.files xid who r (Reply.Refused who.inc Refusal.TryLater) e by from refl (so_before tt)),
+        (answers s.kept.files xid who r (Reply.Refused who.inc Refusal.TryLater) e by from refl (so_before (tt, tt))),
     same-rows,
   )
 
   -- what is told without a file's id, length and revision
   replied : (xid : ℕ) (who : Who) (r : Request) (a : Reply) → d ≡ request xid r → asker r ≡ Some who → IsFrom sender who → inc_of a ≡ who.inc
-      → IsSo s.kept.files a r → Tell s.kept.files (to_host who.host (reply xid a) ∷ [])
+      → IsTold s.kept.files a r → Tell s.kept.files (to_host who.host (reply xid a) ∷ [])
   replied xid who r a e by from inc so = one-reply s.kept.files who.host xid a (answers s.kept.files xid who r a e by from inc (so_before so))
 
   -- a request that is decided now
   committed : (xid : ℕ) (who : Who) (seq : ℕ) (r : Request) (c : Decision) (number : ℕ) (rows : List Row) → d ≡ request xid r → asker r ≡ Some who
       → sequence_of r ≡ Some seq → IsFrom sender who → c.server.kept.hosts ≡ s.kept.hosts → c.sends ≡ notices number rows
-      → IsSo c.server.kept.files (verdict_reply who.inc c.verdict c.value r) r → Both (commits who seq xid r c)
+      → IsTold c.server.kept.files (verdict_reply who.inc c.verdict c.value r) r → Both (commits who seq xid r c)
   unfolding commits keeping with_row
   committed xid who seq r c number rows e by sq from hosts sent so =
       let answer : Reply = verdict_reply who.inc c.verdict c.value r in
@@ -180,27 +170,27 @@ module _ (s : Server) (sender next : ℕ) (d : Datagram) (no_null : (xid : ℕ) 
             (answers after xid who r answer e by from (verdict-inc who.inc c.verdict c.value r seq sq) (so_after so))),
         λ k. line-as c.server.kept who.host k (row_after who seq c) (RowMove s after d sender k)
             (row_stays (ap (λ hs. host_row (record s.kept { hosts = hs }) k) hosts))
-            (λ here. row_decided xid r who e by from.host here refl sq (λ done. done-so after who.inc c.verdict c.value r done so)),
+            (λ here. row_decided xid r who e by from.host here refl sq so),
       )
 
   declined : (xid : ℕ) (who : Who) (seq : ℕ) (r : Request) (v : Verdict) → d ≡ request xid r → asker r ≡ Some who → sequence_of r ≡ Some seq
       → IsFrom sender who → IsDeclined s who r v → Both (commits who seq xid r (decides s v))
   unfolding decides
   declined xid who seq r v e by sq from declines =
-      committed xid who seq r (decides s v) 0 [] e by sq from refl refl (undone-so s.kept.files who.inc v 0 r (declined-not s who r v declines))
+      committed xid who seq r (decides s v) 0 [] e by sq from refl refl (declined-told s who r v declines)
 
   put-off : (xid : ℕ) (who : Who) (seq : ℕ) (r : Request) (file : ℕ) (table : Table) → d ≡ request xid r → asker r ≡ Some who → sequence_of r ≡ Some seq
       → IsFrom sender who → Both (commits who seq xid r (puts_off s who file table))
   unfolding puts_off after_notices
   put-off xid who seq r file table e by sq from =
-      committed xid who seq r (puts_off s who file table) s.notice (in_the_way s file who.host Access.Write) e by sq from refl refl tt
+      committed xid who seq r (puts_off s who file table) s.notice (in_the_way s file who.host Access.Write) e by sq from refl refl (tt, tt)
 
   created : (xid : ℕ) (who : Who) (seq blocks : ℕ) (name : List ℕ) → d ≡ request xid (Request.Create who seq name blocks) → IsFrom sender who
       → CanCreate s name blocks → Both (commits who seq xid (Request.Create who seq name blocks) (creates s name blocks))
   unfolding creates keeping with_new_file
   created xid who seq blocks name e from can =
       committed xid who seq (Request.Create who seq name blocks) (creates s name blocks) 0 [] e refl refl from refl refl
-      (made-named s.kept name blocks can.free can.id_room)
+      (made-named s.kept name blocks can.free can.id_room, tt)
 
   error-tells : (m : Message) → ((x : ℕ) (a : Reply) → m ≡ reply x a → ⊥) → Tell s.kept.files (to_host sender m ∷ [])
   error-tells m none host xid a (inr i) = absurd i
@@ -210,7 +200,7 @@ module _ (s : Server) (sender next : ℕ) (d : Datagram) (no_null : (xid : ℕ) 
   unfolding attaches keeping_with with_row
   attached xid who e from = (
     one-reply s.kept.files who.host xid (Reply.Attach who.inc)
-        (answers s.kept.files xid who (Request.Attach who) (Reply.Attach who.inc) e refl from refl (so_before tt)),
+        (answers s.kept.files xid who (Request.Attach who) (Reply.Attach who.inc) e refl from refl (so_before (tt, tt))),
     λ k. line-as s.kept who.host k (record { inc = who.inc; seq = 0; verdict = Verdict.Done; value = 0 }) (RowMove s s.kept.files d sender k)
         (row_stays refl) (λ here. row_begins refl),
   )
@@ -225,7 +215,7 @@ module _ (s : Server) (sender next : ℕ) (d : Datagram) (no_null : (xid : ℕ) 
     replying =
         λ xid who r a e by from plain. (
           one-reply s.kept.files who.host xid a
-              (answers s.kept.files xid who r a e by from (plain-inc s who r a plain) (plain-so s s.kept.files who r a plain)),
+              (answers s.kept.files xid who r a e by from (plain-inc s who r a plain) (plain-told s s.kept.files who r a plain)),
           same-rows,
         );
     attaching = λ xid who e from above. attached xid who e from;
@@ -235,33 +225,33 @@ module _ (s : Server) (sender next : ℕ) (d : Datagram) (no_null : (xid : ℕ) 
     putting_off_by_own = λ xid who r f want own e by file wants asking c o evicting. later xid who r _ _ e by asking.current.from;
     reading =
         λ xid who q block f body e asking there c.
-        (replied xid who (Request.Read who q f.id block None) (Reply.Read who.inc f.rev body None) e refl asking.current.from refl tt, same-rows);
+        (replied xid who (Request.Read who q f.id block None) (Reply.Read who.inc f.rev body None) e refl asking.current.from refl (tt, tt), same-rows);
     reading_full =
         λ xid who q block want f body e asking there c own room.
-        (replied xid who (Request.Read who q f.id block (Some want)) (Reply.Read who.inc f.rev body None) e refl asking.current.from refl tt, same-rows);
+        (replied xid who (Request.Read who q f.id block (Some want)) (Reply.Read who.inc f.rev body None) e refl asking.current.from refl (tt, tt), same-rows);
     reading_granted =
         λ xid who q block want f body row term e asking there c g.
-        (replied xid who (Request.Read who q f.id block (Some want)) (Reply.Read who.inc f.rev body _) e refl asking.current.from refl tt, same-rows);
+        (replied xid who (Request.Read who q f.id block (Some want)) (Reply.Read who.inc f.rev body _) e refl asking.current.from refl (tt, tt), same-rows);
     leasing_full =
         λ xid who want f e asking c own room.
-        (replied xid who (Request.GetLease who f.id want) (Reply.GetLease who.inc None) e refl asking.current.from refl tt, same-rows);
+        (replied xid who (Request.GetLease who f.id want) (Reply.GetLease who.inc None) e refl asking.current.from refl (tt, tt), same-rows);
     leasing =
         λ xid who want f row term e asking c g.
-        (replied xid who (Request.GetLease who f.id want) (Reply.GetLease who.inc _) e refl asking.current.from refl tt, same-rows);
+        (replied xid who (Request.GetLease who f.id want) (Reply.GetLease who.inc _) e refl asking.current.from refl (tt, tt), same-rows);
     declining = λ xid who seq r verdict e by sq fresh declines. declined xid who seq r verdict e by sq fresh.current.from declines;
     putting_off_change = λ xid who seq r f clash e by sq file base changing c. put-off xid who seq r f.id _ e by sq changing.fresh.current.from;
     creating = λ xid who seq blocks name e fresh serves can. created xid who seq blocks name e fresh.current.from can;
     writing_through =
         λ xid who seq block first last body f e changing below c. committed xid who seq _ (writes_through s who f block first body) 0 [] e refl refl
-        changing.fresh.current.from refl refl tt;
+        changing.fresh.current.from refl refl (tt, tt);
     storing =
         λ xid who seq block first last base body f row e changing below can. committed xid who seq _ (stores s who f row block first last body) 0 [] e
-        refl refl changing.fresh.current.from refl refl tt;
+        refl refl changing.fresh.current.from refl refl (tt, tt);
     storing_recovering =
         λ xid who seq block first final base body f until heard last e fresh recovers found below boot rev. committed xid who seq _
-        (stores_recovering s until last who f block first final body) 0 [] e refl refl fresh.current.from refl refl tt;
+        (stores_recovering s until last who f block first final body) 0 [] e refl refl fresh.current.from refl refl (tt, tt);
     resizing =
         λ xid who seq q blocks f e changing can c. committed xid who seq _ (resizes s who q f blocks) 0 [] e refl refl changing.fresh.current.from refl
-        refl tt;
-    removing = λ xid who seq q f e changing c. committed xid who seq _ (removes s who q f) 0 [] e refl refl changing.fresh.current.from refl refl tt;
+        refl (tt, tt);
+    removing = λ xid who seq q f e changing c. committed xid who seq _ (removes s who q f) 0 [] e refl refl changing.fresh.current.from refl refl (tt, tt);
   })

@@ -2,7 +2,8 @@
 //! in `proofs/`.
 #![tactic(auto)]
 
-ghost use Rattle.law_told.specs.Met.{TellingsAreMet};
+ghost use Rattle.law_told.specs.Met.{RefusalsAreMet, TellingsAreMet};
+ghost use Rattle.law_told.specs.RefusalsHaveCauses.{AnswersHaveCauses, RefusalsHaveCauses};
 ghost use Rattle.nq_promises.specs.AnswersTellWhatWas.{AnswersTellWhatWas};
 ghost use Rattle.nq_promises.specs.RepliesTellWhatWas.{RepliesTellWhatWas};
 
@@ -18,7 +19,25 @@ pub fn answers_tell_what_was()
     ensures { AnswersTellWhatWas }
 {}
 
+/// After every schedule, what a refusal says stood at the server at some moment when the request had been sent: NOENT that no file of
+/// that name was kept, STALE that no file of that id was, EXIST that one of that name was, and INVAL that the file had no such block,
+/// or that no file can have such a length.
+pub fn refusals_have_causes()
+    ensures { RefusalsHaveCauses }
+{}
+
+/// After every schedule within skew, what an answer that refuses says stood at the server at some moment, and that not after the answer:
+/// `noentry` that no file of the name was kept, `stale` that no file of the id was, and `exists` that one of the name was.
+pub fn answers_have_causes()
+    ensures { AnswersHaveCauses }
+{}
+
 /// There is such a schedule: a client makes a file, looks it up and asks for its attributes.
 pub fn tellings_are_met()
     ensures { TellingsAreMet }
+{}
+
+/// There is such a schedule: a client asks for a name and a file that are not there, makes a file twice, and asks for one of no block.
+pub fn refusals_are_met()
+    ensures { RefusalsAreMet }
 {}

@@ -61,7 +61,10 @@ pub use law_synchronized::{
 pub use law_tags::{
     standing_table_grows, tags_are_drawn_in_order, vacated_tags_are_met, vacated_tags_are_past,
 };
-pub use law_told::{answers_tell_what_was, replies_tell_what_was, tellings_are_met};
+pub use law_told::{
+    answers_have_causes, answers_tell_what_was, refusals_are_met, refusals_have_causes,
+    replies_tell_what_was, tellings_are_met,
+};
 pub use law_undisturbed::{
     bound_and_fenced_are_met, delayed_writes_are_undisturbed_in_every_run,
     unsaved_files_are_bound_or_fenced_in_every_run,

@@ -1,23 +1,22 @@
 -- The beginning of a world.
-use Rattle.std.proofs.Common.{◌≡◌, ◌≤◌, ℕ, zero, suc, ◌+◌, List, [], ◌∷◌, ◌++◌, Option, Some, None, length, map, refl, sym, subst, ap, ◌∙◌, arith}
+use Rattle.std.proofs.Common.{◌≡◌, ◌≤◌, ℕ, zero, suc, ◌+◌, List, [], ◌∷◌, ◌++◌, Option, Some, None, length, sym, subst, ap, ◌∙◌, arith}
 use Rattle.std.proofs.lemmas.List.{map-append}
 use Rattle.std.specs.Prelude.{Result, Ok, Err, IfOk, IfErr}
 use Rattle.nq_client.specs.Counted.{Counted}
 use Rattle.nq_clock.specs.Counts.{SkewCounts}
 use Rattle.nq_clock.specs.Tracks.{Follows}
-use Rattle.nq_model.specs.Client.{Client}
 use Rattle.nq_model.specs.ClientStep.{attached_client}
 use Rattle.nq_model.specs.Kept.{Kept}
 use Rattle.nq_model.specs.Profile.{shortest_term, longest_term, most_hosts}
 use Rattle.nq_model.specs.ServerStep.{boot}
-use Rattle.nq_model.specs.World.{Head, first_clients, first_kept, run}
+use Rattle.nq_model.specs.World.{Head, first_clients, first_kept}
 use Rattle.nq_io.specs.Faults.{Rose}
 use Rattle.nq_keeper.specs.StoredKeeper.{empty_kept}
 use Rattle.nq_server.specs.Holding.{Boots, Holding, IsServer}
 use Rattle.nq_world.proofs.Going.{runs-begin, servers-begin}
 use Rattle.nq_world.specs.First.{AreFirstFiles, told_as}
 use Rattle.nq_world.specs.Moving.{clients_in}
-use Rattle.nq_world.specs.Playing.{WorldOver, Begins, HasSettings, IsNew, Plays, keeper_in, seen_of}
+use Rattle.nq_world.specs.Playing.{WorldOver, Begins, IsNew, Plays, keeper_in, seen_of}
 use Rattle.nq_world.specs.declared.starting.NewFault.{NewFault}
 use Rattle.nq_world.specs.declared.starting.NewFault.TheVariants as fault
 use Rattle.law_bounds.specs.Within.{IsHeadWithin}
@@ -69,6 +68,8 @@ new-plays head server skew w told tells within boots hosts window clocks new =
       holds = ap (λ s. s.beside) new.server_is ∙ boots.holds ∙ ap (λ s. record { phase = s.phase; table = s.table; longest = s.longest; notice = s.notice; time = s.now }) (sym first);
       counted = new.none_taken;
       term = new.term_is;
+      served = let same : w.server.taken ≡ server.taken = ap (λ s. s.taken) new.server_is in let none = boots.taken in omega arith;
+      heard = new.none_heard;
     }
 
 -- a world over a server that booted begins

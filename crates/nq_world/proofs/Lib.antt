@@ -5,8 +5,10 @@ pub mod Showing
 pub mod Outboxes
 pub mod Firsts
 pub mod Passing
+pub mod Counting
 pub mod Acted
 pub mod Played
+pub mod Unspent
 pub mod Moved
 pub mod Served
 pub mod Taken

@@ -1,28 +1,26 @@
 -- An event at the client of a host.
-use Rattle.std.proofs.Common.{◌≡◌, ◌≤◌, ℕ, zero, suc, ◌+◌, ◌*◌, List, [], ◌∷◌, ◌++◌, Option, Some, None, length, map, refl, sym, subst, ap, ◌∙◌, append-nil, arith}
+use Rattle.std.proofs.Common.{◌≡◌, ℕ, zero, suc, ◌+◌, List, [], ◌∷◌, ◌++◌, Option, Some, None, length, map, refl, sym, subst, ap, ◌∙◌, append-nil, arith}
 use Rattle.std.specs.Option.{option_map}
-use Rattle.std.specs.Prelude.{Result, Ok, Err, slice_get, slice_set, reverse}
+use Rattle.std.specs.Prelude.{Result, Ok, Err, slice_get, slice_set}
 use Rattle.nq_base.specs.Plain.{plain}
-use Rattle.nq_base.specs.declared.Call.{Call}
 use Rattle.nq_base.specs.declared.Entry.{Entry}
 use Rattle.nq_base.specs.declared.Event.{Event}
 use Rattle.nq_base.specs.declared.Party.{Party}
 use Rattle.nq_client.specs.Counted.{Counted}
 use Rattle.nq_datagrams.specs.Incoming.{hears_in}
 use Rattle.nq_model.specs.Client.{Client, ClientStep}
-use Rattle.nq_model.specs.ClientStep.{client_call, client_tick, restart}
 use Rattle.nq_model.specs.Kept.{Kept}
-use Rattle.nq_model.specs.Stepped.{done, stepped}
 use Rattle.nq_model.specs.World.{Head, World, after_client, after_hearing, at_client, deliver, deliver_to, deliver_to_client, run, step}
 use Rattle.nq_net.specs.Packets.{Datagram, PacketList}
-use Rattle.nq_server.specs.Holding.{Holding}
 use Rattle.nq_world.proofs.Little.{clients-send-little}
 use Rattle.nq_world.proofs.Played.{IsFit, plays-on}
 use Rattle.nq_world.proofs.Showing.{client-shown, deliveries-to-clients, found-packet}
-use Rattle.nq_world.specs.Moving.{ActsAt, Clocks, Ends, HasRoom, Moves, MovesClient, MovesNothing, clients_in, step_at}
+use Rattle.nq_world.proofs.Unspent.{client-unspent}
+use Rattle.nq_world.specs.Counting.{TookIn}
+use Rattle.nq_world.specs.Moving.{ActsAt, Clocks, Ends, HasRoom, Moves, clients_in, step_at}
 use Rattle.nq_world.specs.Playing.{WorldOver, IsAsBefore, Plays, Steps, seen_of}
 use Rattle.nq_world.specs.Rooms.{IsSmall}
-use Rattle.nq_world.specs.Shown.{Seen, Shows, datagram, sent_from}
+use Rattle.nq_world.specs.Shown.{Seen, Shows, sent_from}
 use Rattle.nq_world.specs.declared.ending.Halt.{Halt}
 use Rattle.nq_world.specs.declared.ending.Halt.TheVariants as halt
 use Rattle.nq_world.specs.declared.stepped.Stepped.{Stepped}
@@ -92,6 +90,10 @@ moves-small : (head : Head) (events : List Event) (event : Event) (host : ℕ) (
 moves-small head events event host None old new sent entries entries' is moves = nothing-small sent moves.sends
 moves-small head events event host (Some t) old new sent entries entries' is moves = clients-send-little head events event host t sent is moves.fit moves.sends
 
+moves-counts : (host : ℕ) (o : Option ClientStep) (old new : List Counted) (sent : List (Party × List ℕ)) (entries entries' : List Entry) → Moves host o old new sent entries entries' → (most : ℕ) → TookIn most old → TookIn (most + 1) new
+moves-counts host None old new sent entries entries' moves = moves.counts
+moves-counts host (Some t) old new sent entries entries' moves = moves.counts
+
 -- a client's event leaves the server
 same-server : (w : World) (host : ℕ) (o : Option ClientStep) → (after_hearing w host o).server ≡ w.server
 unfolding after_client
@@ -130,6 +132,8 @@ acts-played {K} head events event host step_of made old new told sent packets pa
     (ap (λ s. s.beside) x.server ∙ plays.holds ∙ ap (λ s. record { phase = s.phase; table = s.table; longest = s.longest; notice = s.notice; time = s.now }) (sym left))
     x.ends.1
     x.term
+    (let same : new.server.taken ≡ old.server.taken = ap (λ s. s.taken) x.server in let few = plays.served in omega arith)
+    (moves-counts host o old.clients new.clients sent old.entries new.entries x.acts (length events) plays.heard)
 
 unmoved : {K : Type 0} (old new : WorldOver K) → new.server ≡ old.server → new.clients ≡ old.clients → new.datagrams ≡ old.datagrams → new.entries ≡ old.entries → new.skew ≡ old.skew → new.events ≡ old.events → new.term ≡ old.term → IsAsBefore old new
 unmoved old new server clients datagrams entries skew events term = record {
@@ -152,6 +156,8 @@ acts-steps head events event host step_of (Ok made) Stepped.NoPacket old new tol
 acts-steps head events event host step_of (Ok made) (Stepped.SkewBroken b) old new told sent packets packets' plays x = absurd x.ends
 acts-steps head events event host step_of (Ok made) (Stepped.Limit l) old new told sent packets packets' plays x = absurd x.ends
 acts-steps head events event host step_of (Ok made) Stepped.Fault old new told sent packets packets' plays x = absurd x.ends
+acts-steps head events event host step_of (Err halt.Spent) answer old new told sent packets packets' plays x =
+    absurd (client-unspent head events old told plays host x.acts.2)
 acts-steps head events event host step_of (Err halt.Fault) answer old new told sent packets packets' plays x = absurd x.acts
 acts-steps head events event host step_of (Err halt.Memory) answer old new told sent packets packets' plays x =
     subst (λ a. Steps head events event a old new told told) (sym x.ends.0)

@@ -7,7 +7,7 @@ use Rattle.nq_base.specs.declared.Event.{Event}
 use Rattle.nq_base.specs.declared.SkewBroken.{SkewBroken}
 use Rattle.nq_clock.specs.Counts.{SkewCounts}
 use Rattle.nq_model.specs.SkewBroken.{skew_broken}
-use Rattle.nq_model.specs.Stepped.{Stepped, done, no_packet, out_of_skew, too_many_events, too_many_packets, most_events, most_sent, tested_room, tested_skew, stepped}
+use Rattle.nq_model.specs.Stepped.{Stepped, done, no_packet, too_many_events, too_many_packets, most_events, most_sent, tested_room, tested_skew, stepped}
 use Rattle.nq_model.specs.World.{Head}
 use Rattle.nq_world.proofs.Going.{tests-are-exact}
 use Rattle.nq_world.specs.Running.{IsRunOf, tested_seen, stepped_seen}

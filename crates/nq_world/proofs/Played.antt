@@ -1,5 +1,5 @@
 -- A world that plays a run goes on with it.
-use Rattle.std.proofs.Common.{◌≡◌, ◌≤◌, ℕ, ◌+◌, List, ◌∷◌, Option, Some, length, refl, sym, ap, ◌∙◌, arith}
+use Rattle.std.proofs.Common.{◌≡◌, ◌≤◌, ◌+◌, List, ◌∷◌, Option, Some, length, refl, subst, ◌∙◌, arith}
 use Rattle.std.specs.Prelude.{Result, Ok, Err}
 use Rattle.nq_base.specs.declared.Event.{Event}
 use Rattle.nq_clock.specs.Counts.{SkewCounts}
@@ -13,6 +13,7 @@ use Rattle.nq_server.specs.State.{beside}
 use Rattle.law_bounds.specs.Within.{IsGiven}
 use Rattle.nq_world.proofs.Going.{runs-go-on}
 use Rattle.nq_world.proofs.Passing.{done-passes}
+use Rattle.nq_world.specs.Counting.{TookIn}
 use Rattle.nq_world.specs.Moving.{Clocks, FollowsOn}
 use Rattle.nq_world.specs.Playing.{WorldOver, Plays, seen_of}
 use Rattle.nq_world.specs.Shown.{Shows}
@@ -33,16 +34,21 @@ pub plays-on : {K : Type 0} (head : Head) (events : List Event) (event : Event) 
     → new.server.beside ≡ beside (step (run head events) event).server
     → new.events ≡ old.events + 1
     → new.term ≡ old.term
+    → new.server.taken ≤ length events + 1
+    → TookIn (length events + 1) new.clients
     → Plays head (event ∷ events) new tells
-plays-on head events event old new told tells plays fit shows keeps kept holds counted term =
+plays-on head events event old new told tells plays fit shows keeps kept holds counted term served heard =
     let passes = done-passes head events (seen_of old) old.skew event plays.shown fit.passes in
     let before = plays.counted in
+    let one_more : length events + 1 ≡ length (event ∷ events) = omega arith in
     record {
       shown = runs-go-on head events event (seen_of old) (seen_of new) old.skew new.skew plays.shown passes.few passes.room fit.given fit.boots shows keeps.hosts keeps.window (keeps.clocks events plays.shown.clocks);
       keeps = kept;
       holds = holds;
       counted = omega arith;
       term = term ∙ plays.term;
+      served = omega arith;
+      heard = subst (λ n. TookIn n new.clients) one_more heard;
     }
 
 -- the test of skew stays at an event that is no tick

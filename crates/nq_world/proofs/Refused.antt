@@ -1,8 +1,7 @@
 -- What a world answers, and a world that is as before.
-use Rattle.std.proofs.Common.{◌≡◌, ℕ, List, Option, Some, length, map, refl, sym, subst, ap, ◌∙◌}
+use Rattle.std.proofs.Common.{◌≡◌, ◌≤◌, ℕ, List, Option, length, map, refl, sym, subst, ap, ◌∙◌}
 use Rattle.nq_base.specs.Plain.{plain}
 use Rattle.nq_base.specs.declared.Event.{Event}
-use Rattle.nq_base.specs.declared.SkewBroken.{SkewBroken}
 use Rattle.nq_clock.specs.Tracks.{Follows}
 use Rattle.nq_model.specs.Kept.{Kept}
 use Rattle.nq_model.specs.SkewBroken.{skew_broken}
@@ -10,6 +9,7 @@ use Rattle.nq_model.specs.Stepped.{Stepped as Answer, done, no_packet, out_of_sk
 use Rattle.nq_model.specs.World.{Head}
 use Rattle.nq_world.proofs.Going.{tests-are-exact}
 use Rattle.nq_world.specs.Answering.{IsOfTests, told as answer_of}
+use Rattle.nq_world.specs.Counting.{TookIn}
 use Rattle.nq_world.specs.Moving.{clients_in}
 use Rattle.nq_world.specs.Playing.{WorldOver, CountsFaults, IsAsBefore, Plays, Steps, seen_of}
 use Rattle.nq_world.specs.Running.{stepped_seen}
@@ -98,4 +98,6 @@ still-plays head events old new told tells plays same kept =
       holds = same.server.beside ∙ plays.holds;
       counted = same.events ∙ plays.counted;
       term = same.term ∙ plays.term;
+      served = subst (λ n. n ≤ length events) (sym same.server.taken) plays.served;
+      heard = subst (TookIn (length events)) (sym same.clients) plays.heard;
     }

@@ -1,22 +1,20 @@
 -- An event at the server.
-use Rattle.std.proofs.Common.{◌≡◌, ◌≤◌, ◌<◌, ℕ, zero, suc, ◌+◌, ◌*◌, List, [], ◌∷◌, ◌++◌, Option, Some, None, length, map, get_or, refl, sym, subst, ap, ◌∙◌, arith}
+use Rattle.std.proofs.Common.{◌≡◌, ◌<◌, ℕ, suc, ◌+◌, List, [], ◌∷◌, ◌++◌, Option, Some, length, map, get_or, refl, sym, subst, ap, ◌∙◌, arith, inl, inr}
 use Rattle.std.proofs.lemmas.List.Elements.{All-nil, All-cons}
 use Rattle.std.specs.List.{All}
-use Rattle.std.specs.Prelude.{Result, Ok, Err, slice_get, reverse}
+use Rattle.std.specs.Prelude.{Result, Ok, Err, slice_get}
 use Rattle.nq_base.specs.Plain.{plain}
 use Rattle.nq_base.specs.declared.Event.{Event}
 use Rattle.nq_base.specs.declared.Party.{Party}
 use Rattle.nq_base.specs.declared.SkewBroken.{SkewBroken}
-use Rattle.nq_clock.specs.Counts.{SkewCounts}
-use Rattle.nq_clock.specs.Tracks.{Follows}
 use Rattle.nq_datagrams.specs.Incoming.{datagram_in}
 use Rattle.nq_datagrams.specs.Messages.{bytes_of}
 use Rattle.nq_base.specs.Entries.{EntryList}
 use Rattle.nq_model.specs.Kept.{Kept}
 use Rattle.nq_model.specs.Message.{Packet}
-use Rattle.nq_model.specs.Profile.{shortest_term}
+use Rattle.nq_model.specs.Profile.{most_taken_by_server}
 use Rattle.nq_model.specs.Server.{Server, ServerStep}
-use Rattle.nq_model.specs.ServerStep.{at_time, crash, receive, tick}
+use Rattle.nq_model.specs.ServerStep.{at_time, crash, receive}
 use Rattle.nq_model.specs.SkewBroken.{skew_broken}
 use Rattle.nq_model.specs.Stepped.{done, stepped}
 use Rattle.nq_model.specs.World.{Head, World, after_server, run, sending_host, step}
@@ -25,40 +23,45 @@ use Rattle.nq_server.specs.Holding.{Holding, IsTaken, Reboots, TakesIn}
 use Rattle.nq_server.specs.State.{Beside, beside, server_of}
 use Rattle.nq_server.specs.declared.received.Received.{Received}
 use Rattle.nq_wire.specs.Outbox.{Datagrams}
-use Rattle.law_bounds.proofs.Saying.{server-says-plainly}
 use Rattle.law_bounds.specs.Says.{SaysPlainly}
 use Rattle.law_bounds.specs.Within.{IsGiven}
+use Rattle.nq_world.proofs.Counting.{took-more}
 use Rattle.nq_world.proofs.Little.{server-sends-little}
 use Rattle.nq_world.proofs.Passing.{done-passes}
 use Rattle.nq_world.proofs.Played.{IsFit, plays-on}
 use Rattle.nq_world.proofs.Showing.{server-shown, deliveries-to-the-server, found-packet, packet-fits}
 use Rattle.nq_world.proofs.Texts.{bytes-carry-text}
+use Rattle.nq_world.proofs.Unspent.{server-unspent}
+use Rattle.nq_world.specs.Counting.{TookIn}
 use Rattle.nq_world.specs.Moving.{Clocks, Ends, HasRoom, MovesServer, Serves, clients_in, received}
-use Rattle.nq_world.specs.Playing.{WorldOver, IsAsBefore, Plays, Steps, seen_of}
-use Rattle.nq_world.specs.Shown.{FitsPacket, Seen, Shows, datagram, sent_from}
+use Rattle.nq_world.specs.Playing.{WorldOver, Plays, Steps, seen_of}
+use Rattle.nq_world.specs.Shown.{FitsPacket, Seen, Shows, sent_from}
 use Rattle.nq_world.specs.declared.ending.Halt.{Halt}
 use Rattle.nq_world.specs.declared.ending.Halt.TheVariants as halt
 use Rattle.nq_world.specs.declared.stepped.Stepped.{Stepped}
 
 -- ---- what the calls of a server do
 
-moved : {K : Type 0} (t : ServerStep) (how : _) (tells : Option Kept) (new : Holding K) (out out' : Datagrams) (log log' : EntryList) → out.datagrams ≡ [] → TakesIn t how tells new out out' log log' → MovesServer t new tells out'.datagrams log.entries log'.entries
-moved t how tells new out out' log log' empty x = record {
+moved : {K : Type 0} (t : ServerStep) (how : _) (tells : Option Kept) (old new : Holding K) (out out' : Datagrams) (log log' : EntryList) → out.datagrams ≡ [] → TakesIn t how tells new out out' log log' → new.taken ≡ old.taken + 1 → MovesServer t old new tells out'.datagrams log.entries log'.entries
+moved t how tells old new out out' log log' empty x one = record {
   keeps = x.makes.keeps;
   holds = x.makes.holds;
   sends = x.makes.sends.added ∙ ap (λ ds. ds ++ map (λ (p : Packet). (p.to, bytes_of p.message)) t.sends) empty;
   fit = x.makes.sends.fit;
   enters = x.makes.enters;
+  counts = omega arith;
 }
 
 pub taken-serves : {K : Type 0} (step_of : Kept → ServerStep) (r : Received) (kept : Kept) (told tells : Option Kept) (before count : ℕ) (old new : Holding K) (out out' : Datagrams) (log log' : EntryList)
-    → told ≡ Some kept → out.datagrams ≡ [] → IsTaken step_of r told tells before count old new out out' log log'
+    → told ≡ Some kept → out.datagrams ≡ [] → (r ≡ Received.Spent → old.taken ≡ most_taken_by_server) → IsTaken step_of r told tells before count old new out out' log log'
     → Serves (step_of kept) (received r) old new told tells out'.datagrams log.entries log'.entries
-taken-serves step_of Received.Done kept told tells before count old new out out' log log' is empty x = moved (step_of kept) _ tells new out out' log log' empty (x.0 kept is)
-taken-serves step_of (Received.Dropped reason) kept told tells before count old new out out' log log' is empty x = moved (step_of kept) _ tells new out out' log log' empty (x.0 kept is)
-taken-serves step_of Received.Fault kept told tells before count old new out out' log log' is empty x = (x.2.untouched, x.0, x.2.silent.entries)
-taken-serves step_of Received.Memory kept told tells before count old new out out' log log' is empty x = (x.2.untouched, x.0, x.2.silent.entries)
-taken-serves step_of Received.Spent kept told tells before count old new out out' log log' is empty x = (x.2.untouched, x.0, x.2.silent.entries)
+taken-serves step_of Received.Done kept told tells before count old new out out' log log' is empty all x = moved (step_of kept) _ tells old new out out' log log' empty (x.0 kept is) x.2
+taken-serves step_of (Received.Dropped reason) kept told tells before count old new out out' log log' is empty all x = moved (step_of kept) _ tells old new out out' log log' empty (x.0 kept is) x.2
+taken-serves step_of Received.Fault kept told tells before count old new out out' log log' is empty all x = (x.2.untouched, x.0, x.2.silent.entries)
+taken-serves step_of Received.Memory kept told tells before count old new out out' log log' is empty all x = (x.2.untouched, x.0, x.2.silent.entries)
+taken-serves step_of Received.Spent kept told tells before count old new out out' log log' is empty all x =
+    let many = all refl in
+    (x.2.untouched, x.0, x.2.silent.entries, inl (omega arith))
 
 pub reboot-serves : {K : Type 0} (longest time : ℕ) (r : Received) (kept : Kept) (told tells : Option Kept) (before count : ℕ) (old new : Holding K) (out : Datagrams) (log log' : EntryList)
     → told ≡ Some kept → out.datagrams ≡ [] → Reboots longest time r told tells before count old new log log'
@@ -66,11 +69,12 @@ pub reboot-serves : {K : Type 0} (longest time : ℕ) (r : Received) (kept : Kep
 unfolding crash
 reboot-serves longest time Received.Done kept told tells before count old new out log log' is empty x =
     let crashed = (x.0 kept is).1 in
-    record { keeps = crashed.keeps; holds = crashed.holds; sends = empty; fit = All-nil FitsPacket; enters = crashed.enters }
+    let none = x.2 in
+    record { keeps = crashed.keeps; holds = crashed.holds; sends = empty; fit = All-nil FitsPacket; enters = crashed.enters; counts = omega arith }
 reboot-serves longest time (Received.Dropped reason) kept told tells before count old new out log log' is empty x = absurd x
 reboot-serves longest time Received.Fault kept told tells before count old new out log log' is empty x = (x.2.untouched, x.0, x.2.entries)
 reboot-serves longest time Received.Memory kept told tells before count old new out log log' is empty x = (x.2.untouched, x.0, x.2.entries)
-reboot-serves longest time Received.Spent kept told tells before count old new out log log' is empty x = (x.3.untouched, x.1, x.3.entries)
+reboot-serves longest time Received.Spent kept told tells before count old new out log log' is empty x = (x.3.untouched, x.1, x.3.entries, inr x.0)
 
 -- ---- the server of a run
 
@@ -131,6 +135,8 @@ serves-played head events event t made old new told tells sent packets packets' 
     (x.serves.holds ∙ ap beside left)
     x.ends.1
     x.term
+    (let one = x.serves.counts in let few = plays.served in omega arith)
+    (subst (TookIn (length events + 1)) (sym x.clients) (took-more (length events) (length events + 1) old.clients (omega arith) plays.heard))
 
 pub serves-steps : {K : Type 0} (head : Head) (events : List Event) (event : Event) (t : ServerStep) (made : Result Unit Halt) (answer : Stepped) (old new : WorldOver K) (told tells : Option Kept) (sent : List (Party × List ℕ)) (packets packets' : PacketList)
     → Plays head events old told → ServesIn head events event t made answer old new told tells sent packets packets' → Steps head events event answer old new told tells
@@ -142,6 +148,8 @@ serves-steps head events event t (Ok made) Stepped.NoPacket old new told tells s
 serves-steps head events event t (Ok made) (Stepped.SkewBroken b) old new told tells sent packets packets' plays x = absurd x.ends
 serves-steps head events event t (Ok made) (Stepped.Limit l) old new told tells sent packets packets' plays x = absurd x.ends
 serves-steps head events event t (Ok made) Stepped.Fault old new told tells sent packets packets' plays x = absurd x.ends
+serves-steps head events event t (Err halt.Spent) answer old new told tells sent packets packets' plays x =
+    absurd (server-unspent head events old told plays x.serves.3)
 serves-steps head events event t (Err halt.Fault) answer old new told tells sent packets packets' plays x =
     subst (λ a. Steps head events event a old new told tells) (sym x.ends.0) (
       x.fit.passes,

@@ -1,23 +1,20 @@
 -- What each event does to a world, from what it did to the world's parts.
-use Rattle.std.proofs.Common.{◌≡◌, ◌≤◌, ◌<◌, ℕ, ◌+◌, List, [], ◌∷◌, ◌++◌, Option, Some, None, length, get_or, min, refl, sym, subst, ap, ◌∙◌, arith}
-use Rattle.std.specs.Prelude.{Result, Ok, Err, slice_get}
+use Rattle.std.proofs.Common.{◌≡◌, ◌≤◌, ◌<◌, ℕ, ◌+◌, List, [], Option, Some, length, get_or, refl, sym, ap, ◌∙◌, arith}
+use Rattle.std.specs.Prelude.{Result, slice_get}
 use Rattle.nq_base.specs.declared.Call.{Call}
-use Rattle.nq_base.specs.declared.Entry.{Entry}
 use Rattle.nq_base.specs.declared.Event.{Event}
 use Rattle.nq_base.specs.declared.Party.{Party}
 use Rattle.nq_client.specs.Counted.{Counted}
 use Rattle.nq_clock.specs.Counts.{SkewCounts}
-use Rattle.nq_clock.specs.Tracks.{IsNoTick}
 use Rattle.nq_datagrams.specs.Incoming.{datagram_in, hears_in}
 use Rattle.nq_base.specs.Entries.{EntryList}
 use Rattle.nq_model.specs.Client.{Client, ClientStep}
 use Rattle.nq_model.specs.ClientStep.{client_call, client_tick, restart}
 use Rattle.nq_model.specs.Kept.{Kept}
-use Rattle.nq_model.specs.Profile.{shortest_term}
+use Rattle.nq_model.specs.Profile.{most_taken_by_server, shortest_term}
 use Rattle.nq_model.specs.ServerStep.{at_time, crash, receive, tick}
 use Rattle.nq_model.specs.Server.{Server, ServerStep}
-use Rattle.nq_model.specs.Stepped.{done, stepped}
-use Rattle.nq_model.specs.World.{Head, World, after_server, run, sending_host}
+use Rattle.nq_model.specs.World.{after_server, run, sending_host}
 use Rattle.nq_net.specs.Packets.{Datagram, PacketList}
 use Rattle.nq_server.specs.Holding.{Holding, IsTaken, Reboots}
 use Rattle.nq_server.specs.State.{server_of}
@@ -30,7 +27,7 @@ use Rattle.nq_world.proofs.Passing.{done-passes}
 use Rattle.nq_world.proofs.Played.{clocks-stay}
 use Rattle.nq_world.proofs.Served.{delivery-steps, given-delivery, reboot-serves, same-server, serves-steps, taken-serves}
 use Rattle.nq_world.specs.Moving.{ActsAt, Clocks, Ends, HasRoom, received}
-use Rattle.nq_world.specs.Playing.{WorldOver, Plays, TakesIn, seen_of}
+use Rattle.nq_world.specs.Playing.{WorldOver, TakesIn, seen_of}
 use Rattle.nq_world.specs.declared.ending.Halt.{Halt}
 use Rattle.nq_world.specs.declared.stepped.Stepped.{Stepped}
 
@@ -143,10 +140,11 @@ pub receive-takes : {K : Type 0} (content : K → Option Kept) (number host : �
     → ((i : ℕ) → get_or d.bytes i 0 < 256)
     → out.datagrams ≡ []
     → out.first ≡ length packets.datagrams
+    → (r ≡ Received.Spent → server.taken ≡ most_taken_by_server)
     → IsTaken (λ kept. receive (server_of server.beside kept) host (next_of out) (datagram_in d.bytes)) r (content server.keeper) (content server'.keeper) before count server server' out out' journal journal'
     → IsAtServer (received r) answer packets room packets' out'.datagrams events events'
     → TakesIn content (Event.Deliver number) answer (world server clients packets journal skew events term) (world server' clients packets' journal' skew events' term)
-receive-takes content number host d r answer server server' clients packets room packets' journal journal' skew out out' before count events events' term is to from below empty first taken x head earlier plays passes =
+receive-takes content number host d r answer server server' clients packets room packets' journal journal' skew out out' before count events events' term is to from below empty first all taken x head earlier plays passes =
     let old : WorldOver _ = world server clients packets journal skew events term in
     let told = content server.keeper in
     let s : Server = (run head earlier).server in
@@ -161,7 +159,7 @@ receive-takes content number host d r answer server server' clients packets room
       fit = record { passes = passes; given = given-delivery (run head earlier) (seen_of old) number d plays.shown.shows is below; boots = tt };
       is = delivery-steps head earlier old told number d plays is to ∙ ap (after_server (run head earlier)) own;
       says = server-says-plainly.receives (server_of server.beside s.kept) host (next_of out) (datagram_in d.bytes);
-      serves = taken-serves (λ kept. receive (server_of server.beside kept) host (next_of out) (datagram_in d.bytes)) r s.kept told (content server'.keeper) before count server server' out out' journal journal' plays.keeps empty taken;
+      serves = taken-serves (λ kept. receive (server_of server.beside kept) host (next_of out) (datagram_in d.bytes)) r s.kept told (content server'.keeper) before count server server' out out' journal journal' plays.keeps empty all taken;
       room = x.has_room;
       before = x.same;
       after = refl;
@@ -174,11 +172,12 @@ receive-takes content number host d r answer server server' clients packets room
 pub tick-server-takes : {K : Type 0} (content : K → Option Kept) (time : ℕ) (r : Received) (answer : Stepped) (server server' : Holding K) (clients : List Counted) (packets room packets' : PacketList) (journal journal' : EntryList) (skew skew' : SkewCounts) (out out' : Datagrams) (before count events events' term : ℕ)
     → time ≡ server.beside.time + 1
     → out.datagrams ≡ []
+    → (r ≡ Received.Spent → server.taken ≡ most_taken_by_server)
     → IsTaken (λ kept. tick (server_of server.beside kept) time) r (content server.keeper) (content server'.keeper) before count server server' out out' journal journal'
     → IsAtServer (received r) answer packets room packets' out'.datagrams events events'
     → Clocks (received r) Event.ServerTick skew skew'
     → TakesIn content Event.ServerTick answer (world server clients packets journal skew events term) (world server' clients packets' journal' skew' events' term)
-tick-server-takes content time r answer server server' clients packets room packets' journal journal' skew skew' out out' before count events events' term later empty taken x clocks head earlier plays passes =
+tick-server-takes content time r answer server server' clients packets room packets' journal journal' skew skew' out out' before count events events' term later empty all taken x clocks head earlier plays passes =
     let old : WorldOver _ = world server clients packets journal skew events term in
     let told = content server.keeper in
     let s : Server = (run head earlier).server in
@@ -189,7 +188,7 @@ tick-server-takes content time r answer server server' clients packets room pack
       fit = record { passes = passes; given = tt; boots = tt };
       is = ap (after_server (run head earlier)) own;
       says = server-says-plainly.ticks (server_of server.beside s.kept) time;
-      serves = taken-serves (λ kept. tick (server_of server.beside kept) time) r s.kept told (content server'.keeper) before count server server' out out' journal journal' plays.keeps empty taken;
+      serves = taken-serves (λ kept. tick (server_of server.beside kept) time) r s.kept told (content server'.keeper) before count server server' out out' journal journal' plays.keeps empty all taken;
       room = x.has_room;
       before = x.same;
       after = refl;

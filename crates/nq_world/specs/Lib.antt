@@ -2,6 +2,7 @@ pub mod Answering
 pub mod Shown
 pub mod First
 pub mod Stepping
+pub mod Counting
 pub mod Running
 pub mod Sending
 pub mod Rooms

@@ -1,6 +1,6 @@
 -- What an event does to a part of a world, before what it sent is added to the packets. Below, `sent` is what was put into an
 -- empty outbox, `told` and `tells` are what the server's keeper told of its content before and after it.
-use Rattle.std.specs.Prelude.{◌≡◌, ◌≤◌, ◌<◌, ℕ, ◌+◌, ◌*◌, List, [], ◌∷◌, ◌++◌, All, Option, Some, None, Result, Ok, Err, length, map, reverse, slice_get, slice_set}
+use Rattle.std.specs.Prelude.{◌≡◌, ◌≤◌, ℕ, ◌+◌, ◌*◌, List, [], ◌∷◌, ◌++◌, All, Option, Some, None, Result, Ok, Err, length, map, reverse, slice_get, slice_set}
 use Rattle.nq_base.specs.declared.Answer.{Answer}
 use Rattle.nq_base.specs.declared.Entry.{Entry}
 use Rattle.nq_base.specs.declared.Event.{Event}
@@ -17,33 +17,35 @@ use Rattle.nq_model.specs.Client.{Client, ClientStep}
 use Rattle.nq_model.specs.Kept.{Kept}
 use Rattle.nq_model.specs.Server.{ServerStep}
 use Rattle.nq_model.specs.Stepped.{most_sends}
-use Rattle.nq_net.specs.Packets.{Datagram, PacketList}
+use Rattle.nq_net.specs.Packets.{PacketList}
 use Rattle.nq_server.specs.Holding.{Holding, IsUntouched}
 use Rattle.nq_server.specs.State.{beside}
 use Rattle.nq_server.specs.declared.received.Received.{Received}
+use Rattle.nq_world.specs.Counting.{ClientIsSpent, ServerIsSpent, TookIn}
 use Rattle.nq_world.specs.Rooms.{IsSmall, longest_sent}
 use Rattle.nq_world.specs.Shown.{FitsPacket, sent_from, to_server}
 use Rattle.nq_world.specs.declared.ending.Halt.{Halt}
 use Rattle.nq_world.specs.declared.ending.Halt.TheVariants as halt
+use Rattle.nq_world.specs.declared.stepped.Limit.{Limit}
 use Rattle.nq_world.specs.declared.stepped.Stepped.{Stepped}
 
 -- what an answer to a call means for the event
 abbrev pub called : Answer → Result Unit Halt
 called Answer.Memory = Err halt.Memory
-called Answer.Spent = Err halt.Memory
+called Answer.Spent = Err halt.Spent
 called other = Ok tt
 
 -- what is heard of a tick or a datagram means for the event
 abbrev pub heeded : Heard → Result Unit Halt
 heeded Heard.Memory = Err halt.Memory
-heeded Heard.Spent = Err halt.Memory
+heeded Heard.Spent = Err halt.Spent
 heeded other = Ok tt
 
 -- how the server took an event in, for the event
 abbrev pub received : Received → Result Unit Halt
 received Received.Fault = Err halt.Fault
 received Received.Memory = Err halt.Memory
-received Received.Spent = Err halt.Memory
+received Received.Spent = Err halt.Spent
 received other = Ok tt
 
 -- the clients of the protocol
@@ -56,12 +58,14 @@ pub record MovesClient (host : ℕ) (t : ClientStep) (old new : List Counted) (s
   pub sends : sent ≡ map to_server t.sends
   pub fit : All FitsMessage t.sends
   pub tells : Tells t.entries entries entries'
+  pub counts : (most : ℕ) → TookIn most old → TookIn (most + 1) new
 
--- no client changed, nothing was sent and nothing told
+-- no client changed but for its count, nothing was sent and nothing told
 pub record MovesNothing (old new : List Counted) (sent : List (Party × List ℕ)) (entries entries' : List Entry) : Type 0 where
   pub clients : clients_in new ≡ clients_in old
   pub sends : sent ≡ []
   pub tells : entries' ≡ entries
+  pub counts : (most : ℕ) → TookIn most old → TookIn (most + 1) new
 
 -- the client of a host made this step, if there is one
 abbrev pub Moves : (host : ℕ) → Option ClientStep → (old new : List Counted) (sent : List (Party × List ℕ)) (entries entries' : List Entry) → Type 0
@@ -73,24 +77,30 @@ abbrev pub step_at : (Client → Option ClientStep) → Option Counted → Optio
 step_at step None = None
 step_at step (Some c) = step c.client
 
--- what an event at the client of a host does: the client makes its step, or all clients and the journal are as before
+-- what an event at the client of a host does: the client makes its step, or all clients and the journal are as before. A client that
+-- is spent makes none
 abbrev pub ActsAt : (host : ℕ) → (step : Client → Option ClientStep) → Result Unit Halt → (old new : List Counted) (sent : List (Party × List ℕ)) (entries entries' : List Entry) → Type 0
 ActsAt host step (Ok made) old new sent entries entries' = Moves host (step_at step (slice_get old host)) old new sent entries entries'
 ActsAt host step (Err halt.Memory) old new sent entries entries' = (new ≡ old) × (entries' ≡ entries)
+ActsAt host step (Err halt.Spent) old new sent entries entries' = (new ≡ old) × (entries' ≡ entries) × ClientIsSpent host old
 ActsAt host step (Err halt.Fault) old new sent entries entries' = ⊥
 
 -- the server made this step
-pub record MovesServer {K : Type 0} (t : ServerStep) (new : Holding K) (tells : Option Kept) (sent : List (Party × List ℕ)) (entries entries' : List Entry) : Type 0 where
+pub record MovesServer {K : Type 0} (t : ServerStep) (old new : Holding K) (tells : Option Kept) (sent : List (Party × List ℕ)) (entries entries' : List Entry) : Type 0 where
   pub keeps : tells ≡ Some t.server.kept
   pub holds : new.beside ≡ beside t.server
   pub sends : sent ≡ map sent_packet t.sends
   pub fit : All FitsPacket t.sends
   pub enters : entries' ≡ entries ++ reverse t.entries
+  pub counts : new.taken ≤ old.taken + 1
 
--- what an event at the server does: the server makes its step, or it and the journal are as before, but for the keeper
+-- what an event at the server does: the server makes its step, or it and the journal are as before, but for the keeper. A server
+-- that is spent makes none
 abbrev pub Serves : {K : Type 0} → (t : ServerStep) → Result Unit Halt → (old new : Holding K) (told tells : Option Kept) (sent : List (Party × List ℕ)) (entries entries' : List Entry) → Type 0
-Serves t (Ok made) old new told tells sent entries entries' = MovesServer t new tells sent entries entries'
+Serves t (Ok made) old new told tells sent entries entries' = MovesServer t old new tells sent entries entries'
 Serves t (Err halt.Memory) old new told tells sent entries entries' = IsUntouched old new × (tells ≡ told) × (entries' ≡ entries)
+Serves t (Err halt.Spent) old new told tells sent entries entries' =
+    IsUntouched old new × (tells ≡ told) × (entries' ≡ entries) × ServerIsSpent old told
 Serves t (Err halt.Fault) old new told tells sent entries entries' = IsUntouched old new × StaysOrEnds told tells × (entries' ≡ entries)
 
 -- the test of skew follows an event
@@ -118,5 +128,7 @@ Ends (Ok made) Stepped.Memory party sent packets packets' events events' =
 Ends (Ok made) other party sent packets packets' events events' = ⊥
 Ends (Err halt.Memory) answer party sent packets packets' events events' =
     (answer ≡ Stepped.Memory) × (packets'.datagrams ≡ packets.datagrams) × (events' ≡ events)
+Ends (Err halt.Spent) answer party sent packets packets' events events' =
+    (answer ≡ Stepped.Limit Limit.Events) × (packets'.datagrams ≡ packets.datagrams) × (events' ≡ events)
 Ends (Err halt.Fault) answer party sent packets packets' events events' =
     (answer ≡ Stepped.Fault) × (packets'.datagrams ≡ packets.datagrams) × (events' ≡ events)

@@ -17,6 +17,7 @@ use Rattle.nq_net.specs.Packets.{Datagram}
 use Rattle.nq_server.specs.Holding.{Holding, IsUntouched}
 use Rattle.nq_server.specs.State.{beside}
 use Rattle.nq_world.specs.Answering.{told as answer_of}
+use Rattle.nq_world.specs.Counting.{TookIn}
 use Rattle.nq_world.specs.Running.{IsRunOf}
 use Rattle.nq_world.specs.Shown.{Seen}
 use Rattle.nq_world.specs.declared.starting.NewFault.{NewFault}
@@ -43,13 +44,15 @@ seen_of w = record {
 }
 
 -- a world plays the run of these events from this head: what is seen of it is the run's, its keeper tells what the run's server
--- keeps, and beside that its server is the run's
+-- keeps, and beside that its server is the run's; neither the server nor a client has counted more than these events
 pub record Plays {K : Type 0} (head : Head) (events : List Event) (w : WorldOver K) (told : Option Kept) : Type 0 where
   pub shown : IsRunOf head events (seen_of w) w.skew
   pub keeps : told ≡ Some (run head events).server.kept
   pub holds : w.server.beside ≡ beside (run head events).server
   pub counted : w.events ≡ length events
   pub term : w.term ≡ head.term
+  pub served : w.server.taken ≤ length events
+  pub heard : TookIn (length events) w.clients
 
 -- an event that can come to so many hosts: it is of a host that is there, and a boot has a longest term of 5 ticks up to this one
 abbrev pub CanCome : (hosts longest : ℕ) → Event → Type 0
@@ -130,6 +133,7 @@ pub record IsNew {K : Type 0} (clients : List Client) (server : Holding K) (skew
   pub none_told : w.entries ≡ []
   pub skew_is : w.skew ≡ skew
   pub none_taken : w.events ≡ 0
+  pub none_heard : TookIn 0 w.clients
   pub term_is : w.term ≡ term
 
 -- a party that is there, among so many hosts

@@ -14,6 +14,7 @@ use Rattle.nq_model.specs.ServerStep.{boot}
 use Rattle.nq_model.specs.World.{Head, first_clients, first_kept, run, step}
 use Rattle.nq_promises.specs.Bounds.{BootsWithin, KeepsBounds}
 use Rattle.law_bounds.specs.Within.{CarriesText, IsGiven, AreGiven, IsHeadWithin}
+use Rattle.nq_world.specs.Counting.{HasNumbersLeft}
 use Rattle.nq_world.specs.Shown.{Seen, Shows}
 
 -- what is seen of a world, and its test of skew, are those of the run of these events from this head: there are not too many of
@@ -88,6 +89,13 @@ RunsAreLawful =
     × KeepsBounds head.longest head events
     × IsWithinSkew head.hosts head.longest events
 
+-- and none of its numbers comes to its end
+abbrev pub RunsAreUnspent : Type 0
+RunsAreUnspent =
+    (head : Head) (events : List Event) (seen : Seen) (skew : SkewCounts)
+    → IsRunOf head events seen skew
+    → HasNumbersLeft (run head events)
+
 -- a message whose numbers are within their fields, and whose bytes are bytes, carries a name that is one and a body of bytes
 abbrev pub BytesCarryText : Type 0
 BytesCarryText = (m : Message) → FitsMessage m → All (λ b. b < 256) (bytes_of m) → CarriesText m
@@ -99,4 +107,5 @@ pub record WorldsRun : Type 0 where
   pub tests : TestsAreExact
   pub goes_on : RunsGoOn
   pub lawful : RunsAreLawful
+  pub unspent : RunsAreUnspent
   pub text : BytesCarryText

@@ -12,7 +12,7 @@ ghost use Rattle.nq_world.specs.Playing.{GoesOn, TakesIn};
 use crate::arriving::{Arrival, Missing, read_packet};
 use crate::clocks::{shown, time_after};
 use crate::ending::{Halt, finish, outbox};
-use crate::stepped::Stepped;
+use crate::stepped::{Limit, Stepped};
 use crate::world::World;
 use nq_base::{Host, Party};
 use nq_keeper::Keeper;
@@ -35,7 +35,8 @@ fn made(taken: Received) -> Result<(), Halt>
     match taken {
         Received::Done | Received::Dropped(_) => Ok(()),
         Received::Fault => Err(Halt::Fault),
-        Received::Memory | Received::Spent => Err(Halt::Memory),
+        Received::Memory => Err(Halt::Memory),
+        Received::Spent => Err(Halt::Spent),
     }
 }
 
@@ -99,7 +100,7 @@ impl<K: Keeper> World<K> {
             return Stepped::Memory;
         };
         let Some(time) = time_after(self.server.time()) else {
-            return Stepped::Memory;
+            return Stepped::Limit(Limit::Events);
         };
         let taken = self.server.tick(time, &mut out, &mut self.journal);
         match made(taken) {
@@ -136,7 +137,7 @@ impl<K: Keeper> World<K> {
             return Stepped::Memory;
         };
         let Some(time) = shown(self.server.time()) else {
-            return Stepped::Memory;
+            return Stepped::Limit(Limit::Events);
         };
         let taken = self.server.reboot(alloc, longest, time, &mut self.journal);
         finish(

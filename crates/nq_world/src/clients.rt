@@ -1,6 +1,6 @@
 //! Events at the clients of a world.
 
-ghost use Rattle.std.specs.Prelude.{◌≡◌, ◌<◌, ◌+◌, [], Some, length, IfSome};
+ghost use Rattle.std.specs.Prelude.{◌≡◌, ◌<◌, ◌≤◌, ◌+◌, ◌^◌, [], Some, length, IfSome, IsNone};
 ghost use Rattle.nq_base.specs.declared.Event.{Event};
 ghost use Rattle.nq_datagrams.specs.Incoming.{hears_in};
 ghost use Rattle.nq_model.specs.ClientStep.{client_call, client_tick, next_incarnation, restart};
@@ -20,7 +20,8 @@ fn called(answer: &Answer) -> Result<(), Halt>
     ensures { result ≡ called answer.now }
 {
     match answer {
-        Answer::Memory | Answer::Spent => Err(Halt::Memory),
+        Answer::Memory => Err(Halt::Memory),
+        Answer::Spent => Err(Halt::Spent),
         _ => Ok(()),
     }
 }
@@ -30,7 +31,8 @@ fn heeded(heard: &Heard) -> Result<(), Halt>
     ensures { result ≡ heeded heard.now }
 {
     match heard {
-        Heard::Memory | Heard::Spent => Err(Halt::Memory),
+        Heard::Memory => Err(Halt::Memory),
+        Heard::Spent => Err(Halt::Spent),
         Heard::Nothing | Heard::Answered(_) | Heard::Ignored => Ok(()),
     }
 }
@@ -69,11 +71,15 @@ pub(crate) fn tick(
 {
     let client = &mut clients[host.0 as usize];
     let Some(time) = time_after(client.time()) else {
-        return Err(Halt::Memory);
+        return Err(Halt::Spent);
     };
-    heeded(&client.tick(time, out, log))?;
-    skew.client_tick(host);
-    Ok(())
+    match heeded(&client.tick(time, out, log)) {
+        Ok(()) => {
+            skew.client_tick(host);
+            Ok(())
+        }
+        Err(halt) => Err(halt),
+    }
 }
 
 /// The client of a host, if there is such a host, takes in a datagram, which is the packet of this number.
@@ -99,7 +105,8 @@ pub(crate) fn hear(
 
 /// The incarnation after this one; None where there is no number for it.
 fn next_incarnation(who: &Who) -> Option<Who>
-    ensures { IfSome result (λ next. next ≡ next_incarnation who.now) }
+    ensures some { IfSome result (λ next. next ≡ next_incarnation who.now) }
+    ensures none { IsNone result → 2 ^ 32 ≤ who.now.inc + 1 }
 {
     let number = who.inc.0.checked_add(1)?;
     Some(Who {
@@ -124,10 +131,10 @@ pub(crate) fn restart(
     log.reserve(1)?;
     let client = &mut clients[host.0 as usize];
     let Some(time) = shown(client.time()) else {
-        return Err(Halt::Memory);
+        return Err(Halt::Spent);
     };
     let Some(who) = next_incarnation(&client.who()) else {
-        return Err(Halt::Memory);
+        return Err(Halt::Spent);
     };
     match Client::start(alloc, who.host, who.inc, client.term(), time, out) {
         Ok(next) => {

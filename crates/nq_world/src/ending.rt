@@ -5,7 +5,7 @@ ghost use Rattle.nq_model.specs.Stepped.{most_events};
 ghost use Rattle.nq_world.specs.Moving.{Ends, HasRoom};
 
 use crate::sending::send;
-use crate::stepped::Stepped;
+use crate::stepped::{Limit, Stepped};
 use nq_base::{NoMemory, Party};
 use nq_net::Packets;
 use nq_wire::Outbox;
@@ -18,6 +18,8 @@ pub(crate) enum Halt {
     Fault,
     /// Memory was wanting.
     Memory,
+    /// A count, a clock, a boot or an incarnation is at its last number. No run of so few events comes there.
+    Spent,
 }
 
 impl From<NoMemory> for Halt {
@@ -71,5 +73,6 @@ pub(crate) fn finish(
         }
         Err(Halt::Fault) => Stepped::Fault,
         Err(Halt::Memory) => Stepped::Memory,
+        Err(Halt::Spent) => Stepped::Limit(Limit::Events),
     }
 }

@@ -4,6 +4,7 @@ ghost use Rattle.std.specs.Prelude.{◌≡◌, ◌≤◌, ℕ, List, length, IfO
 ghost use Rattle.nq_keeper.specs.StoredKeeper.{empty_kept};
 ghost use Rattle.nq_model.specs.Profile.{longest_term, most_hosts, shortest_term};
 ghost use Rattle.nq_model.specs.World.{first_clients, first_kept};
+ghost use Rattle.nq_world.specs.Counting.{TookIn};
 ghost use Rattle.nq_world.specs.First.{AreFirstFiles, Tells};
 ghost use Rattle.nq_world.specs.Moving.{clients_in};
 ghost use Rattle.nq_world.specs.Playing.{Begins, IsNew, keeper_in};
@@ -24,7 +25,8 @@ use std::alloc::Global;
 pub enum NewFault<K> {
     /// The keeper failed.
     Failed(K),
-    /// Memory was wanting.
+    /// Memory was wanting. So is a keeper answered that tells nothing of what it keeps, and has the last number of a boot
+    /// where none was kept.
     Memory(K),
 }
 
@@ -40,6 +42,7 @@ pub(crate) fn stop_all(clients: Vec<Client>) {
 /// The clients of so many hosts, each attached with its first incarnation.
 fn first_clients(alloc: Global, hosts: u32, term: u32) -> Result<Vec<Client>, NoMemory>
     ensures clients { IfOk result (λ clients. clients_in clients.items ≡ first_clients term 0 hosts) }
+    ensures taken { IfOk result (λ clients. TookIn 0 clients.items) }
     ensures hosts { IfOk result (λ clients. length clients.items ≡ hosts) }
 {
     let Ok(mut clients) = Vec::with_capacity(alloc, hosts as usize) else {

@@ -5,7 +5,8 @@ use nq_base::SkewBroken;
 /// Which limit was reached.
 #[derive(Clone, Copy)]
 pub enum Limit {
-    /// 100,000 events were taken in.
+    /// 100,000 events were taken in. A clock, a boot or an incarnation at its last number is answered so too: none of a run
+    /// comes there before.
     Events,
     /// More than 999,936 packets were sent.
     Packets,

@@ -16,7 +16,7 @@ use Rattle.nq_base.specs.declared.Who.{Who}
 use Rattle.nq_model.specs.Client.{Client, ClientStep, Job, for_call, Notice, Ticket, UnderWay, begun, losses_of, loss_list, notice_on}
 use Rattle.nq_model.specs.ClientStep.{begins_call, is_called, says_busy, client_call, at_time, sends_again, client_tick, starts, fresh_client, next_incarnation, restart}
 use Rattle.nq_base.specs.Calls.{told}
-use Rattle.nq_model.specs.Hear.{vacates_lease, vacates_noticed, loses, reports, without_lease, push_refused, breaks_chain, if_broken, holds, takes_grant, takes_optional, answers_call, caches_block, then_caches, purges, knows_revision, read_done, lease_done, marks_through, caches_write, write_done, ends_push, caches_push, push_done, spends, attached, pauses, cancels, notes_notice, evicted, replied, reply_counts, answer_of, goes_on, hear, inc_of, all_dirty}
+use Rattle.nq_model.specs.Hear.{vacates_lease, vacates_noticed, loses, reports, without_lease, push_refused, breaks_chain, if_broken, holds, takes_grant, takes_optional, answers_call, caches_block, then_caches, purges, knows_revision, read_done, lease_done, marks_through, caches_write, write_done, ends_push, caches_push, push_done, spends, attached, pauses, counts_for_call, cancels, notes_notice, evicted, replied, reply_counts, answer_of, goes_on, hear, inc_of, all_dirty}
 use Rattle.nq_model.specs.Message.{Message, reply}
 use Rattle.nq_model.specs.Send.{sends_request, after_seq, after_number, takes_push, sends_write, gives_up, send_next}
 use Rattle.nq_model.specs.Settle.{said, answers, reads_cached, after_read, delays, marks_written, names_losses, settle}
@@ -28,15 +28,25 @@ use Rattle.walk_client.proofs.SettleCases.{settle-cases}
 use Rattle.walk_client.proofs.StepCases.{call-cases, unless-cached-cases, tick-cases, evicted-cases, heard-cases}
 use Rattle.walk_entries.proofs.Losses.{fold-losses}
 
--- whether an answer brings a value and names no packet
-abbrev pub has_value : Said → Bool
-has_value (Said.OkValue value) = true
-has_value other = false
+-- whether an answer rests on a reply that the journal does not name: it brings a value and names no packet, or says what stands at the
+-- server
+abbrev pub needs_reply : Said → Bool
+needs_reply (Said.OkValue value) = true
+needs_reply Said.Stale = true
+needs_reply Said.NoEntry = true
+needs_reply Said.Exists = true
+needs_reply Said.NoSpace = true
+needs_reply other = false
+
+-- the reply to a call's request, and what it answers the call with: it tells a file's id or length, or refuses
+pub data IsTelling (request : Request) (r : Reply) : Answer → Type 0 where
+  names : (answer : Answer) → IsNamed request r answer → IsTelling request r answer
+  refuses : (inc : ℕ) (status : Refusal) → r ≡ Reply.Refused inc status → counts_for_call status request ≡ true → IsTelling request r (answer_of status)
 
 -- what a list of entries keeps behind each entry that a client makes
 pub record OfClient (P : List Entry → Type 0) : Type 0 where
   pub nothing : P []
-  pub answered : (who : Who) (q : ℕ) (answer : Said) (before : List Entry) → has_value answer ≡ false → P before → P (Entry.A who q answer ∷ before)
+  pub answered : (who : Who) (q : ℕ) (answer : Said) (before : List Entry) → needs_reply answer ≡ false → P before → P (Entry.A who q answer ∷ before)
   -- a cached read, and the answer that brings its value
   pub read : (who : Who) (q file block value : ℕ) (before : List Entry) → P before
       → P (Entry.A who q (Said.OkValue value) ∷ Entry.R who q file block value None ∷ before)
@@ -45,25 +55,13 @@ pub record OfClient (P : List Entry → Type 0) : Type 0 where
   -- a restart
   pub started : (who : Who) → P (Entry.B who ∷ [])
 
--- a refusal brings none
-refused-plain : (status : Refusal) → has_value (said (answer_of status) None) ≡ false
-refused-plain Refusal.NoEnt = refl
-refused-plain Refusal.Exist = refl
-refused-plain Refusal.Inval = refl
-refused-plain Refusal.NoSpc = refl
-refused-plain Refusal.Stale = refl
-refused-plain Refusal.TryLater = refl
-refused-plain Refusal.Fenced = refl
-refused-plain Refusal.NotAttached = refl
-refused-plain Refusal.Old = refl
-
 module _ (P : List Entry → Type 0) (o : OfClient P) where
   abbrev Keeps : ClientStep → Type 0
   Keeps t = P t.entries
 
   -- ---- settling
 
-  answered : (t : ClientStep) (q : ℕ) (a : Answer) (by : Option ℕ) → has_value (said a by) ≡ false → Keeps t → Keeps (answers t q a by)
+  answered : (t : ClientStep) (q : ℕ) (a : Answer) (by : Option ℕ) → needs_reply (said a by) ≡ false → Keeps t → Keeps (answers t q a by)
   unfolding answers
   answered t q a by plain h = o.answered t.client.who q (said a by) t.entries plain h
 
@@ -135,7 +133,7 @@ module _ (P : List Entry → Type 0) (o : OfClient P) where
 
   -- ---- replies and notices
 
-  call-answered : (t : ClientStep) (a : Answer) (by : Option ℕ) → has_value (said a by) ≡ false → Keeps t → Keeps (answers_call t a by)
+  call-answered : (t : ClientStep) (a : Answer) (by : Option ℕ) → needs_reply (said a by) ≡ false → Keeps t → Keeps (answers_call t a by)
   call-answered t a by plain h = answers-call-cases t a by Keeps (λ none. h) (λ u is. answered t u.q a by plain h)
 
   reported : (t : ClientStep) (file : ℕ) → Keeps t → Keeps (reports t file)
@@ -206,8 +204,8 @@ module _ (P : List Entry → Type 0) (o : OfClient P) where
   optional t file g sent h = takes-optional-cases t file g sent Keeps (λ none. h) (λ given is. taken t file given sent h)
 
   module _ (c : Client) (number : ℕ) (ticket : Ticket) (r : Reply)
-      -- the answer that tells a file's id or length
-      (named-answer : (u : UnderWay) (answer : Answer) → c.call ≡ Some u → ticket.job ≡ for_call → IsNamed ticket.request r answer
+      -- the answer that the reply to the call's request gives
+      (told-answer : (u : UnderWay) (answer : Answer) → c.call ≡ Some u → ticket.job ≡ for_call → IsTelling ticket.request r answer
       → P (Entry.A c.who u.q (said answer None) ∷ [])) where
     spent : Keeps (spends (begun c))
     unfolding spends
@@ -217,13 +215,13 @@ module _ (P : List Entry → Type 0) (o : OfClient P) where
     unfolding spends
     spent-call = refl
 
-    by-call : (u : UnderWay) (answer : Answer) → c.call ≡ Some u → ticket.job ≡ for_call → IsNamed ticket.request r answer
+    by-call : (u : UnderWay) (answer : Answer) → c.call ≡ Some u → ticket.job ≡ for_call → IsTelling ticket.request r answer
         → Keeps (answers (spends (begun c)) u.q answer None)
     unfolding spends answers
-    by-call u answer is job named = named-answer u answer is job named
+    by-call u answer is job told = told-answer u answer is job told
 
-    by-name : (answer : Answer) → ticket.job ≡ for_call → IsNamed ticket.request r answer → Keeps (answers_call (spends (begun c)) answer None)
-    by-name answer job is = answers-call-cases (spends (begun c)) answer None Keeps (λ none. spent) (λ u here. by-call u answer (sym spent-call ∙ here) job is)
+    by-reply : (answer : Answer) → ticket.job ≡ for_call → IsTelling ticket.request r answer → Keeps (answers_call (spends (begun c)) answer None)
+    by-reply answer job is = answers-call-cases (spends (begun c)) answer None Keeps (λ none. spent) (λ u here. by-call u answer (sym spent-call ∙ here) job is)
 
     read : (file block : ℕ) (body : List ℕ) (g : Option Grant) → Keeps (read_done (spends (begun c)) file block body g ticket.first number)
     read file block body g =
@@ -255,7 +253,7 @@ module _ (P : List Entry → Type 0) (o : OfClient P) where
     cases : RepliedCases c number ticket r Keeps
     cases = record {
       attaching = λ who inc job asks is. is-attached (spends (begun c)) spent;
-      named = λ answer job is. by-name answer job is;
+      named = λ answer job is. by-reply answer job (names answer is);
       reading = λ who q file block want inc rev body grant of_call is. read file block body grant;
       leasing = λ who file want inc grant of_call is. leased file grant;
       writing = λ who seq file block first last body inc rev of_call is. wrote file block body rev;
@@ -266,7 +264,7 @@ module _ (P : List Entry → Type 0) (o : OfClient P) where
       renewing = λ who file want inc grant job asks is. optional (spends (begun c)) file grant ticket.first spent;
       pushed = λ who seq file block first last base body inc rev job asks is. stored file block body rev;
       putting_off = λ inc status job is off. paused (spends (begun c)) spent;
-      refusing = λ inc status job is counts off. call-answered (spends (begun c)) (answer_of status) None (refused-plain status) spent;
+      refusing = λ inc status job is counts off. by-reply (answer_of status) job (refuses inc status is counts);
       renewal_refused = λ inc status job is off. spent;
       push_refused = λ who seq file block first last base body inc status job asks is off. refused (spends (begun c)) file spent;
     }
@@ -329,7 +327,7 @@ module _ (P : List Entry → Type 0) (o : OfClient P) where
   pub hear-keeps : (c : Client) (number : ℕ) (m : Message) (t : ClientStep) → hear c number m ≡ Some t
       → ((ticket : Ticket) → c.ticket ≡ Some ticket → fits_job ticket.job ticket.request ≡ true)
       → ((xid : ℕ) (r : Reply) (ticket : Ticket) (u : UnderWay) (answer : Answer) → m ≡ reply xid r → c.ticket ≡ Some ticket → xid ≡ ticket.xid
-      → inc_of r ≡ c.who.inc → c.call ≡ Some u → ticket.job ≡ for_call → IsNamed ticket.request r answer
+      → inc_of r ≡ c.who.inc → c.call ≡ Some u → ticket.job ≡ for_call → IsTelling ticket.request r answer
       → P (Entry.A c.who u.q (said answer None) ∷ [])) → Keeps t
   hear-keeps c number m t hears fits gives = heard-cases c number m t Keeps hears (record {
     answered =

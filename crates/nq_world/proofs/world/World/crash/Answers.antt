@@ -1,7 +1,9 @@
-use Rattle.std.proofs.Common.{◌≤◌, refl, sym, subst, ap, ◌∙◌}
+use Rattle.std.proofs.Common.{◌≤◌, ◌^◌, arith, refl, subst, ◌∙◌}
 use Rattle.nq_base.specs.declared.Event.{Event}
 use Rattle.nq_base.specs.declared.Party.{Party}
 use Rattle.nq_world.proofs.Taken.{crash-takes, world}
+use Rattle.nq_world.proofs.Unspent.{server-in-time}
+use Rattle.nq_world.specs.Counting.{IsLastTime}
 use Rattle.nq_world.specs.Moving.{Ends}
 use Rattle.nq_world.specs.Playing.{TakesIn, WorldOver}
 use Rattle.nq_world.proofs.world.World.crash.Goals as goal
@@ -16,3 +18,11 @@ returns-clause-takes g c =
     (λ short. crash-takes content c.args.longest c.in-Some.time taken.result c.finish.result i.server taken.new.self i.clients.items i.packets c.outbox.new.packets c.finish.new.packets i.journal taken.new.log i.skew c.in-Ok.out (faults i.server.keeper) (faults taken.new.self.keeper) i.events c.finish.new.events i.term c.requires.long short (c.in-Some.ensures.same ∙ c.time.ensures) c.in-Ok.ensures.empty taken.ensures.reboots
     (record { has_room = c.in-Ok.ensures.room; same = c.in-Ok.ensures.datagrams; ends = subst (λ m. Ends m c.finish.result Party.Server c.in-Ok.out.datagrams c.outbox.new.packets c.finish.new.packets i.events c.finish.new.events) c.made.ensures c.finish.ensures.ends }))
     c.requires.short
+
+pub returns-in_default-shown-clause-takes : goal.returns-in_default-shown-clause-takes
+returns-in_default-shown-clause-takes g c =
+    let i = c.self.inside in
+    let late : 2 ^ 62 ≤ c.time.result = c.in_default-shown.ensures.late refl in
+    let last : IsLastTime i.server.beside.time = omega (arith, late, c.time.ensures) in
+    λ head events plays passes.
+    absurd (server-in-time head events c.args.self.now (g.K.Keeper.content c.args.self.now.server.keeper) plays (subst (λ (v : WorldOver g.row.K.Denot). IsLastTime v.server.beside.time) c.self.view_is last))
