@@ -1,10 +1,10 @@
 -- What playing a schedule over a keeper comes to, which may fail.
-use Rattle.std.proofs.Common.{◌≡◌, inl, inr, ℕ, List, Option, Some, refl, subst}
+use Rattle.std.proofs.Common.{◌≡◌, inl, inr, ℕ, List, Option, refl, subst}
 use Rattle.nq_base.specs.declared.Entry.{Entry}
 use Rattle.nq_base.specs.declared.Event.{Event}
 use Rattle.nq_ending.specs.declared.Ending.{Ending}
 use Rattle.nq_model.specs.Kept.{Kept}
-use Rattle.nq_play.specs.Going.{Comes, RanTo, said}
+use Rattle.nq_play.specs.Going.{Comes, RanTo}
 use Rattle.nq_play.specs.Playing.{Ended, beginning, ran, stopped}
 use Rattle.nq_play.specs.declared.played.Played.{Played}
 use Rattle.nq_replay.proofs.Outcomes.{stop_ends}

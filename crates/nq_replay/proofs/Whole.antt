@@ -1,7 +1,5 @@
 -- What reading a schedule and replaying it come to together.
-use Rattle.std.proofs.Common.{◌≡◌, ◌⊎◌, ◌<◌, ◌≤◌, ℕ, List, Option, Some, Result, Ok, Err, inl, inr, refl, sym, subst, arith, length}
-use Rattle.std.specs.Prelude.{IfErr}
-use Rattle.nq_base.specs.declared.Event.{Event}
+use Rattle.std.proofs.Common.{◌≡◌, ◌⊎◌, ◌<◌, ◌≤◌, ℕ, List, Option, Some, Err, inl, inr, refl, sym, subst, arith, length}
 use Rattle.nq_ending.specs.declared.Ending.{Ending}
 use Rattle.nq_io.specs.Faults.{Rose}
 use Rattle.nq_io.specs.Whole.{IsAll}
@@ -13,7 +11,7 @@ use Rattle.nq_replay.proofs.Never.{none_rose}
 use Rattle.nq_replay.proofs.Outcomes.{ends_done, ends_faulty, ends_passing, ends_skew, is_due, text_of_schedule}
 use Rattle.nq_replay.specs.Ending.{CountsKeeper, Ends, EndsByInput, EndsText, IsFault, IsUnlessFault, IsUnlessFaultOver}
 use Rattle.nq_replay.specs.Reading.{IsReadAs, PrintsBad, RefusedUnlessFault, Refuses}
-use Rattle.nq_replay.specs.Replay.{BreaksSkew, FaultyLine, OfInput, Passes, PrintsWithin, Runs}
+use Rattle.nq_replay.specs.Replay.{FaultyLine, OfInput, Passes, PrintsWithin}
 use Rattle.nq_replay.specs.Schedules.{EndsOver, EndsPlayed, KeepsPlayed}
 use Rattle.nq_replay.specs.declared.printing.Bound.{Bound}
 use Rattle.nq_script.specs.Schedule.{FirstBadLine, SpellsSchedule}
