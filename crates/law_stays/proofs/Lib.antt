@@ -1,0 +1,2 @@
+pub mod FilesStay
+pub mod SomeStaying
