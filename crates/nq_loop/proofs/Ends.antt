@@ -9,9 +9,9 @@ use Rattle.nq_ending.specs.declared.Ending.{Ending}
 use Rattle.nq_loop.proofs.Playing.{plays-taken}
 use Rattle.nq_loop.proofs.Takings.{now_at}
 use Rattle.nq_loop.specs.Counting.{Counts}
-use Rattle.nq_loop.specs.Holding.{IsLooped, IsLooping, Loop, StandsBehind}
-use Rattle.nq_loop.specs.Looped.{HasEnded, LoopEnds, MayLack, PrintsLoop, StopsSilently, TellsEnd, between}
-use Rattle.nq_loop.specs.Printed.{PrintsSpelled, loop_text}
+use Rattle.nq_loop.specs.Holding.{CountsTurn, IsLooped, IsLooping, Loop, StandsBehind}
+use Rattle.nq_loop.specs.Looped.{HasEnded, IsWhole, KeepsLoop, LoopEnds, MayLack, PrintsLoop, StopsSilently, TellsEnd, between}
+use Rattle.nq_loop.specs.Printed.{PrintsRan, PrintsSpelled, loop_text}
 use Rattle.nq_loop.specs.Turning.{Between, Ran, Stops, TakesTurns}
 use Rattle.nq_loop.specs.Whole.{loop_head}
 use Rattle.nq_loop.specs.declared.turns.LoopTurn.{LoopTurn}
@@ -22,6 +22,7 @@ use Rattle.nq_play.proofs.Lawfully.{played-runs-are-lawful}
 use Rattle.nq_play.specs.Delivering.{Marks}
 use Rattle.nq_play.specs.Playing.{beginning}
 use Rattle.nq_replay.proofs.Printings.{bytes_end}
+use Rattle.nq_replay.specs.Ending.{CountsKeeper}
 use Rattle.nq_replay.specs.Schedules.{TellsStop}
 use Rattle.nq_script.specs.Lines.{once}
 use Rattle.nq_script.specs.Schedule.{SpellsSchedule}
@@ -34,8 +35,8 @@ use Rattle.nq_world.specs.declared.Stepped.{Stepped}
 
 pub limited-tells : {K : Type 0} (end : Ending) (limit : Limit) (head : Head) (world : WorldOver K) (kept : Option Kept) (ran : List Event) (held now : Option (List ℕ)) (w w' : ℕ) → TellsStop end 0 (Stepped.Limit limit) held now w w'
     → TellsEnd end (LoopTurn.Limit limit) head world kept ran held now w w'
-limited-tells Ending.Limit limit head world kept ran held now w w' tells = inr (inr (inl (refl, record { limit = limit; reached = refl; printed = tells })))
-limited-tells Ending.Memory limit head world kept ran held now w w' tells = inr (inr (inr (refl, tt, tells)))
+limited-tells Ending.Limit limit head world kept ran held now w w' tells = inr (inr (inr (inl (refl, record { limit = limit; reached = refl; printed = tells }))))
+limited-tells Ending.Memory limit head world kept ran held now w w' tells = inr (inr (inr (inr (refl, tt, tells))))
 limited-tells other limit head world kept ran held now w w' tells = absurd tells
 
 -- ---- the loop as a whole
@@ -65,21 +66,25 @@ are-looped LoopTurn.Keep head l stands = stands.looped
 are-looped LoopTurn.Memory head l stands = stands.looped
 are-looped (LoopTurn.Limit limit) head l stands = stands.looped
 
-prints-loop : {K : Type 0} (end : Ending) (hosts turns : ℕ) (clock clock' : ClockTold) (links : List LinkTold) (l : Loop K) (held now : Option (List ℕ)) (w w' : ℕ) → Ran (beginning (loop_head hosts)) turns (between [] links clock) (now_at l clock')
-    → IsLooping (beginning (loop_head hosts)) l → PrintsSpelled end (loop_head hosts) l.ran held now w w' → PrintsLoop end hosts turns clock clock' links l.links held now w w'
-prints-loop end hosts turns clock clock' links l held now w w' turned looping prints =
+is-whole : {K : Type 0} (hosts turns : ℕ) (text : List ℕ) (clock clock' : ClockTold) (links : List LinkTold) (l : Loop K) → Ran (beginning (loop_head hosts)) turns (between [] links clock) (now_at l clock') → IsLooping (beginning (loop_head hosts)) l
+    → SpellsSchedule (loop_head hosts) (map once l.ran) text → IsWhole hosts turns text (reverse l.ran) clock clock' links l.links
+is-whole hosts turns text clock clock' links l turned looping spelled =
     let played = plays-taken (loop_head hosts) l.ran looping.taken in
     record {
-      text = prints.text;
-      events = reverse l.ran;
-      whole = record {
-        turned = turned;
-        spelled = subst (λ es. SpellsSchedule (loop_head hosts) (map once es) prints.text) (sym (reverse-reverse l.ran)) prints.spelled;
-        runs = record { lines = map once l.ran; spelled = prints.spelled; played = played };
-        lawful = played-runs-are-lawful (loop_head hosts) (map once l.ran) prints.text (reverse l.ran) prints.spelled played;
-      };
-      printed = prints.printed;
+      turned = turned;
+      spelled = subst (λ es. SpellsSchedule (loop_head hosts) (map once es) text) (sym (reverse-reverse l.ran)) spelled;
+      runs = record { lines = map once l.ran; spelled = spelled; played = played };
+      lawful = played-runs-are-lawful (loop_head hosts) (map once l.ran) text (reverse l.ran) spelled played;
     }
+
+prints-loop : {K : Type 0} (end : Ending) (hosts turns : ℕ) (clock clock' : ClockTold) (links : List LinkTold) (l : Loop K) (held now : Option (List ℕ)) (w w' : ℕ) → Ran (beginning (loop_head hosts)) turns (between [] links clock) (now_at l clock')
+    → IsLooping (beginning (loop_head hosts)) l → PrintsSpelled end (loop_head hosts) l.ran held now w w' → PrintsLoop end hosts turns clock clock' links l.links held now w w'
+prints-loop end hosts turns clock clock' links l held now w w' turned looping prints = record {
+  text = prints.text;
+  events = reverse l.ran;
+  whole = is-whole hosts turns prints.text clock clock' links l turned looping prints.spelled;
+  printed = prints.printed;
+}
 
 by-end : (end : Ending) (hosts turns : ℕ) (clock clock' : ClockTold) (links links' : List LinkTold) (held now : Option (List ℕ)) (w w' : ℕ) → PrintsLoop end hosts turns clock clock' links links' held now w w' → (end ≡ Ending.Done) ⊎ ((end ≡ Ending.WriteFault) ⊎ (end ≡ Ending.Memory))
     → LoopEnds end hosts turns clock clock' links links' held now w w'
@@ -128,13 +133,88 @@ ends end last hosts turns clock clock' links l held now w w' takes stands (inr (
     let stops = subst (λ t. TakesTurns head turns t (between [] links clock) (now_at l clock')) failed.1 takes in
     subst (λ e. LoopEnds e hosts turns clock clock' links l.links held now w w') (sym failed.0)
     (stops-silently LoopTurn.Link last hosts turns clock clock' links l held now w w' stops failed.2 failed.3)
-ends end last hosts turns clock clock' links l held now w w' takes stands (inr (inr (inl reached))) =
+ends end last hosts turns clock clock' links l held now w w' takes stands (inr (inr (inl failed))) =
+    let head = beginning (loop_head hosts) in
+    let stops = subst (λ t. TakesTurns head turns t (between [] links clock) (now_at l clock')) failed.1 takes in
+    subst (λ e. LoopEnds e hosts turns clock clock' links l.links held now w w') (sym failed.0)
+    (inr (stops-silently LoopTurn.Keep last hosts turns clock clock' links l held now w w' stops failed.2 failed.3))
+ends end last hosts turns clock clock' links l held now w w' takes stands (inr (inr (inr (inl reached)))) =
     let head = beginning (loop_head hosts) in
     let stops = subst (λ t. TakesTurns head turns t (between [] links clock) (now_at l clock')) reached.1.reached takes in
     subst (λ e. LoopEnds e hosts turns clock clock' links l.links held now w w') (sym reached.0)
     (record { events = reverse l.ran; limit = reached.1.limit; stops = stops; printed = reached.1.printed })
-ends end last hosts turns clock clock' links l held now w w' takes stands (inr (inr (inr wanting))) =
+ends end last hosts turns clock clock' links l held now w w' takes stands (inr (inr (inr (inr wanting)))) =
     lacks end last hosts turns clock clock' links l held now w w' takes wanting.0 wanting.1 wanting.2
+
+-- ---- what is kept at the end
+
+keeps-ran : {K : Type 0} (hosts turns : ℕ) (clock clock' : ClockTold) (links : List LinkTold) (l : Loop K) (held now : Option (List ℕ)) (w w' : ℕ) → Ran (beginning (loop_head hosts)) turns (between [] links clock) (now_at l clock')
+    → IsLooping (beginning (loop_head hosts)) l → PrintsSpelled Ending.Done (loop_head hosts) l.ran held now w w' → KeepsLoop hosts turns clock clock' links l.links held now l.kept
+keeps-ran hosts turns clock clock' links l held now w w' turned looping prints = record {
+  text = prints.text;
+  events = reverse l.ran;
+  whole = is-whole hosts turns prints.text clock clock' links l turned looping prints.spelled;
+  printed = prints.printed;
+  keeps = looping.plays.keeps;
+}
+
+pub keeps-loop : {K : Type 0} (end : Ending) (last : LoopTurn) (hosts turns : ℕ) (clock clock' : ClockTold) (links : List LinkTold) (l : Loop K) (held now : Option (List ℕ)) (w w' : ℕ) → TakesTurns (beginning (loop_head hosts)) turns last (between [] links clock) (now_at l clock')
+    → StandsBehind (beginning (loop_head hosts)) last l → TellsEnd end last (loop_head hosts) l.world l.kept l.ran held now w w' → end ≡ Ending.Done → KeepsLoop hosts turns clock clock' links l.links held now l.kept
+keeps-loop end last hosts turns clock clock' links l held now w w' takes stands (inl printed) done =
+    let head = beginning (loop_head hosts) in
+    let looping = is-looping last head l printed.0 stands in
+    let turned = ran-all last head turns (between [] links clock) (now_at l clock') printed.0 takes in
+    elim (printed.1 looping.plays) [
+      | inl some ↦
+          keeps-ran hosts turns clock clock' links l held now w w' turned looping (subst (λ e. PrintsSpelled e (loop_head hosts) l.ran held now w w') done some)
+      | inr none ↦ let wanting = none.0 in absurd (cc)
+    ]
+keeps-loop end last hosts turns clock clock' links l held now w w' takes stands (inr (inl failed)) done = let is = failed.0 in absurd (cc)
+keeps-loop end last hosts turns clock clock' links l held now w w' takes stands (inr (inr (inl failed))) done = let is = failed.0 in absurd (cc)
+keeps-loop end last hosts turns clock clock' links l held now w w' takes stands (inr (inr (inr (inl reached)))) done = let is = reached.0 in absurd (cc)
+keeps-loop end last hosts turns clock clock' links l held now w w' takes stands (inr (inr (inr (inr wanting)))) done = let is = wanting.0 in absurd (cc)
+
+-- ---- the keeper's faults
+
+same-ended : (last : LoopTurn) (before count : ℕ) → HasEnded last → CountsTurn last before count → count ≡ before
+same-ended LoopTurn.Took before count ended counts = counts
+same-ended LoopTurn.Quiet before count ended counts = counts
+same-ended LoopTurn.Link before count ended counts = counts
+same-ended LoopTurn.Keep before count ended counts = absurd ended
+same-ended LoopTurn.Memory before count ended counts = counts
+same-ended (LoopTurn.Limit limit) before count ended counts = counts
+
+same-lacking : (last : LoopTurn) (before count : ℕ) → MayLack last → CountsTurn last before count → count ≡ before
+same-lacking LoopTurn.Took before count may counts = counts
+same-lacking LoopTurn.Quiet before count may counts = counts
+same-lacking LoopTurn.Link before count may counts = counts
+same-lacking LoopTurn.Keep before count may counts = absurd may
+same-lacking LoopTurn.Memory before count may counts = counts
+same-lacking (LoopTurn.Limit limit) before count may counts = counts
+
+counts-by : (end : Ending) (before count : ℕ) → count ≡ before → (end ≡ Ending.Done) ⊎ ((end ≡ Ending.WriteFault) ⊎ (end ≡ Ending.Memory)) → CountsKeeper end before count
+counts-by end before count same (inl is) = rw is same
+counts-by end before count same (inr (inl is)) = rw is same
+counts-by end before count same (inr (inr is)) = rw is same
+
+counts-printed : (end : Ending) (head : Head) (ran : List Event) (held now : Option (List ℕ)) (w w' before count : ℕ) → PrintsRan end head ran held now w w' → count ≡ before → CountsKeeper end before count
+counts-printed end head ran held now w w' before count (inl printed) same =
+    counts-by end before count same (bytes_end end (loop_text head printed.text (reverse ran)) held now w w' printed.printed)
+counts-printed end head ran held now w w' before count (inr none) same = counts-by end before count same (inr (inr none.0))
+
+pub counts-loop : {K : Type 0} (end : Ending) (last : LoopTurn) (hosts : ℕ) (l : Loop K) (held now : Option (List ℕ)) (w w' before count : ℕ) → StandsBehind (beginning (loop_head hosts)) last l
+    → TellsEnd end last (loop_head hosts) l.world l.kept l.ran held now w w' → CountsTurn last before count → CountsKeeper end before count
+counts-loop end last hosts l held now w w' before count stands (inl printed) counts =
+    let looping = is-looping last (beginning (loop_head hosts)) l printed.0 stands in
+    counts-printed end (loop_head hosts) l.ran held now w w' before count (printed.1 looping.plays) (same-ended last before count printed.0 counts)
+counts-loop end last hosts l held now w w' before count stands (inr (inl failed)) counts =
+    subst (λ e. CountsKeeper e before count) (sym failed.0) (subst (λ t. CountsTurn t before count) failed.1 counts)
+counts-loop end last hosts l held now w w' before count stands (inr (inr (inl failed))) counts =
+    subst (λ e. CountsKeeper e before count) (sym failed.0) (subst (λ t. CountsTurn t before count) failed.1 counts)
+counts-loop end last hosts l held now w w' before count stands (inr (inr (inr (inl reached)))) counts =
+    subst (λ e. CountsKeeper e before count) (sym reached.0) (subst (λ t. CountsTurn t before count) reached.1.reached counts)
+counts-loop end last hosts l held now w w' before count stands (inr (inr (inr (inr wanting)))) counts =
+    subst (λ e. CountsKeeper e before count) (sym wanting.0) (same-lacking last before count wanting.1 counts)
 
 -- ---- before the first turn
 

@@ -10,7 +10,7 @@ use Rattle.nq_loop.specs.Looped.{HasRisen, LoopEnds, LoopsUnlessFault, StopsSile
 use Rattle.nq_loop.specs.Looping.{Delivers, Gives, GivesDue, HearsAt, IsHeard, IsTaken, IsUnheard, Makes, MissesAt, Moment, Step, Takes, TakesIn, TakesTurn, call_due, came_to, moved, sends_at, turn_of}
 use Rattle.nq_loop.specs.Sending.{FailsAt, changed_at, place_of, sent_all, sent_one, with_sent}
 use Rattle.nq_loop.specs.Steps.{MakesAll, MakesSteps}
-use Rattle.nq_loop.specs.Turning.{Between, Goes, GoesOn, Stops}
+use Rattle.nq_loop.specs.Turning.{Between, Goes}
 use Rattle.nq_loop.specs.Whole.{loop_head}
 use Rattle.nq_loop.specs.declared.turns.Halt.{Halt}
 use Rattle.nq_loop.specs.declared.turns.LoopTurn.{LoopTurn}
@@ -19,6 +19,7 @@ use Rattle.nq_net.specs.Packets.{Datagram}
 use Rattle.nq_node.specs.Clocks.{ClockTold}
 use Rattle.nq_node.specs.Links.{Letter, LinkTold}
 use Rattle.nq_play.specs.Playing.{beginning}
+use Rattle.nq_replay.specs.Ending.{CountsKeeper}
 
 -- the counts of faults of links
 abbrev counts_of : List LinkTold → List ℕ
@@ -212,10 +213,12 @@ link-risen hosts turns clock clock' links links' held now w w' silent =
     rises-behind links s.between.moment.links links' before (turn-counts head LoopTurn.Link s.between.clock clock' s.between.moment _ s.last)
 
 -- without a counted fault a loop takes its turns or comes to a limit, or memory was wanting
-pub loops-unless : (end : Ending) (hosts turns : ℕ) (clock clock' : ClockTold) (links links' : List LinkTold) (held now : Option (List ℕ)) (w w' : ℕ) → LoopEnds end hosts turns clock clock' links links' held now w w' → LoopsUnlessFault end links links' w w'
-loops-unless Ending.Done hosts turns clock clock' links links' held now w w' ends = inl refl
-loops-unless Ending.WriteFault hosts turns clock clock' links links' held now w w' ends = inr (inr ends.printed.1)
-loops-unless Ending.Memory hosts turns clock clock' links links' held now w w' ends = inr (inr tt)
-loops-unless Ending.LinkFault hosts turns clock clock' links links' held now w w' ends = inr (inr (link-risen hosts turns clock clock' links links' held now w w' ends))
-loops-unless Ending.Limit hosts turns clock clock' links links' held now w w' ends = inr (inl refl)
-loops-unless other hosts turns clock clock' links links' held now w w' ends = absurd ends
+pub loops-unless : (end : Ending) (hosts turns : ℕ) (clock clock' : ClockTold) (links links' : List LinkTold) (held now : Option (List ℕ)) (w w' k k' : ℕ) → LoopEnds end hosts turns clock clock' links links' held now w w' → CountsKeeper end k k'
+    → LoopsUnlessFault end links links' w w' ⊎ ((end ≡ Ending.KeepFault) × Rose k k')
+loops-unless Ending.Done hosts turns clock clock' links links' held now w w' k k' ends counts = inl (inl refl)
+loops-unless Ending.WriteFault hosts turns clock clock' links links' held now w w' k k' ends counts = inl (inr (inr ends.printed.1))
+loops-unless Ending.Memory hosts turns clock clock' links links' held now w w' k k' ends counts = inl (inr (inr tt))
+loops-unless Ending.LinkFault hosts turns clock clock' links links' held now w w' k k' ends counts = inl (inr (inr (link-risen hosts turns clock clock' links links' held now w w' ends)))
+loops-unless Ending.KeepFault hosts turns clock clock' links links' held now w w' k k' ends counts = inr (refl, counts)
+loops-unless Ending.Limit hosts turns clock clock' links links' held now w w' k k' ends counts = inl (inr (inl refl))
+loops-unless other hosts turns clock clock' links links' held now w w' k k' ends counts = absurd ends

@@ -1,5 +1,5 @@
 -- Turns of a loop, one after another.
-use Rattle.std.proofs.Common.{◌≡◌, ℕ, ◌+◌, ◌<◌, Bool, true, false, List, Ok, Err, Option, zero, suc, inl, inr, refl, ap, subst, ◌∙◌, arith, add-one}
+use Rattle.std.proofs.Common.{◌≡◌, ℕ, ◌+◌, ◌<◌, Bool, true, false, List, Ok, Err, zero, suc, inl, inr, refl, ap, subst, ◌∙◌, arith, add-one}
 use Rattle.std.proofs.lemmas.Bool.Decides.{nat_tests}
 use Rattle.std.specs.Prelude.{◌&&◌, not, min, nat_le, slice_get}
 use Rattle.nq_node.specs.Clocks.{ClockTold}
@@ -7,12 +7,10 @@ use Rattle.nq_base.specs.declared.Event.{Event}
 use Rattle.nq_io.specs.Faults.{Rose}
 use Rattle.nq_loop.specs.Counting.{begun_in}
 use Rattle.nq_loop.specs.Holding.{CountsTurn, IsLooping, Loop, StandsBehind, Turns, moment_of}
-use Rattle.nq_loop.specs.Looped.{IsNoKeep}
 use Rattle.nq_loop.specs.Looping.{is_busy}
 use Rattle.nq_loop.specs.Turning.{Between, Goes, Stops, TakesTurns, all_answered, all_below, is_over, is_through, went_on}
 use Rattle.nq_loop.specs.declared.turns.LoopTurn.{LoopTurn}
 use Rattle.nq_model.specs.World.{Head, run}
-use Rattle.nq_replay.proofs.Never.{none_rose}
 
 -- ---- whether all is answered
 
@@ -92,12 +90,3 @@ stopped-counts LoopTurn.Memory last first before now is same counts =
     let here : LoopTurn.Memory ≡ last = cc in subst (λ t. CountsTurn t first now) here (counts ∙ same)
 stopped-counts (LoopTurn.Limit limit) last first before now is same counts =
     let here : LoopTurn.Limit limit ≡ last = cc in subst (λ t. CountsTurn t first now) here (counts ∙ same)
-
--- over a keeper that never fails no turn stops for it
-pub no-keep : (last : LoopTurn) (before now : ℕ) → before ≡ 0 → now ≡ 0 → CountsTurn last before now → IsNoKeep last
-no-keep LoopTurn.Took before now b n counts = tt
-no-keep LoopTurn.Quiet before now b n counts = tt
-no-keep LoopTurn.Link before now b n counts = tt
-no-keep LoopTurn.Keep before now b n counts = absurd (none_rose before now b n counts)
-no-keep LoopTurn.Memory before now b n counts = tt
-no-keep (LoopTurn.Limit limit) before now b n counts = tt

@@ -1,5 +1,5 @@
 -- A turn, by how its steps ended.
-use Rattle.std.proofs.Common.{◌≡◌, ℕ, Bool, true, false, List, Ok, Err, Option, sym, ap, subst, ◌∙◌}
+use Rattle.std.proofs.Common.{◌≡◌, ℕ, Bool, true, false, Ok, Err, sym, ap, subst, ◌∙◌}
 use Rattle.std.specs.Prelude.{Result, reverse}
 use Rattle.nq_node.specs.Clocks.{ClockTold, ReadsOnce}
 use Rattle.nq_loop.specs.Holding.{CountsKeep, CountsTurn, IsLooping, Keeps, KeepsTurn, Loop, Loops, Stands, StandsBehind, Turns, moment_of}

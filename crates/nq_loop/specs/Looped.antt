@@ -5,6 +5,7 @@ use Rattle.std.specs.Prelude.{◌≡◌, ◌⊎◌, ℕ, List, [], Option, Some,
 use Rattle.nq_base.specs.declared.Event.{Event}
 use Rattle.nq_ending.specs.declared.Ending.{Ending}
 use Rattle.nq_io.specs.Faults.{Rose}
+use Rattle.nq_io.specs.Told.{with_end}
 use Rattle.nq_loop.specs.Printed.{PrintsRan, loop_text}
 use Rattle.nq_loop.specs.Turning.{Between, Ran, Stops, TakesTurns}
 use Rattle.nq_loop.specs.Whole.{loop_head}
@@ -15,7 +16,7 @@ use Rattle.nq_node.specs.Links.{LinkTold}
 use Rattle.nq_play.specs.Lawful.{IsLawful}
 use Rattle.nq_play.specs.Playing.{beginning}
 use Rattle.nq_replay.specs.Lines.{PrintsLine, limit_line}
-use Rattle.nq_replay.specs.Replay.{Runs}
+use Rattle.nq_replay.specs.Replay.{Runs, kept_of}
 use Rattle.nq_replay.specs.Schedules.{bound_of, PrintsBytes}
 use Rattle.nq_script.specs.Lines.{once}
 use Rattle.nq_script.specs.Schedule.{SpellsSchedule}
@@ -71,14 +72,22 @@ pub record LacksMemory (hosts turns : ℕ) (clock clock' : ClockTold) (links lin
   pub taken : TakesTurns (beginning (loop_head hosts)) turns last (between [] links clock) (between events links' clock')
   pub silent : now ≡ held
 
--- no turn was taken for want of memory: the clock was not read, nothing was sent or received, and nothing was printed
+-- no turn was taken: the clock was not read, nothing was sent or received, and nothing was printed
 pub record BeginsNone (clock clock' : ClockTold) (links links' : List LinkTold) (held now : Option (List ℕ)) (w w' : ℕ) : Type 0 where
   pub unread : clock' ≡ clock
   pub unsent : links' ≡ links
   pub silent : now ≡ held
   pub count : w' ≡ w
 
--- what the words of a loop did, by the end
+-- a loop printed all of that, and what its run keeps is told
+pub record KeepsLoop (hosts turns : ℕ) (clock clock' : ClockTold) (links links' : List LinkTold) (held now : Option (List ℕ)) (told : Option Kept) : Type 0 where
+  pub text : List ℕ
+  pub events : List Event
+  pub whole : IsWhole hosts turns text events clock clock' links links'
+  pub printed : now ≡ with_end held (loop_text (loop_head hosts) text events)
+  pub keeps : told ≡ Some (kept_of (loop_head hosts) events)
+
+-- what the words of a loop did, by the end. Where the keeper failed, it did so before the first turn or in the last
 abbrev pub LoopEnds : Ending → (hosts turns : ℕ) → (clock clock' : ClockTold) → (links links' : List LinkTold) → (held now : Option (List ℕ)) → (w w' : ℕ) → Type 0
 LoopEnds Ending.Done hosts turns clock clock' links links' held now w w' = PrintsLoop Ending.Done hosts turns clock clock' links links' held now w w'
 LoopEnds Ending.WriteFault hosts turns clock clock' links links' held now w w' = PrintsLoop Ending.WriteFault hosts turns clock clock' links links' held now w w'
@@ -86,6 +95,8 @@ LoopEnds Ending.Memory hosts turns clock clock' links links' held now w w' =
     BeginsNone clock clock' links links' held now w w'
     ⊎ (LacksMemory hosts turns clock clock' links links' held now ⊎ PrintsLoop Ending.Memory hosts turns clock clock' links links' held now w w')
 LoopEnds Ending.LinkFault hosts turns clock clock' links links' held now w w' = StopsSilently LoopTurn.Link hosts turns clock clock' links links' held now w w'
+LoopEnds Ending.KeepFault hosts turns clock clock' links links' held now w w' =
+    BeginsNone clock clock' links links' held now w w' ⊎ StopsSilently LoopTurn.Keep hosts turns clock clock' links links' held now w w'
 LoopEnds Ending.Limit hosts turns clock clock' links links' held now w w' = PrintsReached hosts turns clock clock' links links' held now w w'
 LoopEnds other hosts turns clock clock' links links' held now w w' = ⊥
 
@@ -115,11 +126,6 @@ HasEnded LoopTurn.Took = Unit {0}
 HasEnded LoopTurn.Quiet = Unit {0}
 HasEnded other = ⊥
 
--- a turn stopped for no fault of a keeper
-abbrev pub IsNoKeep : LoopTurn → Type 0
-IsNoKeep LoopTurn.Keep = ⊥
-IsNoKeep other = Unit {0}
-
 -- what telling a limit did
 pub record TellsLimit (last : LoopTurn) (held now : Option (List ℕ)) (w w' : ℕ) : Type 0 where
   pub limit : Limit
@@ -130,8 +136,9 @@ pub record TellsLimit (last : LoopTurn) (held now : Option (List ℕ)) (w w' : �
 abbrev pub TellsStopped : Ending → LoopTurn → (held now : Option (List ℕ)) → (w w' : ℕ) → Type 0
 TellsStopped end last held now w w' =
     ((end ≡ Ending.LinkFault) × (last ≡ LoopTurn.Link) × (now ≡ held) × (w' ≡ w))
+    ⊎ (((end ≡ Ending.KeepFault) × (last ≡ LoopTurn.Keep) × (now ≡ held) × (w' ≡ w))
     ⊎ (((end ≡ Ending.Limit) × TellsLimit last held now w w')
-    ⊎ ((end ≡ Ending.Memory) × MayLack last × (now ≡ held)))
+    ⊎ ((end ≡ Ending.Memory) × MayLack last × (now ≡ held))))
 
 -- what telling the end of turns did, by the end and by the last of them
 abbrev pub TellsEnd : {K : Type 0} → Ending → LoopTurn → Head → WorldOver K → Option Kept → (ran : List Event) → (held now : Option (List ℕ)) → (w w' : ℕ) → Type 0

@@ -1,5 +1,5 @@
 -- The turns of a loop, one after another. The events of a run are told with the newest first.
-use Rattle.std.specs.Prelude.{◌≡◌, ◌⊎◌, ◌≤◌, ◌<◌, ◌&&◌, ℕ, Bool, true, false, not, List, Option, Result, Ok, Err, nat_le, slice_get, zero, suc}
+use Rattle.std.specs.Prelude.{◌≡◌, ◌⊎◌, ◌≤◌, ◌<◌, ◌&&◌, ℕ, Bool, true, false, not, List, Result, Ok, Err, nat_le, slice_get, zero, suc}
 use Rattle.nq_base.specs.declared.Event.{Event}
 use Rattle.nq_loop.specs.Counting.{begun_in}
 use Rattle.nq_loop.specs.Looping.{Moment, TakesTurn, is_busy}

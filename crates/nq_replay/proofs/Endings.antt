@@ -1,43 +1,66 @@
--- The end of a run whose input was read.
-use Rattle.std.proofs.Common.{◌≡◌, ℕ, List, Option, Some, inl, inr, refl, subst}
+-- The end of reading a schedule.
+use Rattle.std.proofs.Common.{◌≡◌, ℕ, List, Option, Some, Result, Ok, Err, IfOk, inl, inr, refl, subst}
 use Rattle.std.specs.Option.{IfSome}
+use Rattle.std.specs.Prelude.{IfErr}
 use Rattle.nq_ending.specs.declared.Ending.{Ending}
 use Rattle.nq_io.specs.Whole.{IsAll, IsOver}
-use Rattle.nq_replay.specs.Ending.{Ends, EndsText, IsFault, IsUnlessFault, TellsOver}
+use Rattle.nq_replay.specs.Ending.{IsFault, IsUnlessFault, TellsOver}
+use Rattle.nq_replay.specs.Reading.{IsReadAs, RefusedUnlessFault, Refuses, RefusesText}
+use Rattle.nq_replay.specs.Replay.{OfInput}
+use Rattle.nq_replay.specs.Schedules.{TellsStop}
+use Rattle.nq_script.specs.Schedule.{FirstBadLine}
+use Rattle.nq_script.specs.declared.scripts.Script.{Script}
+use Rattle.nq_world.specs.declared.stepped.Stepped.{Stepped}
 
 -- what was read is what was told
 pub told_text : (bytes : List ℕ) (limit : ℕ) (left rest : Option (List ℕ)) (text : List ℕ) → IsAll bytes limit left rest → left ≡ Some text → bytes ≡ text
 told_text bytes limit left rest text read told = subst (λ l. IfSome l (λ input. bytes ≡ input)) told read.all
 
--- running a text that was read meets no fault of the source
-still_fault : (end : Ending) (text : List ℕ) (held now : Option (List ℕ)) (r r' w w' : ℕ) → EndsText end text held now w w' → IsFault end 0 0 w w' → IsFault end r r' w w'
-still_fault Ending.ReadFault text held now r r' w w' ends fault = absurd ends
-still_fault Ending.WriteFault text held now r r' w w' ends fault = fault
-still_fault Ending.Memory text held now r r' w w' ends fault = tt
-still_fault other text held now r r' w w' ends fault = absurd fault
+-- a text outside the grammar
+pub refuses_text : (end : Ending) (line : ℕ) (text : List ℕ) (held now : Option (List ℕ)) (w w' : ℕ) → FirstBadLine text line → TellsStop end line Stepped.NoPacket held now w w' → RefusesText end text held now w w'
+refuses_text Ending.Script line text held now w w' bad tells = record { number = line; bad = bad; printed = tells }
+refuses_text Ending.Memory line text held now w w' bad tells = tells
+refuses_text other line text held now w w' bad tells = absurd tells
 
-pub still_unless : (end wanted : Ending) (text : List ℕ) (held now : Option (List ℕ)) (r r' w w' : ℕ) → EndsText end text held now w w' → IsUnlessFault end wanted 0 0 w w' → IsUnlessFault end wanted r r' w w'
-still_unless end wanted text held now r r' w w' ends (inl same) = inl same
-still_unless end wanted text held now r r' w w' ends (inr fault) = inr (still_fault end text held now r r' w w' ends fault)
+-- a text that was read to its end
+pub read_as : (result : Result Script Ending) (text : List ℕ) (limit : ℕ) (left rest : Option (List ℕ)) → IsAll text limit left rest → IfOk result (λ script. IsReadAs script text)
+    → IfOk result (λ script. OfInput limit left rest (λ t. IsReadAs script t))
+read_as (Ok script) text limit left rest read is = record { text = text; read = read; so = is }
+read_as (Err end) text limit left rest read is = tt
 
--- what was printed of a text that was read is what was printed of the input
-pub ends_text : (end : Ending) (text : List ℕ) (limit : ℕ) (left rest held now : Option (List ℕ)) (r r' w w' : ℕ) → IsAll text limit left rest → EndsText end text held now w w' → Ends end limit left rest held now r r' w w'
-ends_text Ending.Done text limit left rest held now r r' w w' read ends = record { text = text; read = read; so = ends }
-ends_text Ending.Script text limit left rest held now r r' w w' read ends = record { text = text; read = read; so = ends }
-ends_text Ending.Skew text limit left rest held now r r' w w' read ends = record { text = text; read = read; so = ends }
-ends_text Ending.WriteFault text limit left rest held now r r' w w' read ends = record { text = text; read = read; so = ends }
-ends_text Ending.Memory text limit left rest held now r r' w w' read ends = elim ends [
-  | inl none ↦ inl (none, inr (inl (text, read)))
-  | inr part ↦ inr (record { text = text; read = read; so = part })
-]
-ends_text Ending.Limit text limit left rest held now r r' w w' read ends = inr (record { text = text; read = read; so = ends })
-ends_text other text limit left rest held now r r' w w' read ends = absurd ends
+refuses : (end : Ending) (text : List ℕ) (limit : ℕ) (left rest held now : Option (List ℕ)) (r r' w w' : ℕ) → IsAll text limit left rest → RefusesText end text held now w w' → Refuses end limit left rest held now r r' w w'
+refuses Ending.Script text limit left rest held now r r' w w' read so = record { text = text; read = read; so = so }
+refuses Ending.Memory text limit left rest held now r r' w w' read so = (so, inr (inl (text, read)))
+refuses other text limit left rest held now r r' w w' read so = absurd so
+
+pub refuses_read : (result : Result Script Ending) (text : List ℕ) (limit : ℕ) (left rest held now : Option (List ℕ)) (r r' w w' : ℕ) → IsAll text limit left rest → IfErr result (λ end. RefusesText end text held now w w')
+    → IfErr result (λ end. Refuses end limit left rest held now r r' w w')
+refuses_read (Ok script) text limit left rest held now r r' w w' read so = tt
+refuses_read (Err end) text limit left rest held now r r' w w' read so = refuses end text limit left rest held now r r' w w' read so
+
+-- reading a text meets no fault of the source
+still_refused : (end : Ending) (text : List ℕ) (held now : Option (List ℕ)) (r r' w w' : ℕ) → RefusesText end text held now w w' → IsUnlessFault end Ending.Script 0 0 w w' → IsUnlessFault end Ending.Script r r' w w'
+still_refused Ending.Script text held now r r' w w' so unless = inl refl
+still_refused Ending.Memory text held now r r' w w' so unless = inr tt
+still_refused other text held now r r' w w' so unless = absurd so
+
+pub refused_read : (result : Result Script Ending) (text : List ℕ) (held now : Option (List ℕ)) (r r' w w' : ℕ) → IfErr result (λ end. RefusesText end text held now w w') → RefusedUnlessFault result Ending.Script 0 0 w w'
+    → RefusedUnlessFault result Ending.Script r r' w w'
+refused_read (Ok script) text held now r r' w w' so unless = absurd unless
+refused_read (Err end) text held now r r' w w' so unless = still_refused end text held now r r' w w' so unless
+
+fault_alone : (end : Ending) (r r' w w' : ℕ) → end ≡ Ending.Memory → IsFault end r r' w w'
+fault_alone end r r' w w' is = rw is tt
+
+pub faults_read : (result : Result Script Ending) (r r' w w' : ℕ) → IfErr result (λ end. end ≡ Ending.Memory) → IfErr result (λ end. IsFault end r r' w w')
+faults_read (Ok script) r r' w w' is = tt
+faults_read (Err end) r r' w w' is = fault_alone end r r' w w' is
 
 -- what was told of an input that passes the limit
-pub ends_over : (end : Ending) (front : List ℕ) (limit : ℕ) (left rest held now : Option (List ℕ)) (r r' w w' : ℕ) → IsOver front limit left rest → TellsOver end front held now w w' → Ends end limit left rest held now r r' w w'
-ends_over Ending.Memory front limit left rest held now r r' w w' over tells = inl (tells, inr (inr (front, over)))
-ends_over Ending.Limit front limit left rest held now r r' w w' over tells = inl (record { front = front; passes = over; printed = tells })
-ends_over other front limit left rest held now r r' w w' over tells = absurd tells
+pub refuses_over : (end : Ending) (front : List ℕ) (limit : ℕ) (left rest held now : Option (List ℕ)) (r r' w w' : ℕ) → IsOver front limit left rest → TellsOver end front held now w w' → Refuses end limit left rest held now r r' w w'
+refuses_over Ending.Memory front limit left rest held now r r' w w' over tells = (tells, inr (inr (front, over)))
+refuses_over Ending.Limit front limit left rest held now r r' w w' over tells = record { front = front; passes = over; printed = tells }
+refuses_over other front limit left rest held now r r' w w' over tells = absurd tells
 
 pub over_unless : (end : Ending) (front : List ℕ) (held now : Option (List ℕ)) (r r' w w' : ℕ) → TellsOver end front held now w w' → IsUnlessFault end Ending.Limit r r' w w'
 over_unless Ending.Memory front held now r r' w w' tells = inr tt

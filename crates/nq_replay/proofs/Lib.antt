@@ -7,6 +7,7 @@ pub mod Heads
 pub mod Journals
 pub mod Judgements
 pub mod Outcomes
-pub mod Within
+pub mod Overs
+pub mod Whole
 pub mod Never
 pub mod Versions

@@ -2,4 +2,5 @@ pub mod Lines
 pub mod Replay
 pub mod Schedules
 pub mod Ending
+pub mod Reading
 pub mod Judging

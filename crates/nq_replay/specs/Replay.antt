@@ -1,6 +1,6 @@
 -- What a replay reads and prints. Below, `left` is what was left in the source before it and `rest` is what is left
 -- after it, where the source tells them; the other names are those of `Lines`.
-use Rattle.std.specs.Prelude.{◌≡◌, ◌⊎◌, ℕ, List, Option, reverse}
+use Rattle.std.specs.Prelude.{◌≡◌, ◌⊎◌, ℕ, List, Option, Some, reverse}
 use Rattle.nq_base.specs.declared.Entry.{Entry}
 use Rattle.nq_base.specs.declared.Event.{Event}
 use Rattle.nq_base.specs.declared.SkewBroken.{SkewBroken}
@@ -8,6 +8,7 @@ use Rattle.nq_io.specs.Sink.{AppendsFront}
 use Rattle.nq_io.specs.Told.{with_end}
 use Rattle.nq_io.specs.Whole.{IsAll, IsOver}
 use Rattle.nq_journal.specs.Text.{journal_text}
+use Rattle.nq_model.specs.Kept.{Kept}
 use Rattle.nq_model.specs.Stepped.{Stepped, no_packet, out_of_skew, too_many_events, too_many_packets}
 use Rattle.nq_model.specs.World.{run}
 use Rattle.nq_play.specs.Lawful.{IsLawful}
@@ -31,6 +32,12 @@ pub record Stops (text : List ℕ) (number : ℕ) (answer : Stepped) : Type 0 wh
   pub lines : List Line
   pub spelled : SpellsSchedule head lines text
   pub stopped : play head lines ≡ stopped number answer
+
+-- the text is a schedule
+pub record IsSchedule (text : List ℕ) : Type 0 where
+  pub head : Head
+  pub lines : List Line
+  pub spelled : SpellsSchedule head lines text
 
 -- the journal of the run of these events, with the oldest entry first
 abbrev pub journal_of : Head → (events : List Event) → List Entry
@@ -61,13 +68,18 @@ pub record PrintsJournal (text : List ℕ) (held now : Option (List ℕ)) : Type
   pub runs : Runs text head events
   pub printed : now ≡ with_end held (journal_printed head events)
 
--- the same, and the schedule is within skew and keeps to the bounds
-pub record PrintsWithin (text : List ℕ) (held now : Option (List ℕ)) : Type 0 where
+-- what is kept at the end of the run of these events
+abbrev pub kept_of : Head → (events : List Event) → Kept
+kept_of head events = (run (beginning head) events).server.kept
+
+-- running this text printed its journal, the schedule is within skew and keeps to the bounds, and what its run keeps is told
+pub record PrintsWithin (text : List ℕ) (held now : Option (List ℕ)) (told : Option Kept) : Type 0 where
   pub head : Head
   pub events : List Event
   pub runs : Runs text head events
   pub printed : now ≡ with_end held (journal_printed head events)
   pub lawful : IsLawful (beginning head) events
+  pub keeps : told ≡ Some (kept_of head events)
 
 -- running this text printed a front of its journal
 pub record PrintsPart (text : List ℕ) (held now : Option (List ℕ)) : Type 0 where

@@ -1,15 +1,17 @@
 -- What running a schedule that was read prints. The names of what the sink holds and of its counts of faults are those of `Lines`.
-use Rattle.std.specs.Prelude.{◌≡◌, ◌⊎◌, ◌+◌, ◌<◌, ◌^◌, ℕ, List, Option, Result, Ok, Err, length}
+use Rattle.std.specs.Prelude.{◌≡◌, ◌⊎◌, ◌+◌, ◌<◌, ◌^◌, ℕ, List, Option, Some, Result, Ok, Err, length}
 use Rattle.nq_base.specs.declared.Entry.{Entry}
 use Rattle.nq_ending.specs.declared.Ending.{Ending}
 use Rattle.nq_io.specs.Faults.{Rose}
 use Rattle.nq_io.specs.Sink.{AppendsFront}
 use Rattle.nq_io.specs.Told.{with_end}
 use Rattle.nq_journal.specs.Text.{journal_text}
+use Rattle.nq_model.specs.Kept.{Kept}
+use Rattle.nq_play.specs.Going.{RanTo}
 use Rattle.nq_play.specs.Playing.{Ended, ran, stopped}
 use Rattle.nq_play.specs.declared.played.Played.{Played}
 use Rattle.nq_replay.specs.Lines.{PrintsLine, limit_line, script_line, skew_line}
-use Rattle.nq_replay.specs.Replay.{journal_of}
+use Rattle.nq_replay.specs.Replay.{journal_of, kept_of}
 use Rattle.nq_replay.specs.declared.printing.Bound.{Bound}
 use Rattle.nq_script.specs.Heads.{head_lines}
 use Rattle.nq_script.specs.Schedule.{SpellsSchedule}
@@ -56,10 +58,23 @@ TellsStop Ending.Skew line (Stepped.SkewBroken broken) held now w w' = PrintsLin
 TellsStop Ending.Limit line (Stepped.Limit limit) held now w w' = PrintsLine (limit_line line (bound_of limit)) held now w w'
 TellsStop other line answer held now w w' = ⊥
 
+-- the same over a keeper that may have failed: then nothing is printed
+abbrev pub TellsWhy : Ending → (line : ℕ) → Stepped → (held now : Option (List ℕ)) → (w w' : ℕ) → Type 0
+TellsWhy end line Stepped.Fault held now w w' = (end ≡ Ending.KeepFault) × (now ≡ held)
+TellsWhy end line answer held now w w' = TellsStop end line answer held now w w'
+
 -- what running a schedule printed, by what is due and the end
 abbrev pub EndsPlayed : Ending → Head → Ended → (held now : Option (List ℕ)) → (w w' : ℕ) → Type 0
 EndsPlayed end head (ran events) held now w w' = PrintsEntries end head.version (journal_of head events) held now w w'
 EndsPlayed end head (stopped line answer) held now w w' = TellsStop end line (answer_of answer) held now w w'
+
+-- the same over a keeper: where it failed nothing was printed
+abbrev pub EndsOver : Ending → Head → Ended → (held now : Option (List ℕ)) → (w w' : ℕ) → Type 0
+EndsOver end head due held now w w' = EndsPlayed end head due held now w w' ⊎ ((end ≡ Ending.KeepFault) × (now ≡ held))
+
+-- the schedule was played to its end, and what its run keeps is told
+abbrev pub KeepsPlayed : Head → Ended → (told : Option Kept) → Type 0
+KeepsPlayed head due told = RanTo due (λ events. told ≡ Some (kept_of head events))
 
 -- where no world begins for a keeper's fault, its count of faults rose, and else it stands still
 abbrev pub CountsBegin : {K : Type 0} → Result (WorldOver K) (NewFault K) → (before count : ℕ) → Type 0

@@ -1,99 +1,108 @@
 //! Running a schedule.
 
-ghost use Rattle.std.specs.Prelude.{◌≡◌, ◌<◌, ◌^◌, ℕ, List, [], Some, All, map, length, IfOk};
+ghost use Rattle.std.specs.Prelude.{◌≡◌, ℕ, List, [], Some, All, map, IfOk};
 ghost use Rattle.nq_base.specs.Plain.{plain};
 ghost use Rattle.nq_base.specs.declared.Entry.{Entry};
-ghost use Rattle.nq_base.specs.declared.Event.{Event};
-ghost use Rattle.nq_base.specs.declared.SkewBroken.{SkewBroken};
 ghost use Rattle.nq_ending.specs.declared.Ending.{Ending};
 ghost use Rattle.nq_journal.specs.Text.{Has, IsVersion};
 ghost use Rattle.nq_keeper.specs.StoredKeeper.{empty_kept};
-ghost use Rattle.nq_play.specs.Going.{Comes};
+ghost use Rattle.nq_play.specs.Going.{Comes, said};
 ghost use Rattle.nq_play.specs.Playing.{Ended, beginning, play};
 ghost use Rattle.nq_play.specs.declared.played.Played.{Played};
-ghost use Rattle.nq_replay.specs.Ending.{EndsText, IsUnlessFault};
-ghost use Rattle.nq_replay.specs.Replay.{BreaksSkew, FaultyLine, Passes, Runs};
-ghost use Rattle.nq_replay.specs.Schedules.{CountsBegin, EndsPlayed, HasReason, IsReady, IsReason, NeverFails, PrintsEntries, TellsStop, bound_of};
+ghost use Rattle.nq_replay.specs.Ending.{CountsKeeper};
+ghost use Rattle.nq_replay.specs.Schedules.{CountsBegin, EndsOver, IsReady, IsReason, KeepsPlayed, NeverFails, PrintsEntries, TellsStop, TellsWhy, bound_of};
 ghost use Rattle.nq_replay.specs.declared.printing.Bound.{Bound};
 ghost use Rattle.nq_script.specs.Heads.{FitsHead};
 ghost use Rattle.nq_script.specs.declared.heads.Head.{Head};
-ghost use Rattle.nq_world.specs.Playing.{HasSettings, Plays, keeper_in};
+ghost use Rattle.nq_world.specs.Playing.{CountsFaults, HasSettings, Plays, keeper_in};
 ghost use Rattle.nq_world.specs.declared.stepped.Stepped.{Stepped};
 
+use crate::finished::Finished;
 use crate::printing::{Bound, limit_text, put_line, script_text, skew_text};
 use nq_base::{Journal, NoMemory, SkewBroken};
 use nq_ending::Ending;
 use nq_io::Sink;
 use nq_journal::{Printed, is_in, print};
-use nq_keeper::{Keeper, ListKeeper};
+use nq_keeper::Keeper;
 use nq_play::{Played, play};
-use nq_script::{Head, Script, ScriptFault, parse};
+use nq_script::{Head, Script};
 use nq_world::{Limit, MOST_EVENTS, NewFault, Stepped, World};
 use std::alloc::Global;
 
-/// Runs a schedule that was read, and prints its journal or the line at which it stopped.
-pub(crate) fn replay_text<K: Sink>(alloc: Global, text: &[u8], out: &mut K) -> Ending
-    requires { length text.now < 2 ^ 31 }
-    ensures ends { EndsText result text.now (K.held out.old) (K.held out.new) (K.faults out.old) (K.faults out.new) }
-    ensures script { (number : ℕ) → FaultyLine text.now number
-        → IsUnlessFault result Ending.Script 0 0 (K.faults out.old) (K.faults out.new) }
-    ensures skew { (number : ℕ) (broken : SkewBroken) → BreaksSkew text.now number broken
-        → IsUnlessFault result Ending.Skew 0 0 (K.faults out.old) (K.faults out.new) }
-    ensures passes { (number : ℕ) (bound : Bound) → Passes text.now number bound
-        → IsUnlessFault result Ending.Limit 0 0 (K.faults out.old) (K.faults out.new) }
-    ensures done { (head : Head) (events : List Event) → Runs text.now head events
-        → IsUnlessFault result Ending.Done 0 0 (K.faults out.old) (K.faults out.new) }
-{
-    match parse(alloc, text) {
-        Ok(script) => replay_in_memory(alloc, &script, out),
-        Err(ScriptFault::Bad(number)) => tell_script(alloc, number, out),
-        Err(ScriptFault::Memory) => Ending::Memory,
-    }
-}
-
-/// Runs a schedule over a keeper in memory, which is told to fail in no call.
-fn replay_in_memory<K: Sink>(alloc: Global, script: &Script, out: &mut K) -> Ending
-    requires { IsReady script.now }
-    ensures { EndsPlayed result script.now.head (play script.now.head script.now.lines) (K.held out.old) (K.held out.new) (K.faults out.old)
-        (K.faults out.new) }
-{
-    match ListKeeper::new(alloc, Vec::new(alloc)) {
-        Ok(keeper) => replay_script(alloc, script, keeper, out),
-        Err(_) => Ending::Memory,
-    }
-}
-
-/// Runs a schedule over a keeper that keeps nothing yet and never fails, and prints its journal or the line at which it stopped.
-fn replay_script<L: Keeper + Drop, K: Sink>(
+/// Plays a schedule that was read over a keeper that keeps nothing yet, and prints the journal of its run in the version of the
+/// schedule. The keeper keeps at the end what the run keeps. How it ends:
+///
+/// - `Done`: the journal of the run was printed, which is within skew and keeps to the bounds, since the run itself tests that.
+/// - `Script`: a line delivers a packet that was not sent; prints `script line N`, with lines counted from 1.
+/// - `Skew`: a tick of the server's clock breaks the rule on skew (Macklem 1994); prints `skew line N host H server S client C` with
+///   the lowest such host, and how often both clocks ticked in the shortest part of the schedule that breaks the rule.
+/// - `WriteFault`: the sink failed, which it has counted; a front of the journal is printed.
+/// - `KeepFault`: the keeper failed, which it has counted; prints nothing.
+/// - `Memory`: memory was wanting; a front of the journal may be printed.
+/// - `Limit`: the schedule has more than 100,000 events, or an event comes after more than 999,936 packets; prints `limit line N
+///   events` or `packets` with the line of the event.
+pub fn replay<P: Keeper, K: Sink>(
     alloc: Global,
+    keeper: P,
     script: &Script,
-    keeper: L,
     out: &mut K,
-) -> Ending
+) -> Finished<P>
     requires ready { IsReady script.now }
-    requires empty { L.content keeper ≡ Some empty_kept }
-    requires never { NeverFails L.faults L.follows keeper }
-    ensures { EndsPlayed result script.now.head (play script.now.head script.now.lines) (K.held out.old) (K.held out.new) (K.faults out.old)
-        (K.faults out.new) }
+    requires empty { P.content keeper ≡ Some empty_kept }
+    ensures ends { EndsOver result.end script.now.head (play script.now.head script.now.lines) (K.held out.old) (K.held out.new)
+        (K.faults out.old) (K.faults out.new) }
+    ensures keeps { result.end ≡ Ending.Done → KeepsPlayed script.now.head (play script.now.head script.now.lines) (P.content result.keeper) }
+    ensures counts { CountsKeeper result.end (P.faults keeper) (P.faults result.keeper) }
+    ensures follows { P.follows keeper result.keeper }
 {
-    let Ok(mut world) = begin_surely(alloc, &script.head, keeper) else {
-        return Ending::Memory;
-    };
+    match begin(alloc, &script.head, keeper) {
+        Ok(world) => replay_over(alloc, world, script, out),
+        Err(NewFault::Failed(keeper)) => Finished {
+            end: Ending::KeepFault,
+            keeper,
+        },
+        Err(NewFault::Memory(keeper)) => Finished {
+            end: Ending::Memory,
+            keeper,
+        },
+    }
+}
+
+/// Plays a schedule over a world in which nothing was played before, and prints its journal or the line at which it stopped.
+fn replay_over<P: Keeper, K: Sink>(
+    alloc: Global,
+    world: World<P>,
+    script: &Script,
+    out: &mut K,
+) -> Finished<P>
+    requires ready { IsReady script.now }
+    requires settings { HasSettings script.now.head.hosts script.now.head.longest script.now.head.term world }
+    requires plays { Plays (beginning script.now.head) [] world (P.content world.server.keeper) }
+    ensures ends { EndsOver result.end script.now.head (play script.now.head script.now.lines) (K.held out.old) (K.held out.new)
+        (K.faults out.old) (K.faults out.new) }
+    ensures keeps { result.end ≡ Ending.Done → KeepsPlayed script.now.head (play script.now.head script.now.lines) (P.content result.keeper) }
+    ensures counts { CountsKeeper result.end (P.faults world.server.keeper) (P.faults result.keeper) }
+    ensures follows { P.follows world.server.keeper result.keeper }
+{
+    let mut world = world;
     let played = play_over(alloc, &mut world, script);
-    let ending = tell(alloc, &world, script.head.version, played, out);
-    let _keeper = world.into_keeper();
-    ending
+    let end = tell(alloc, &world, script.head.version, played, out);
+    Finished {
+        end,
+        keeper: world.into_keeper(),
+    }
 }
 
 /// Plays a schedule over a world in which nothing was played before. A flow may have one delivery more than there may be events.
 fn play_over<L: Keeper>(alloc: Global, world: &mut World<L>, script: &Script) -> Played
     requires ready { IsReady script.now }
     requires settings { HasSettings script.now.head.hosts script.now.head.longest script.now.head.term world.old }
-    requires never { NeverFails L.faults L.follows world.old.server.keeper }
     ensures comes { Plays (beginning script.now.head) [] world.old (L.content world.old.server.keeper)
         → Comes result (play script.now.head script.now.lines) (λ events. Plays (beginning script.now.head) events world.new
         (L.content world.new.server.keeper)) }
-    ensures reason { HasReason result }
+    ensures stops { said result ≡ Stepped.Done → result ≡ Played.All }
+    ensures counts { CountsFaults (said result) (L.faults world.old.server.keeper) (L.faults world.new.server.keeper) }
+    ensures follows { L.follows world.old.server.keeper world.new.server.keeper }
 {
     let most = MOST_EVENTS + 1;
     play(
@@ -160,14 +169,30 @@ fn tell<L: Keeper, K: Sink>(
 ) -> Ending
     requires version { IsVersion version }
     requires has { played ≡ Played.All → All (Has version) world.now.entries }
-    requires reason { HasReason played }
-    ensures { (head : Head) (due : Ended) → head.version ≡ version → Comes played due (λ events. Plays (beginning head) events world.now
+    requires stops { said played ≡ Stepped.Done → played ≡ Played.All }
+    ensures ends { (head : Head) (due : Ended) → head.version ≡ version → Comes played due (λ events. Plays (beginning head) events world.now
         (L.content world.now.server.keeper))
-        → EndsPlayed result head due (K.held out.old) (K.held out.new) (K.faults out.old) (K.faults out.new) }
+        → EndsOver result head due (K.held out.old) (K.held out.new) (K.faults out.old) (K.faults out.new) }
+    ensures keeps { result ≡ Ending.Done → (head : Head) (due : Ended) → Comes played due (λ events. Plays (beginning head) events world.now
+        (L.content world.now.server.keeper))
+        → KeepsPlayed head due (L.content world.now.server.keeper) }
+    ensures counts { (before count : ℕ) → CountsFaults (said played) before count → CountsKeeper result before count }
 {
     match played {
         Played::All => print_entries(alloc, world.journal(), version, out),
-        Played::Stopped { line, answer } => tell_stop(alloc, line, answer, out),
+        Played::Stopped { line, answer } => tell_why(alloc, line, answer, out),
+    }
+}
+
+/// Tells at which line a schedule stopped, and why; nothing where the keeper failed.
+fn tell_why<K: Sink>(alloc: Global, line: u32, answer: Stepped, out: &mut K) -> Ending
+    requires { answer ≡ Stepped.Done → ⊥ }
+    ensures { TellsWhy result line answer (K.held out.old) (K.held out.new) (K.faults out.old) (K.faults out.new) }
+{
+    match answer {
+        Stepped::Fault => Ending::KeepFault,
+        Stepped::Done => unreachable!(),
+        other => tell_stop(alloc, line, other, out),
     }
 }
 

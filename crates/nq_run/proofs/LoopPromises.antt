@@ -1,52 +1,57 @@
 -- What the command of loops promises.
-use Rattle.std.proofs.Common.{◌≡◌, ℕ, List, Option, Some, subst}
+use Rattle.std.proofs.Common.{◌≡◌, ◌⊎◌, ℕ, List, Option, Some, inl, inr, refl, subst}
 use Rattle.nq_command.specs.declared.Command.{Command}
 use Rattle.nq_ending.proofs.Ends.{one_end}
-use Rattle.nq_ending.specs.Status.{WithStatus, status_of}
+use Rattle.nq_ending.specs.Status.{status_of}
 use Rattle.nq_ending.specs.declared.Ending.{Ending}
 use Rattle.nq_loop.proofs.Faults.{loops-unless}
-use Rattle.nq_loop.specs.Looped.{LoopEnds, LoopsUnlessFault}
+use Rattle.nq_loop.specs.Looped.{KeepsLoop, LoopEnds, LoopsUnlessFault}
 use Rattle.nq_loop.specs.Whole.{loop_head}
+use Rattle.nq_model.specs.Kept.{Kept}
 use Rattle.nq_node.specs.Clocks.{ClockTold}
 use Rattle.nq_node.specs.Links.{LinkTold}
+use Rattle.nq_replay.specs.Ending.{CountsKeeper}
 use Rattle.nq_run.proofs.Promises.{faultless, holds_throughout}
-use Rattle.nq_run.specs.Looping.{LoopsFor, LoopsLawfully}
+use Rattle.nq_run.specs.Looping.{EndsUnlessFault, LoopsFor, LoopsLawfully}
 
-done_looped : (hosts turns : ℕ) (clock clock' : ClockTold) (links links' : List LinkTold) (held now : Option (List ℕ)) (w w' : ℕ) → LoopEnds Ending.Done hosts turns clock clock' links links' held now w w'
-    → LoopsLawfully hosts turns clock clock' links links' held now
-done_looped hosts turns clock clock' links links' held now w w' ends =
-    let holds = holds_throughout (loop_head hosts) ends.events ends.whole.lawful in
+done_looped : (hosts turns : ℕ) (clock clock' : ClockTold) (links links' : List LinkTold) (held now : Option (List ℕ)) (kept : Option Kept) → KeepsLoop hosts turns clock clock' links links' held now kept
+    → LoopsLawfully hosts turns clock clock' links links' held now kept
+done_looped hosts turns clock clock' links links' held now kept keeps =
+    let holds = holds_throughout (loop_head hosts) keeps.events keeps.whole.lawful in
     record {
-      text = ends.text;
-      events = ends.events;
-      whole = ends.whole;
-      printed = ends.printed;
+      text = keeps.text;
+      events = keeps.events;
+      whole = keeps.whole;
+      printed = keeps.printed;
       holds = holds;
-      judged = faultless (loop_head hosts) ends.events holds;
+      judged = faultless (loop_head hosts) keeps.events holds;
+      keeps = keeps.keeps;
     }
+
+-- a loop by its end
+pub loops_for : (end : Ending) (code hosts turns : ℕ) (clock clock' : ClockTold) (links links' : List LinkTold) (held now : Option (List ℕ)) (w w' k k' : ℕ) (kept : Option Kept) → code ≡ status_of end
+    → LoopEnds end hosts turns clock clock' links links' held now w w' → (end ≡ Ending.Done → KeepsLoop hosts turns clock clock' links links' held now kept) → CountsKeeper end k k'
+    → LoopsFor code hosts turns clock clock' links links' held now w w' k k' kept
+loops_for end code hosts turns clock clock' links links' held now w w' k k' kept status ends keeps counts = record {
+  end = end;
+  status = status;
+  ends = ends;
+  unless = loops-unless end hosts turns clock clock' links links' held now w w' k k' ends counts;
+  counts = counts;
+  lawful = λ done. done_looped hosts turns clock clock' links links' held now kept (keeps done);
+}
 
 -- ---- what `run` says
 
 -- a loop does not end with usage
-pub loop_usage : (status hosts turns : ℕ) (clock clock' : ClockTold) (links links' : List LinkTold) (held now : Option (List ℕ)) (w w' : ℕ) → LoopsFor status hosts turns clock clock' links links' held now w w'
+pub loop_usage : (status hosts turns : ℕ) (clock clock' : ClockTold) (links links' : List LinkTold) (held now : Option (List ℕ)) (w w' k k' : ℕ) (kept : Option Kept) → LoopsFor status hosts turns clock clock' links links' held now w w' k k' kept
     → status ≡ status_of Ending.Usage → ⊥
-loop_usage status hosts turns clock clock' links links' held now w w' does none = subst (λ e. LoopEnds e hosts turns clock clock' links links' held now w w') (one_end does.end Ending.Usage status does.status none) does.ends
+loop_usage status hosts turns clock clock' links links' held now w w' k k' kept does none = subst (λ e. LoopEnds e hosts turns clock clock' links links' held now w w') (one_end does.end Ending.Usage status does.status none) does.ends
 
-pub loop_does : (said : Option Command) (status hosts turns hosts' turns' : ℕ) (clock clock' : ClockTold) (links links' : List LinkTold) (held now : Option (List ℕ)) (w w' : ℕ) → said ≡ Some (Command.Loop hosts turns) → said ≡ Some (Command.Loop hosts' turns')
-    → LoopsFor status hosts turns clock clock' links links' held now w w' → LoopsFor status hosts' turns' clock clock' links links' held now w w'
-loop_does said status hosts turns hosts' turns' clock clock' links links' held now w w' is same does =
+pub loop_does : (said : Option Command) (status hosts turns hosts' turns' : ℕ) (clock clock' : ClockTold) (links links' : List LinkTold) (held now : Option (List ℕ)) (w w' k k' : ℕ) (kept : Option Kept) → said ≡ Some (Command.Loop hosts turns) → said ≡ Some (Command.Loop hosts' turns')
+    → LoopsFor status hosts turns clock clock' links links' held now w w' k k' kept → LoopsFor status hosts' turns' clock clock' links links' held now w w' k k' kept
+loop_does said status hosts turns hosts' turns' clock clock' links links' held now w w' k k' kept is same does =
     let all : hosts ≡ hosts' = cc in
     let most : turns ≡ turns' = cc in
-    subst (λ n. LoopsFor status hosts' n clock clock' links links' held now w w') most
-    (subst (λ n. LoopsFor status n turns clock clock' links links' held now w w') all does)
-
-pub loop_lawful : (status hosts turns : ℕ) (clock clock' : ClockTold) (links links' : List LinkTold) (held now : Option (List ℕ)) (w w' : ℕ) → LoopsFor status hosts turns clock clock' links links' held now w w'
-    → status ≡ status_of Ending.Done → LoopsLawfully hosts turns clock clock' links links' held now
-loop_lawful status hosts turns clock clock' links links' held now w w' does done =
-    done_looped hosts turns clock clock' links links' held now w w'
-    (subst (λ e. LoopEnds e hosts turns clock clock' links links' held now w w') (one_end does.end Ending.Done status does.status done) does.ends)
-
-pub loop_unless : (status hosts turns : ℕ) (clock clock' : ClockTold) (links links' : List LinkTold) (held now : Option (List ℕ)) (w w' : ℕ) → LoopsFor status hosts turns clock clock' links links' held now w w'
-    → WithStatus status (λ end. LoopsUnlessFault end links links' w w')
-loop_unless status hosts turns clock clock' links links' held now w w' does =
-    (does.end, does.status, loops-unless does.end hosts turns clock clock' links links' held now w w' does.ends)
+    subst (λ n. LoopsFor status hosts' n clock clock' links links' held now w w' k k' kept) most
+    (subst (λ n. LoopsFor status n turns clock clock' links links' held now w w' k k' kept) all does)

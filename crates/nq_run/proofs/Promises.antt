@@ -5,6 +5,7 @@ use Rattle.nq_base.specs.declared.Event.{Event}
 use Rattle.nq_rules.proofs.Sounds.{faultless_where_sound}
 use Rattle.nq_rules.specs.Verdict.{verdict}
 use Rattle.nq_laws.proofs.HeadlineParts.{at-every-moment}
+use Rattle.nq_model.specs.Kept.{Kept}
 use Rattle.nq_model.specs.Skew.{IsWithinSkew}
 use Rattle.nq_model.specs.Sound.{IsSound}
 use Rattle.nq_model.specs.World.{run}
@@ -23,13 +24,14 @@ holds_throughout head events lawful = λ later earlier split.
     (subst (KeepsBounds head.longest (beginning head)) split lawful.bounds)
     (subst (IsWithinSkew head.hosts head.longest) split lawful.skew)
 
-prints_lawfully : (text : List ℕ) (held now : Option (List ℕ)) → PrintsWithin text held now → PrintsLawfully text held now
-prints_lawfully text held now p = record {
+prints_lawfully : (text : List ℕ) (held now : Option (List ℕ)) (told : Option Kept) → PrintsWithin text held now told → PrintsLawfully text held now told
+prints_lawfully text held now told p = record {
   head = p.head;
   events = p.events;
   runs = p.runs;
   printed = p.printed;
   holds = holds_throughout p.head p.events p.lawful;
+  keeps = p.keeps;
 }
 
 -- the headline at the end of a run is all that the judge asks
@@ -40,14 +42,14 @@ faultless head events holds =
     let sound : IsSound world.journal = record { legal = h.legal; ordered = h.ordered; accounted = h.accounted; excused = h.excused; reported = h.reported; synchronized = h.synchronized } in
     faultless_where_sound world.journal sound
 
-prints_sound : (text : List ℕ) (held now : Option (List ℕ)) → PrintsLawfully text held now → PrintsSound held now
-prints_sound text held now p =
+prints_sound : (text : List ℕ) (held now : Option (List ℕ)) (told : Option Kept) → PrintsLawfully text held now told → PrintsSound held now
+prints_sound text held now told p =
     let journal = (run (beginning p.head) p.events).journal in
     record { version = p.head.version; entries = reverse journal; printed = p.printed; judged = rw (reverse-reverse journal) (faultless p.head p.events p.holds) }
 
 -- of an input whose journal was printed
-pub input_lawful : (limit : ℕ) (left rest held now : Option (List ℕ)) → OfInput limit left rest (λ text. PrintsWithin text held now) → OfInput limit left rest (λ text. PrintsLawfully text held now)
-input_lawful limit left rest held now p = record { text = p.text; read = p.read; so = prints_lawfully p.text held now p.so }
+pub input_lawful : (limit : ℕ) (left rest held now : Option (List ℕ)) (told : Option Kept) → OfInput limit left rest (λ text. PrintsWithin text held now told) → OfInput limit left rest (λ text. PrintsLawfully text held now told)
+input_lawful limit left rest held now told p = record { text = p.text; read = p.read; so = prints_lawfully p.text held now told p.so }
 
-pub input_sound : (limit : ℕ) (left rest held now : Option (List ℕ)) → OfInput limit left rest (λ text. PrintsWithin text held now) → OfInput limit left rest (λ text. PrintsSound held now)
-input_sound limit left rest held now p = record { text = p.text; read = p.read; so = prints_sound p.text held now (prints_lawfully p.text held now p.so) }
+pub input_sound : (limit : ℕ) (left rest held now : Option (List ℕ)) (told : Option Kept) → OfInput limit left rest (λ text. PrintsWithin text held now told) → OfInput limit left rest (λ text. PrintsSound held now)
+input_sound limit left rest held now told p = record { text = p.text; read = p.read; so = prints_sound p.text held now told (prints_lawfully p.text held now told p.so) }

@@ -32,3 +32,15 @@ reads_clock other = false
 abbrev pub uses_fates : Option Command → Bool
 uses_fates (Some (Command.Storm kind start events)) = true
 uses_fates other = false
+
+-- a replay, a storm and a loop make a run, over what keeps nothing yet
+abbrev pub makes_a_run : Option Command → Bool
+makes_a_run (Some Command.Replay) = true
+makes_a_run (Some (Command.Storm kind start events)) = true
+makes_a_run (Some (Command.Loop hosts turns)) = true
+makes_a_run other = false
+
+-- what makes a run uses the keeper, and so does a server
+abbrev pub uses_keeper : Option Command → Bool
+uses_keeper (Some (Command.Serve turns longest)) = true
+uses_keeper other = makes_a_run other

@@ -15,12 +15,10 @@ use Rattle.nq_user.specs.Using.{EndsBy as UsesBy, Uses}
 -- A server over this very keeper took its turns, or ended before, and this keeper was left; the status is that of the end, which has its
 -- cause. Where the keeper told what it kept at first, whatever a stop at any moment leaves is that, or what was kept after a prefix of the
 -- steps: the boot, and the ticks and datagrams of the turns
-pub record ServesFor {P : Type 0} (content : P → Option Kept) (faults : P → ℕ) (follows : P → P → Type 0) (leaves : P → P → Option Kept → Type 0) (code longest turns : ℕ) (keeper : P) (clock clock' : ClockTold) (link link' : LinkTold) (held now : Option (List ℕ)) (w w' : ℕ) : Type 0 where
+pub record ServesFor {P : Type 0} (content : P → Option Kept) (faults : P → ℕ) (follows : P → P → Type 0) (leaves : P → P → Option Kept → Type 0) (code longest turns : ℕ) (keeper left : P) (clock clock' : ClockTold) (link link' : LinkTold) (held now : Option (List ℕ)) (w w' : ℕ) : Type 0 where
   pub end : Ending
-  pub left : P
   pub status : code ≡ status_of end
   pub tells : Tells end turns (λ ended. LeavesServing content faults follows leaves longest turns keeper ended left clock clock' link link') held now w w'
-  pub same : follows keeper left
   pub cause : ServesBy end (content keeper) (faults keeper) (faults left) link.faults link'.faults w w'
 
 -- a client ran the calls of the input, or ended before, and the status is that of its end, which has its cause

@@ -1,5 +1,7 @@
 pub mod Fates
 pub mod Promised
+pub mod Replaying
+pub mod Checking
 pub mod Hosting
 pub mod Storming
 pub mod Looping

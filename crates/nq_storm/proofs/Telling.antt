@@ -13,6 +13,7 @@ use Rattle.nq_model.specs.World.{run}
 use Rattle.nq_play.specs.Playing.{beginning}
 use Rattle.nq_replay.proofs.Journals.{plain_text}
 use Rattle.nq_replay.proofs.Printings.{bytes_end}
+use Rattle.nq_replay.specs.Ending.{CountsKeeper}
 use Rattle.nq_replay.specs.Replay.{journal_of}
 use Rattle.nq_replay.specs.Schedules.{PrintsBytes}
 use Rattle.nq_script.specs.Lines.{once}
@@ -22,7 +23,7 @@ use Rattle.nq_storm.proofs.Playing.{storms-are-lawful}
 use Rattle.nq_storm.specs.Counts.{is_loss, storm_line}
 use Rattle.nq_storm.specs.Ending.{Storms}
 use Rattle.nq_storm.specs.Heads.{storm_head}
-use Rattle.nq_storm.specs.Printed.{PrintsRan, PrintsSpelled, PrintsStorm, StormEnds, counts_of, storm_text}
+use Rattle.nq_storm.specs.Printed.{KeepsStorm, PrintsRan, PrintsSpelled, PrintsStorm, StormEnds, counts_of, storm_text}
 use Rattle.nq_storm.specs.Whole.{IsWholeStorm}
 use Rattle.nq_storm.specs.declared.stormed.Stormed.{Stormed}
 use Rattle.nq_storm_rules.specs.Rules.{Rule}
@@ -88,3 +89,31 @@ prints_storm end start count first ran new tells held now w w' storms (inl print
     prints_by end start count first held now w w' (prints_whole end start count first ran new tells held now w w' storms printed)
 prints_storm end start count first ran new tells held now w w' storms (inr none) =
     subst (λ e. StormEnds e start count first held now w w') (sym none.0) (inl none.1)
+
+-- what is kept of it
+keeps_whole : {K : Type 0} (start count : ℕ) (first : Option Rule) (ran : List Event) (new : WorldOver K) (tells : Option Kept) (held now : Option (List ℕ)) (w w' : ℕ) → Storms Stormed.Done (beginning storm_head) start count first (reverse ran) new tells
+    → PrintsSpelled Ending.Done ran held now w w' → KeepsStorm start count first held now tells
+keeps_whole start count first ran new tells held now w w' storms printed = record {
+  text = printed.text;
+  events = reverse ran;
+  whole = is_whole start count first ran printed.text new tells printed.spelled storms;
+  printed = printed.printed;
+  keeps = storms.stands.keeps;
+}
+
+pub keeps_storm : {K : Type 0} (end : Ending) (start count : ℕ) (first : Option Rule) (ran : List Event) (new : WorldOver K) (tells : Option Kept) (held now : Option (List ℕ)) (w w' : ℕ) → Storms Stormed.Done (beginning storm_head) start count first (reverse ran) new tells
+    → PrintsRan end ran held now w w' → end ≡ Ending.Done → KeepsStorm start count first held now tells
+keeps_storm end start count first ran new tells held now w w' storms (inl printed) done =
+    keeps_whole start count first ran new tells held now w w' storms (subst (λ e. PrintsSpelled e ran held now w w') done printed)
+keeps_storm end start count first ran new tells held now w w' storms (inr none) done = let wanting = none.0 in absurd (cc)
+
+-- printing it is no fault of the keeper
+counts_by : (end : Ending) (before count : ℕ) → count ≡ before → (end ≡ Ending.Done) ⊎ ((end ≡ Ending.WriteFault) ⊎ (end ≡ Ending.Memory)) → CountsKeeper end before count
+counts_by end before count same (inl is) = rw is same
+counts_by end before count same (inr (inl is)) = rw is same
+counts_by end before count same (inr (inr is)) = rw is same
+
+pub counts_printed : (end : Ending) (ran : List Event) (held now : Option (List ℕ)) (w w' before count : ℕ) → PrintsRan end ran held now w w' → count ≡ before → CountsKeeper end before count
+counts_printed end ran held now w w' before count (inl printed) same =
+    counts_by end before count same (bytes_end end (storm_text printed.text (reverse ran)) held now w w' printed.printed)
+counts_printed end ran held now w w' before count (inr none) same = counts_by end before count same (inr (inr none.0))

@@ -6,9 +6,8 @@ use Rattle.nq_base.specs.declared.Event.{Event}
 use Rattle.nq_model.specs.Kept.{Kept}
 use Rattle.nq_model.specs.World.{Head}
 use Rattle.nq_play.specs.Delivering.{Marks}
-use Rattle.nq_replay.proofs.Never.{none_rose}
 use Rattle.nq_storm.proofs.Passing.{ends_early}
-use Rattle.nq_storm.specs.Ending.{CountsFaults, Halts, IsInStorm, IsNoFault, Stands, Storms}
+use Rattle.nq_storm.specs.Ending.{CountsFaults, Halts, IsInStorm, Stands, Storms}
 use Rattle.nq_storm.specs.Storming.{generator, word_behind}
 use Rattle.nq_storm.specs.declared.stormed.Stormed.{Stormed}
 use Rattle.nq_storm_rules.specs.Rules.{Rule}
@@ -56,10 +55,3 @@ is_cut ended head start wanted earlier first last before after old new told tell
 -- the count of faults over two moments
 pub counts_on : (ended : Stormed) (first second last : ℕ) → second ≡ first → CountsFaults ended second last → CountsFaults ended first last
 counts_on ended first second last is counts = subst (λ n. CountsFaults ended n last) is counts
-
--- over a keeper that never fails a storm ends for no fault of it
-pub no_fault : (ended : Stormed) (before count : ℕ) → before ≡ 0 → count ≡ 0 → CountsFaults ended before count → IsNoFault ended
-no_fault Stormed.Done before count b c counts = tt
-no_fault (Stormed.Limit limit) before count b c counts = tt
-no_fault Stormed.Fault before count b c counts = absurd (none_rose before count b c counts)
-no_fault Stormed.Memory before count b c counts = tt

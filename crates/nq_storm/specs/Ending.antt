@@ -54,11 +54,6 @@ abbrev pub CountsFaults : Stormed → (before count : ℕ) → Type 0
 CountsFaults Stormed.Fault before count = Rose before count
 CountsFaults other before count = count ≡ before
 
--- a storm ended for no fault of a keeper
-abbrev pub IsNoFault : Stormed → Type 0
-IsNoFault Stormed.Fault = ⊥
-IsNoFault other = Unit {0}
-
 -- how a storm ends where a world did not take an event in. A world that plays the run takes each event of its menu in, but for a limit, a
 -- fault, or want of memory
 abbrev pub ending_of : Stepped → Stormed

@@ -1,17 +1,16 @@
 -- What a storm prints. Below, `held` is what the sink held before it and `now` is what it holds after it, where the sink tells them; `w`
 -- and `w'` are the sink's counts of faults before and after.
 use Rattle.std.specs.List.{count_by}
-use Rattle.std.specs.Prelude.{◌≡◌, ◌⊎◌, ℕ, ◌<◌, List, ◌++◌, length, map, reverse, Option}
+use Rattle.std.specs.Prelude.{◌≡◌, ◌⊎◌, ℕ, ◌<◌, List, ◌++◌, length, map, reverse, Option, Some}
 use Rattle.nq_base.specs.declared.Event.{Event}
 use Rattle.nq_ending.specs.declared.Ending.{Ending}
-use Rattle.nq_io.specs.Faults.{Rose}
-use Rattle.nq_io.specs.Sink.{AppendsFront}
 use Rattle.nq_io.specs.Told.{with_end}
+use Rattle.nq_model.specs.Kept.{Kept}
 use Rattle.nq_model.specs.World.{run}
 use Rattle.nq_play.specs.Playing.{beginning}
 use Rattle.nq_play.specs.Reaching.{IsReached}
 use Rattle.nq_replay.specs.Lines.{PrintsLine, limit_line}
-use Rattle.nq_replay.specs.Replay.{journal_of, journal_printed}
+use Rattle.nq_replay.specs.Replay.{journal_of, journal_printed, kept_of}
 use Rattle.nq_replay.specs.Schedules.{PrintsBytes, bound_of}
 use Rattle.nq_script.specs.Lines.{once}
 use Rattle.nq_script.specs.Schedule.{SpellsSchedule}
@@ -48,6 +47,14 @@ pub record PrintsStorm (end : Ending) (start count : ℕ) (first : Option Rule) 
   pub whole : IsWholeStorm start count first text events
   pub printed : PrintsBytes end (storm_text text events) held now w w'
 
+-- a storm of so many events printed all of that, and what its run keeps is told
+pub record KeepsStorm (start count : ℕ) (first : Option Rule) (held now : Option (List ℕ)) (told : Option Kept) : Type 0 where
+  pub text : List ℕ
+  pub events : List Event
+  pub whole : IsWholeStorm start count first text events
+  pub printed : now ≡ with_end held (storm_text text events)
+  pub keeps : told ≡ Some (kept_of storm_head events)
+
 -- a storm came to a limit before it had so many events, and that was printed
 pub record PrintsReached (start count : ℕ) (first : Option Rule) (held now : Option (List ℕ)) (w w' : ℕ) : Type 0 where
   pub last : Option Rule
@@ -62,6 +69,7 @@ pub record PrintsReached (start count : ℕ) (first : Option Rule) (held now : O
 abbrev pub StormEnds : Ending → (start count : ℕ) → (first : Option Rule) → (held now : Option (List ℕ)) → (w w' : ℕ) → Type 0
 StormEnds Ending.Done start count first held now w w' = PrintsStorm Ending.Done start count first held now w w'
 StormEnds Ending.WriteFault start count first held now w w' = PrintsStorm Ending.WriteFault start count first held now w w'
+StormEnds Ending.KeepFault start count first held now w w' = now ≡ held
 StormEnds Ending.Memory start count first held now w w' = (now ≡ held) ⊎ PrintsStorm Ending.Memory start count first held now w w'
 StormEnds Ending.Limit start count first held now w w' = PrintsReached start count first held now w w'
 StormEnds other start count first held now w w' = ⊥

@@ -108,14 +108,14 @@ fn run_over(
     let mut clock = StdClock::new(rt.clone()?);
     let mut input = StdSource::new(rt.reader());
     let mut out = StdSink::new(io::writer(rt));
-    let status = run(
+    let ran = run(
         alloc, words, &mut input, &mut out, keeper, link, links, &mut clock, fates,
     );
     tell_taken(rt, link);
     for link in links.iter() {
         tell_taken(rt, link);
     }
-    Ok(status)
+    Ok(ran.status)
 }
 
 /// Says which port another program has, if the link could not have its own.

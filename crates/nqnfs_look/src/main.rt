@@ -11,8 +11,9 @@ ghost use Rattle.std.specs.Prelude.{◌<◌, ◌^◌, length};
 use crate::words::view_of;
 use nq_ending::Ending;
 use nq_io::{MemSink, MemSource, Put, Sink, Source, Whole, read_all};
+use nq_keeper::ListKeeper;
 use nq_observe::{NoMemory, Shown, View, look};
-use nq_replay::replay;
+use nq_replay::{read_script, replay};
 use nq_streams::{StdSink, StdSource};
 use std::alloc::Global;
 use std::io::ErrorKind;
@@ -75,7 +76,14 @@ fn show_text<K: Sink>(alloc: Global, text: &[u8], view: View, out: &mut K) -> Re
 fn tell_fault<K: Sink>(alloc: Global, text: &[u8], out: &mut K) -> Result<u8, NoMemory> {
     let mut source = MemSource::new(text.to_vec(alloc)?, Vec::new(alloc));
     let mut told = MemSink::new(alloc, FAULT_LINE, Vec::new(alloc))?;
-    match replay(alloc, &mut source, &mut told, MOST_BYTES) {
+    let end = match read_script(alloc, &mut source, &mut told, MOST_BYTES) {
+        Ok(script) => {
+            let keeper = ListKeeper::new(alloc, Vec::new(alloc))?;
+            replay(alloc, keeper, &script, &mut told).end
+        }
+        Err(end) => end,
+    };
+    match end {
         // A journal that does not fit is that of a schedule without a fault.
         Ending::Done | Ending::WriteFault => Ok(Ending::Done.status()),
         fault => Ok(put(out, told.bytes(), fault)),

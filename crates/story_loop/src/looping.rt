@@ -6,9 +6,10 @@ use nq_base::{Host, Party, Ticks};
 use nq_clock::{Clock, MemClock, StdClock};
 use nq_ending::Ending;
 use nq_io::{MemSink, MemSource};
+use nq_keeper::ListKeeper;
 use nq_link::{Link, MemLink, UdpLink};
 use nq_loop::run_loop;
-use nq_replay::replay;
+use nq_replay::{read_script, replay};
 use std::test::Fail;
 
 /// One host that begins its write, and a round in the second turn. Nothing comes back over links in memory.
@@ -54,7 +55,8 @@ fn a_host_alone_has_no_answer(rt: HostRuntime) -> Result<(), Fail> {
     let mut links = links_of(&rt, Vec::new(alloc))?;
     let mut clock = MemClock::new(vec![in alloc; Ticks(0), Ticks(1)]?);
     let mut out = MemSink::new(alloc, 1000, Vec::new(alloc))?;
-    let ended = run_loop(alloc, 1, 2, &mut links, &mut clock, &mut out);
+    let keeper = ListKeeper::new(alloc, Vec::new(alloc))?;
+    let ended = run_loop(alloc, keeper, 1, 2, &mut links, &mut clock, &mut out).end;
     assert!(rt; ended == Ending::Done);
     assert_eq!(rt; out.bytes(), ALONE.as_bytes());
     assert!(rt; has_sent(&links, 0, 0));
@@ -81,7 +83,11 @@ fn is_replayed(rt: &HostRuntime, text: &[u8], counts: &[u8]) -> Result<bool, Fai
     };
     let mut input = MemSource::new(schedule.to_vec(alloc)?, Vec::new(alloc));
     let mut out = MemSink::new(alloc, 1_000_000, Vec::new(alloc))?;
-    let ending = replay(alloc, &mut input, &mut out, 16_777_216);
+    let Ok(script) = read_script(alloc, &mut input, &mut out, 16_777_216) else {
+        return Ok(false);
+    };
+    let keeper = ListKeeper::new(alloc, Vec::new(alloc))?;
+    let ending = replay(alloc, keeper, &script, &mut out).end;
     Ok(ending.status() == 0 && behind.starts_with(out.bytes()) && behind.ends_with(counts))
 }
 
@@ -94,7 +100,8 @@ fn a_loop_over_udp_replays(rt: HostRuntime) -> Result<(), Fail> {
     links.push(UdpLink::new(rt.clone()?, Party::Client(Host(1))))?;
     let mut clock = StdClock::new(rt.clone()?);
     let mut out = MemSink::new(alloc, 1_000_000, Vec::new(alloc))?;
-    let ended = run_loop(alloc, 2, 2000, &mut links, &mut clock, &mut out);
+    let keeper = ListKeeper::new(alloc, Vec::new(alloc))?;
+    let ended = run_loop(alloc, keeper, 2, 2000, &mut links, &mut clock, &mut out).end;
     assert_eq!(rt; ended.status(), 0);
     assert!(rt; is_replayed(&rt, out.bytes(), b"\nend\nloop calls 6 answered 6\n")?);
     Ok(())

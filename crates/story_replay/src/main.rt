@@ -12,7 +12,8 @@ use crate::judging::judge;
 use anyhow::{Context, Result};
 use nq_ending::Ending;
 use nq_io::{MemSink, MemSource};
-use nq_replay::replay;
+use nq_keeper::ListKeeper;
+use nq_replay::{read_script, replay};
 use nq_staged::run_staged;
 use std::alloc::Global;
 use std::str;
@@ -44,18 +45,23 @@ fn play(rt: &HostRuntime, verb: &str, name: &str, lines: &str) -> Result<()> {
     let puts = failing(name.starts_with("unput"));
     let mut source = MemSource::new(schedule.as_bytes().to_vec(alloc)?, reads.to_vec(alloc)?);
     let mut sink = MemSink::new(alloc, ROOM, puts.to_vec(alloc)?)?;
-    let ending = run(alloc, verb, &mut source, &mut sink);
+    let ending = match verb {
+        "staged" => run_staged(alloc, &mut source, &mut sink, MOST_BYTES),
+        _ => run(alloc, &mut source, &mut sink)?,
+    };
     let printed = str::from_utf8(sink.bytes())?;
     println!(rt; "== {verb} {name}\n{printed}status {}", ending.status())?;
     Ok(())
 }
 
-/// Runs a schedule, which is staged behind its verb.
-fn run(alloc: Global, verb: &str, source: &mut MemSource, sink: &mut MemSink) -> Ending {
-    match verb {
-        "staged" => run_staged(alloc, source, sink, MOST_BYTES),
-        _ => replay(alloc, source, sink, MOST_BYTES),
-    }
+/// Replays a schedule over a keeper in memory.
+fn run(alloc: Global, source: &mut MemSource, sink: &mut MemSink) -> Result<Ending> {
+    let script = match read_script(alloc, source, sink, MOST_BYTES) {
+        Ok(script) => script,
+        Err(end) => return Ok(end),
+    };
+    let keeper = ListKeeper::new(alloc, Vec::new(alloc))?;
+    Ok(replay(alloc, keeper, &script, sink).end)
 }
 
 /// The numbers of the calls that fail: the first, or none.

@@ -1,7 +1,8 @@
 //! The schedule that a storm prints is replayed, and prints the storm's journal.
 
 use nq_io::{MemSink, MemSource};
-use nq_replay::replay;
+use nq_keeper::ListKeeper;
+use nq_replay::{read_script, replay};
 use nq_storm::run_storm;
 use nq_storm_rules::{Fate, LossyFate};
 use std::test::Fail;
@@ -18,7 +19,11 @@ fn end_of_first(text: &[u8]) -> Option<usize> {
 fn printed(rt: &HostRuntime, fate: &mut dyn Fate) -> Result<MemSink, Fail> {
     let alloc = rt.alloc();
     let mut out = MemSink::new(alloc, 4_000_000, Vec::new(alloc))?;
-    match run_storm(alloc, fate, 1, 1000, &mut out).status() {
+    let keeper = ListKeeper::new(alloc, Vec::new(alloc))?;
+    match run_storm(alloc, keeper, fate, 1, 1000, &mut out)
+        .end
+        .status()
+    {
         0 => Ok(out),
         _ => Err(Fail::new("the storm was not printed")),
     }
@@ -35,7 +40,11 @@ fn is_replayed(rt: &HostRuntime, text: &[u8]) -> Result<bool, Fail> {
     };
     let mut input = MemSource::new(schedule.to_vec(alloc)?, Vec::new(alloc));
     let mut out = MemSink::new(alloc, 4_000_000, Vec::new(alloc))?;
-    let ending = replay(alloc, &mut input, &mut out, 16_777_216);
+    let Ok(script) = read_script(alloc, &mut input, &mut out, 16_777_216) else {
+        return Ok(false);
+    };
+    let keeper = ListKeeper::new(alloc, Vec::new(alloc))?;
+    let ending = replay(alloc, keeper, &script, &mut out).end;
     Ok(ending.status() == 0 && behind.starts_with(out.bytes()))
 }
 

@@ -1,6 +1,7 @@
 //! All that a storm prints, beside the SHA-256 of what another program prints for it.
 
 use nq_io::MemSink;
+use nq_keeper::ListKeeper;
 use nq_storm::run_storm;
 use nq_storm_rules::{CutFate, Fate, HostileFate, LossyFate, SteadyFate};
 use sha2::{Digest, Sha256};
@@ -16,7 +17,8 @@ fn has_sum(
 ) -> Result<bool, Fail> {
     let alloc = rt.alloc();
     let mut out = MemSink::new(alloc, 4_000_000, Vec::new(alloc))?;
-    let ending = run_storm(alloc, fate, start, events, &mut out);
+    let keeper = ListKeeper::new(alloc, Vec::new(alloc))?;
+    let ending = run_storm(alloc, keeper, fate, start, events, &mut out).end;
     let found = hex::encode(alloc, Sha256::digest(out.bytes()).as_slice())?;
     Ok(ending.status() == 0 && found.as_str() == sum)
 }

@@ -16,4 +16,7 @@ pub returns-in-Link : goal.returns-in-Link
 returns-in-Link g c = inr (inl (refl, c.in-Link.is, refl, refl))
 
 pub returns-in-Memory : goal.returns-in-Memory
-returns-in-Memory g c = inr (inr (inr (refl, rw c.in-Memory.is tt, refl)))
+returns-in-Memory g c = inr (inr (inr (inr (refl, rw c.in-Memory.is tt, refl))))
+
+pub returns-in-Keep : goal.returns-in-Keep
+returns-in-Keep g c = inr (inr (inl (refl, c.in-Keep.is, refl, refl)))

@@ -1,6 +1,6 @@
 use Rattle.std.proofs.Common.{◌∙◌}
 use Rattle.nq_journal.specs.Text.{journal_text}
-use Rattle.nq_replay.proofs.Joining.{all_put, last_cut, rose_at_last, second_cut}
+use Rattle.nq_replay.proofs.Joining.{last_cut, rose_at_last, second_cut}
 use Rattle.nq_replay.proofs.parts.print_parts.Goals as goal
 
 pub returns-in-Failed-print : goal.returns-in-Failed-print

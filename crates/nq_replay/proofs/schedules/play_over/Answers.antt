@@ -1,7 +1,6 @@
 use Rattle.std.proofs.Common.{refl, arith}
 use Rattle.nq_play.specs.Playing.{beginning, play}
 use Rattle.nq_replay.proofs.Heads.{are_for_world, few_lines}
-use Rattle.nq_replay.proofs.Never.{reasoned}
 use Rattle.nq_replay.proofs.schedules.play_over.Goals as goal
 
 pub play-requires : goal.play-requires
@@ -15,5 +14,7 @@ pub returns : goal.returns
 unfolding play
 returns g c = record {
   comes = λ plays. rw (← c.requires.ready.first) (c.play.ensures.comes (beginning c.args.script.now.head) refl plays);
-  reason = reasoned c.play.result _ _ (c.requires.never _ (g.met.L.Keeper.follows_itself c.args.world.now.server.keeper)) (c.requires.never _ c.play.ensures.follows) c.play.ensures.faults c.play.ensures.stops;
+  stops = c.play.ensures.stops;
+  counts = c.play.ensures.faults;
+  follows = c.play.ensures.follows;
 }

@@ -1,0 +1,20 @@
+//! Words that say nothing that can be run.
+
+ghost use Rattle.std.specs.Prelude.{◌≡◌};
+ghost use Rattle.nq_ending.specs.Status.{status_of};
+ghost use Rattle.nq_ending.specs.declared.Ending.{Ending};
+ghost use Rattle.nq_replay.specs.Lines.{PrintsLine, usage_line};
+
+use nq_ending::Ending;
+use nq_io::Sink;
+use nq_replay::put_line;
+
+/// Prints that nothing can be run; the status.
+#[tactic(auto, unfolding(nq_replay::specs::Lines::usage_line))]
+pub(crate) fn usage<K: Sink>(out: &mut K) -> u8
+    ensures usage { result ≡ status_of Ending.Usage }
+    ensures printed { PrintsLine usage_line (K.held out.old) (K.held out.new) (K.faults out.old) (K.faults out.new) }
+{
+    put_line(out, b"usage\n");
+    Ending::Usage.status()
+}
