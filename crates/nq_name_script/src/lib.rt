@@ -1,0 +1,11 @@
+//! The text of schedules in which hosts list directories and find names: that of a schedule of version 2, in which lines
+//! `list H PREFIX` and `find H NAME` may stand where lines `flow` may.
+//!
+//! What such a text is stands in `specs/Text`.
+#![tactic(auto)]
+
+mod lines;
+mod scripts;
+
+pub use lines::{parse_find, parse_list};
+pub use scripts::{Aside, NamesScript, VERSION, read_script};
