@@ -14,8 +14,6 @@ pub enum Command {
     Check,
     /// Reads a staged schedule, and prints the inner schedule that was run, its journal and counts.
     Staged,
-    /// Makes the image of a server that keeps nothing.
-    Format,
     /// Runs events that a fate chooses.
     Storm {
         /// The kind of the fate: 0 steady, 1 lossy, 2 cut, 3 hostile.
@@ -68,8 +66,6 @@ pub(crate) fn alone(name: &[u8]) -> Option<Command>
         Some(Command::Check)
     } else if name == b"staged".as_slice() {
         Some(Command::Staged)
-    } else if name == b"format".as_slice() {
-        Some(Command::Format)
     } else {
         None
     }
