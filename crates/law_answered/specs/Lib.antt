@@ -1,1 +1,4 @@
 pub mod StoredOnceAnswered
+pub mod PutOff
+pub mod LooksAreAnswered
+pub mod Met
