@@ -8,3 +8,4 @@ pub mod LookTickets
 pub mod LookReplies
 pub mod LookRounds
 pub mod SomeAnswers
+pub mod HeardNotices

@@ -4,6 +4,7 @@
 
 ghost use Rattle.law_answered.specs.LooksAreAnswered.{LooksAreAnswered};
 ghost use Rattle.law_answered.specs.Met.{AnswersAreMet};
+ghost use Rattle.law_answered.specs.NoticesAreHeard.{NoticesAreHeard};
 ghost use Rattle.law_answered.specs.PutOff.{PutOffForRows};
 ghost use Rattle.law_answered.specs.StoredOnceAnswered.{StoredOnceAnswered, SyncsAnsweredOnce};
 
@@ -23,6 +24,12 @@ pub fn syncs_answered_once()
 /// row, which is to go; and whoever holds such a row is told first, in the same step.
 pub fn put_off_for_rows()
     ensures { PutOffForRows }
+{}
+
+/// In every run, while the server serves: a client does not ignore a notice that names its row of a file with its latest tag, where it holds no
+/// lease on the file, or one that lets it cache and runs.
+pub fn notices_are_heard()
+    ensures { NoticesAreHeard }
 {}
 
 /// In every run, whatever is under way: no `lookup` and no `attr` is open after as many calm rounds as the longest term of all boots and 11
