@@ -3,3 +3,9 @@ pub mod Calling
 pub mod Hosts
 pub mod EndRounds
 pub mod Syncs
+pub mod PutOffs
+pub mod LookTickets
+pub mod LookReplies
+pub mod LookRounds
+pub mod SomeAnswers
+pub mod HeardNotices

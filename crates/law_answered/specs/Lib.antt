@@ -1,1 +1,5 @@
 pub mod StoredOnceAnswered
+pub mod PutOff
+pub mod LooksAreAnswered
+pub mod Met
+pub mod NoticesAreHeard
