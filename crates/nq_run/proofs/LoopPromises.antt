@@ -1,18 +1,18 @@
 -- What the command of loops promises.
-use Rattle.std.proofs.Common.{◌≡◌, ◌⊎◌, ℕ, List, Option, Some, inl, inr, refl, subst}
+use Rattle.std.proofs.Common.{◌≡◌, ℕ, List, Option, Some, subst}
 use Rattle.nq_command.specs.declared.Command.{Command}
 use Rattle.nq_ending.proofs.Ends.{one_end}
 use Rattle.nq_ending.specs.Status.{status_of}
 use Rattle.nq_ending.specs.declared.Ending.{Ending}
 use Rattle.nq_loop.proofs.Faults.{loops-unless}
-use Rattle.nq_loop.specs.Looped.{KeepsLoop, LoopEnds, LoopsUnlessFault}
+use Rattle.nq_loop.specs.Looped.{KeepsLoop, LoopEnds}
 use Rattle.nq_loop.specs.Whole.{loop_head}
 use Rattle.nq_model.specs.Kept.{Kept}
 use Rattle.nq_node.specs.Clocks.{ClockTold}
 use Rattle.nq_node.specs.Links.{LinkTold}
 use Rattle.nq_replay.specs.Ending.{CountsKeeper}
 use Rattle.nq_run.proofs.Promises.{faultless, holds_throughout}
-use Rattle.nq_run.specs.Looping.{EndsUnlessFault, LoopsFor, LoopsLawfully}
+use Rattle.nq_run.specs.Looping.{LoopsFor, LoopsLawfully}
 
 done_looped : (hosts turns : ℕ) (clock clock' : ClockTold) (links links' : List LinkTold) (held now : Option (List ℕ)) (kept : Option Kept) → KeepsLoop hosts turns clock clock' links links' held now kept
     → LoopsLawfully hosts turns clock clock' links links' held now kept

@@ -1,5 +1,5 @@
 -- What the commands of replays and of judgements promise.
-use Rattle.std.proofs.Common.{◌≡◌, ◌<◌, ◌≤◌, ℕ, List, Option, Some, Result, Ok, Err, length, subst}
+use Rattle.std.proofs.Common.{◌≡◌, ◌<◌, ◌≤◌, ℕ, List, Option, Some, Err, length, subst}
 use Rattle.nq_ending.proofs.Ends.{one_end}
 use Rattle.nq_ending.specs.Status.{status_of}
 use Rattle.nq_ending.specs.declared.Ending.{Ending}

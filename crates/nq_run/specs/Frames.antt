@@ -1,5 +1,5 @@
 -- What each command uses. All else that `run` is handed stays as it was.
-use Rattle.std.specs.Prelude.{Bool, true, false, Option, Some, None}
+use Rattle.std.specs.Prelude.{Bool, true, false, Option, Some}
 use Rattle.nq_command.specs.declared.Command.{Command}
 
 -- a replay, a judgement and a client read the input

@@ -1,5 +1,5 @@
 -- How often a fate is asked.
-use Rattle.std.proofs.Common.{List, Option, ◌≡◌, ℕ, ◌+◌, ◌<◌, ◌≤◌, refl, subst, ◌∙◌, ap, sym, arith, add-one, inl, inr}
+use Rattle.std.proofs.Common.{List, Option, ◌≡◌, ℕ, ◌+◌, ◌<◌, refl, ◌∙◌, ap, sym, arith, add-one, inl, inr}
 use Rattle.nq_ending.specs.declared.Ending.{Ending}
 use Rattle.nq_io.specs.Faults.{count_up}
 use Rattle.nq_replay.specs.Schedules.{TellsStop}

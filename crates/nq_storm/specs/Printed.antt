@@ -4,8 +4,6 @@ use Rattle.std.specs.List.{count_by}
 use Rattle.std.specs.Prelude.{◌≡◌, ◌⊎◌, ℕ, ◌<◌, List, ◌++◌, length, map, reverse, Option, Some}
 use Rattle.nq_base.specs.declared.Event.{Event}
 use Rattle.nq_ending.specs.declared.Ending.{Ending}
-use Rattle.nq_io.specs.Faults.{Rose}
-use Rattle.nq_io.specs.Sink.{AppendsFront}
 use Rattle.nq_io.specs.Told.{with_end}
 use Rattle.nq_model.specs.Kept.{Kept}
 use Rattle.nq_model.specs.World.{run}

@@ -1,4 +1,4 @@
-use Rattle.std.proofs.Common.{◌≡◌, ◌∙◌, List, ap, length, map, reverse}
+use Rattle.std.proofs.Common.{◌≡◌, ◌∙◌, ap, length, map, reverse}
 use Rattle.std.specs.List.{count_by}
 use Rattle.nq_base.specs.Plain.{plain}
 use Rattle.nq_play.proofs.Steps.{as-many}

@@ -1,4 +1,3 @@
-use Rattle.nq_replay.proofs.Overs.{stop_counts, stop_never}
 use Rattle.nq_storm.proofs.Asking.{asks_all, asks_few}
 use Rattle.nq_storm.proofs.Telling.{counts_printed, keeps_storm, prints_storm}
 use Rattle.nq_storm.proofs.running.tell.Goals as goal
