@@ -4,6 +4,7 @@
 //! with `unread` the first read fails, with `unput` the first put, with `unkept` the first call of the keeper, and with `unsent` the first
 //! call of each link. In one that begins with `attached` the server's reply waits that attaches host 0 in its incarnation 1, and in one that
 //! begins with `spent` the keeper keeps the last number that a boot can have. In one that begins with `long` the input is doubled 24 times.
+//! In one that begins with `late` the clock shows 100,000 from its second reading on, and each link has room for 40,000 datagrams.
 #![tactic(auto)]
 
 mod parts;

@@ -1,10 +1,9 @@
 //! What words do in a scene.
 
-use crate::parts::{doubled, failing, keeper_of, link_of, links_of, text_of};
+use crate::parts::{clock_of, doubled, failing, keeper_of, link_of, links_of, text_of};
 use crate::top::status_of;
 use anyhow::Result;
-use nq_base::{Host, Party, Ticks};
-use nq_clock::MemClock;
+use nq_base::{Host, Party};
 use nq_io::{MemSink, MemSource};
 use nq_run::Words;
 use std::alloc::Global;
@@ -40,10 +39,10 @@ pub(crate) fn play(alloc: Global, scene: &str, said: &str, input: &str) -> Resul
     let words = words_of(alloc, said)?;
     let mut source = source_of(alloc, scene, input)?;
     let mut out = sink_of(alloc, scene)?;
-    let keeper = keeper_of(alloc, scene)?;
+    let keeper = keeper_of(alloc, scene, &words)?;
     let mut link = link_of(alloc, scene, Party::Client(Host(0)))?;
     let mut links = links_of(alloc, scene, &words)?;
-    let mut clock = MemClock::new(vec![in alloc; Ticks(0), Ticks(1)]?);
+    let mut clock = clock_of(alloc, scene)?;
     let status = status_of(
         alloc,
         &words,

@@ -1,8 +1,10 @@
 //! The top call, over anything.
 
-ghost use Rattle.std.specs.Prelude.{◌≡◌, ◌+◌, ℕ, Some, length};
+ghost use Rattle.std.specs.Prelude.{◌≡◌, ◌+◌, ℕ, Some, true, length};
 ghost use Rattle.nq_command.specs.Commands.{command_of};
 ghost use Rattle.nq_command.specs.declared.Command.{Command};
+ghost use Rattle.nq_keeper.specs.StoredKeeper.{empty_kept};
+ghost use Rattle.nq_run.specs.Frames.{makes_a_run};
 
 use nq_clock::Clock;
 use nq_io::{Sink, Source};
@@ -22,12 +24,13 @@ pub(crate) fn status_of<S: Source, K: Sink, P: Keeper + Drop, L: Link, C: Clock>
     links: &mut [L],
     clock: &mut C,
 ) -> Result<u8, NoMemory>
+    requires empty { makes_a_run (command_of words.now) ≡ true → P.content keeper ≡ Some empty_kept }
     requires links { (hosts turns : ℕ) → command_of words.now ≡ Some (Command.Loop hosts turns) → length links.old ≡ hosts + 1 }
 {
     let mut fates: Vec<Box<dyn Fate>> = Vec::new(alloc);
     fates.push(Box::new(alloc, SteadyFate::new())?)?;
     fates.push(Box::new(alloc, HostileFate::new())?)?;
-    Ok(run(
+    let ran = run(
         alloc,
         words,
         input,
@@ -37,5 +40,6 @@ pub(crate) fn status_of<S: Source, K: Sink, P: Keeper + Drop, L: Link, C: Clock>
         links,
         clock,
         fates.as_mut_slice(),
-    ))
+    );
+    Ok(ran.status)
 }
