@@ -4,7 +4,7 @@ use Rattle.std.specs.Option.{ForSome}
 use Rattle.nq_base.specs.Entries.{EntryList}
 use Rattle.nq_boot.specs.Booting.{LeavesThen}
 use Rattle.nq_daemon.specs.Leaving.{AreInOrder, IsLeftInGoes, IsLeftInTurns, IsLeftTaking, LeavesRunning, LeavesRuns, LeavesTaking, LeavesTurns}
-use Rattle.nq_daemon.specs.Turning.{Goes, Standing, TakesTurn, borne, standing, with_log}
+use Rattle.nq_daemon.specs.Turning.{Goes, Standing, borne, standing}
 use Rattle.nq_daemon.proofs.Telling.{goes_tells}
 use Rattle.nq_ending.specs.declared.Halt.{Halt}
 use Rattle.nq_hosts.specs.Leaving.{IsBeforeEnd, IsLeftByBoot}

@@ -2,7 +2,7 @@
 -- of faults, `follows` says that a keeper is another one after some of its calls, and `leaves` what a stop between two moments of it may leave.
 use Rattle.std.proofs.Common.{inl, inr}
 use Rattle.std.specs.Option.{ForSome}
-use Rattle.std.specs.Prelude.{◌≡◌, ◌⊎◌, ℕ, zero, suc, Option, Result, Ok, Err, ⊤}
+use Rattle.std.specs.Prelude.{◌⊎◌, ℕ, zero, suc, Option, Result, Ok, Err, ⊤}
 use Rattle.nq_daemon.specs.Serving.{Ran, Runs, Serves}
 use Rattle.nq_daemon.specs.Turning.{Goes, Standing, TakesTurn, TakesTurns, standing, with_log}
 use Rattle.nq_ending.specs.declared.Halt.{Halt}

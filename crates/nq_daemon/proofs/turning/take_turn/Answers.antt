@@ -1,4 +1,4 @@
-use Rattle.std.proofs.Common.{[], IfOk, subst}
+use Rattle.std.proofs.Common.{◌≡◌, [], IfOk, subst}
 use Rattle.nq_daemon.proofs.Leaves.{taking}
 use Rattle.nq_daemon.specs.Turning.{standing}
 use Rattle.nq_node.specs.Clocks.{clock_told}
