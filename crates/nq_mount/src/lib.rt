@@ -5,4 +5,4 @@ mod opening;
 mod survey;
 
 pub use opening::open_or_make;
-pub use survey::{Survey, survey};
+pub use survey::{Survey, surveyed};

@@ -17,7 +17,7 @@ pub struct Survey {
 /// # Errors
 ///
 /// Those of the keeper.
-pub fn survey<K: Keeper>(keeper: &mut K) -> Result<Survey, KeepFault> {
+pub fn surveyed<K: Keeper>(keeper: &mut K) -> Result<Survey, KeepFault> {
     Ok(Survey {
         heads: keeper.heads()?,
         space: keeper.space()?,

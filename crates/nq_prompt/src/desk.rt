@@ -34,7 +34,7 @@ pub struct Desk<L, C> {
     clock: C,
 }
 
-impl<L: Link, C: Clock> Desk<L, C> {
+impl<L: Link + Drop, C: Clock + Drop> Desk<L, C> {
     /// A client that begins an incarnation and is attached.
     ///
     /// # Errors

@@ -54,7 +54,7 @@ impl From<NoMemory> for FileFault {
 /// # Errors
 ///
 /// Then the file, if there is one, has nothing that can be got whole, or what it had before.
-pub fn put_file<L: Link, C: Clock>(
+pub fn put_file<L: Link + Drop, C: Clock + Drop>(
     alloc: Global,
     desk: &mut Desk<L, C>,
     name: Name,
@@ -77,14 +77,14 @@ pub fn put_file<L: Link, C: Clock>(
 }
 
 /// The file of this name with so many blocks; it is made where there is none.
-fn make<L: Link, C: Clock>(
+fn make<L: Link + Drop, C: Clock + Drop>(
     alloc: Global,
     desk: &mut Desk<L, C>,
     name: Name,
     blocks: u32,
 ) -> Result<FileId, FileFault> {
     match desk.ask(alloc, &Call::Create { name, blocks })? {
-        Answer::Ok(Value::File(file)) => Ok(file),
+        Answer::Ok(value) => file_in(value),
         Answer::Exists => {
             let file = look_up(alloc, desk, name)?;
             done(desk.ask(alloc, &Call::Resize { file, blocks })?)?;
@@ -95,14 +95,30 @@ fn make<L: Link, C: Clock>(
 }
 
 /// The file of this name.
-fn look_up<L: Link, C: Clock>(
+fn look_up<L: Link + Drop, C: Clock + Drop>(
     alloc: Global,
     desk: &mut Desk<L, C>,
     name: Name,
 ) -> Result<FileId, FileFault> {
     match desk.ask(alloc, &Call::Lookup { name })? {
-        Answer::Ok(Value::File(file)) => Ok(file),
+        Answer::Ok(value) => file_in(value),
         answer => Err(FileFault::Answered(answer)),
+    }
+}
+
+/// The file that an answer brings.
+fn file_in(value: Value) -> Result<FileId, FileFault> {
+    match file_of(&value) {
+        Some(file) => Ok(file),
+        None => Err(FileFault::Answered(Answer::Ok(value))),
+    }
+}
+
+/// The file that an answer brings, if it brings one.
+fn file_of(value: &Value) -> Option<FileId> {
+    match value {
+        Value::File(file) => Some(*file),
+        _ => None,
     }
 }
 
@@ -115,7 +131,7 @@ fn done(answer: Answer) -> Result<(), FileFault> {
 }
 
 /// Writes these bytes, at most those of a block, as a block of a file.
-fn write_block<L: Link, C: Clock>(
+fn write_block<L: Link + Drop, C: Clock + Drop>(
     alloc: Global,
     desk: &mut Desk<L, C>,
     file: FileId,
@@ -133,7 +149,7 @@ fn write_block<L: Link, C: Clock>(
 }
 
 /// Writes these bytes as the blocks of a file behind the first.
-fn write_all<L: Link, C: Clock>(
+fn write_all<L: Link + Drop, C: Clock + Drop>(
     alloc: Global,
     desk: &mut Desk<L, C>,
     file: FileId,
@@ -148,7 +164,7 @@ fn write_all<L: Link, C: Clock>(
 }
 
 /// Stores the delayed writes of a file.
-fn sync<L: Link, C: Clock>(
+fn sync<L: Link + Drop, C: Clock + Drop>(
     alloc: Global,
     desk: &mut Desk<L, C>,
     file: FileId,
@@ -157,7 +173,7 @@ fn sync<L: Link, C: Clock>(
 }
 
 /// Reads a block from the server, and appends its bytes.
-fn read_block<L: Link, C: Clock>(
+fn read_block<L: Link + Drop, C: Clock + Drop>(
     alloc: Global,
     desk: &mut Desk<L, C>,
     file: FileId,
@@ -181,7 +197,7 @@ fn read_block<L: Link, C: Clock>(
 }
 
 /// Reads the blocks of a file behind the first again, and compares them with these bytes.
-fn compare<L: Link, C: Clock>(
+fn compare<L: Link + Drop, C: Clock + Drop>(
     alloc: Global,
     desk: &mut Desk<L, C>,
     file: FileId,
@@ -200,7 +216,7 @@ fn compare<L: Link, C: Clock>(
 }
 
 /// The bytes of the file of this name, which was put as a whole file. Each block is read from the server.
-pub fn get_file<L: Link, C: Clock>(
+pub fn get_file<L: Link + Drop, C: Clock + Drop>(
     alloc: Global,
     desk: &mut Desk<L, C>,
     name: Name,
@@ -212,8 +228,10 @@ pub fn get_file<L: Link, C: Clock>(
         return Err(FileFault::NotWhole);
     };
     let mut bytes = Vec::with_capacity(alloc, length.saturating_add(Block::SIZE))?;
-    for place in 1..=length.div_ceil(Block::SIZE) {
-        read_block(alloc, desk, file, place as u32, &mut bytes)?;
+    let mut place = 1u32;
+    for _block in 0..length.div_ceil(Block::SIZE) {
+        read_block(alloc, desk, file, place, &mut bytes)?;
+        place = place.saturating_add(1);
     }
     bytes.truncate(length);
     Ok(bytes)

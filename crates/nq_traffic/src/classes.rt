@@ -47,7 +47,7 @@ fn word_at(bytes: &[u8], place: usize) -> Option<u32> {
 }
 
 /// What kind of message came.
-pub(crate) fn heard(bytes: &[u8]) -> Heard {
+pub(crate) fn class_heard(bytes: &[u8]) -> Heard {
     match (word_at(bytes, 4), word_at(bytes, 12), word_at(bytes, 20)) {
         (Some(0), Some(PROGRAM), Some(procedure)) => Heard::Call(procedure),
         _ => Heard::Strange,
@@ -55,7 +55,7 @@ pub(crate) fn heard(bytes: &[u8]) -> Heard {
 }
 
 /// What kind of message was sent.
-pub(crate) fn said(bytes: &[u8]) -> Said {
+pub(crate) fn class_said(bytes: &[u8]) -> Said {
     if word_at(bytes, 4) == Some(0) {
         return Said::Notice;
     }

@@ -4,7 +4,7 @@ ghost use Rattle.std.specs.Prelude.{◌≡◌};
 ghost use Rattle.nq_io.specs.Faults.{count_up};
 ghost use Rattle.nq_link.specs.Link.{Comes, CountsReceive, CountsSend, Sends};
 
-use crate::classes::{heard, said};
+use crate::classes::{class_heard, class_said};
 use crate::counts::Counts;
 use nq_link::{Came, Link, Party, Sent};
 use std::marker::Model;
@@ -51,7 +51,7 @@ impl<L: Link> Link for CountedLink<L> {
     fn send(&mut self, to: Party, bytes: &[u8]) -> Sent {
         let sent = self.link.send(to, bytes);
         match sent {
-            Sent::All => self.counts.say(said(bytes)),
+            Sent::All => self.counts.say(class_said(bytes)),
             Sent::Failed => self.counts.lose(),
         }
         sent
@@ -60,7 +60,7 @@ impl<L: Link> Link for CountedLink<L> {
     fn receive(&mut self, into: &mut [u8]) -> Came {
         let came = self.link.receive(into);
         if let Came::Datagram { length, sender: _ } = came {
-            self.counts.hear(heard(&into[..length]));
+            self.counts.hear(class_heard(&into[..length]));
         }
         came
     }

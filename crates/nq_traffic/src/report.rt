@@ -45,6 +45,20 @@ impl<S> Report<S> {
     }
 }
 
+impl<S> Report<S> {
+    /// The sink.
+    pub fn into_out(self) -> S {
+        let Report {
+            alloc: _,
+            out,
+            every: _,
+            last: _,
+            told: _,
+        } = self;
+        out
+    }
+}
+
 impl Told {
     /// Counts an entry.
     fn note(&mut self, entry: &Entry) {

@@ -80,12 +80,16 @@ fn be_host(rt: &HostRuntime, host: Host) -> Result<Ending, AllocError> {
     let mut link = UdpLink::new(rt.clone()?, Party::Client(host));
     if link.receive(&mut [0]) == Came::Failed {
         let number = host.0;
-        let _told = eprintln!(rt; "nqnfs_user: the port of host {number} is taken or cannot be bound");
+        let _told = eprintln!(rt;
+            "nqnfs_user: the port of host {number} is taken or cannot be bound"
+        );
         return Ok(Ending::LinkFault);
     }
     let Ok(inc) = next_start(rt, host) else {
         let number = host.0;
-        let _told = eprintln!(rt; "nqnfs_user: the file nqnfs-host-{number} cannot be read or written, or holds no number");
+        let _told = eprintln!(rt;
+            "nqnfs_user: the file nqnfs-host-{number} cannot be read or written, or holds no number"
+        );
         return Ok(Ending::KeepFault);
     };
     let terms = Terms {

@@ -12,7 +12,8 @@ use std::io::{self, BufRead, BufReader, ErrorKind, Write};
 /// The client of this machine.
 pub(crate) type UserDesk = Desk<UdpLink<HostRuntime>, StdClock<HostRuntime>>;
 
-const HELP: &str = "create NAME BLOCKS   make a file            lookup NAME         the number of a file
+const HELP: &str =
+    "create NAME BLOCKS   make a file            lookup NAME         the number of a file
 attr F               how long a file is     resize F BLOCKS     another length
 read F B             read a block           fetch F B           read it from the server
 write F B VALUE      write a block          put F B VALUE       write it through

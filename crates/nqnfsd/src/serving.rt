@@ -8,7 +8,7 @@ use nq_daemon::{MOST_TURNS, Served, keep_serving};
 use nq_disk::FileDisk;
 use nq_ending::{Ending, Halt};
 use nq_link::{Came, Link, UdpLink};
-use nq_mount::{Survey, open_or_make, survey};
+use nq_mount::{Survey, open_or_make, surveyed};
 use nq_store::{OpenFault, Store};
 use nq_streams::StdSink;
 use nq_traffic::{CountedLink, Report};
@@ -96,7 +96,7 @@ fn serve_store(
     requires short { longest ≤ 600 }
 {
     let mut store = store;
-    if let Ok(found) = survey(&mut store) {
+    if let Ok(found) = surveyed(&mut store) {
         tell_start(rt, image, &found);
     }
     let mut link = CountedLink::new(link);
