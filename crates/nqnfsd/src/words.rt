@@ -55,8 +55,8 @@ fn options_of(words: &[String]) -> Option<Options> {
         };
         let value = words.get(place.saturating_add(1));
         match word.as_str() {
-            "--longest" => options.longest = number_of(value, 5, 600)? as u32,
-            "--every" => options.every = Some(number_of(value, 1, 1_000_000)?),
+            "--longest" => options.longest = number_of(value, 5, 600)?,
+            "--every" => options.every = Some(u64::from(number_of(value, 1, 1_000_000)?)),
             name if options.image.is_none() && !name.starts_with("-") => {
                 options.image = Some(place);
                 place = place.saturating_add(1);
@@ -70,12 +70,10 @@ fn options_of(words: &[String]) -> Option<Options> {
 }
 
 /// The number that a word writes, if it is within these bounds.
-fn number_of(word: Option<&String>, least: u64, most: u64) -> Option<u64> {
-    match word {
-        Some(word) => match number(word.as_str().as_bytes(), most) {
-            Some(value) if value >= least => Some(value),
-            _ => None,
-        },
-        None => None,
+fn number_of(word: Option<&String>, least: u32, most: u32) -> Option<u32> {
+    let value = number(word?.as_str().as_bytes(), u64::from(most))?;
+    match u32::try_from(value) {
+        Ok(value) if value >= least => Some(value),
+        _ => None,
     }
 }
