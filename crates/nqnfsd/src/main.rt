@@ -1,0 +1,93 @@
+//! The program `nqnfsd`: a server to leave running. It serves real hosts over UDP on this machine, over an image in a file, until it is
+//! killed, which is safe at any moment. Where there is no image it makes one.
+#![tactic(auto)]
+
+mod serving;
+mod words;
+
+ghost use Rattle.std.specs.Prelude.{◌≤◌};
+
+use crate::serving::serve_image;
+use crate::words::{Options, Order, order_of};
+use nq_ending::Ending;
+use std::alloc::AllocError;
+use std::env;
+use std::io::ErrorKind;
+use std::process::ExitCode;
+
+// The image where the words name none.
+const IMAGE: &str = "nqnfs.img";
+
+// What `--version` says.
+const VERSION: &str = "nqnfsd 1";
+
+const HELP: &str = "nqnfsd [IMAGE] [--longest N] [--every S]
+
+Serves hosts on this machine over UDP, port 20560 of 127.0.0.1, until it is killed.
+
+IMAGE        the file with all that is kept; nqnfs.img where it is not said.
+             A file that is not there, or is empty, becomes an empty image.
+--longest N  the longest lease in seconds, 5 to 600; 60 where it is not said
+--every S    prints a line of counts every S seconds
+--help       prints this
+--version    prints the version
+";
+
+fn main(rt: HostRuntime) -> ExitCode {
+    match obey(&rt) {
+        Ok(ending) => ExitCode::from(ending.status()),
+        Err(_) => ExitCode::from(Ending::Memory.status()),
+    }
+}
+
+/// Does what the words say; how that ends.
+fn obey(rt: &HostRuntime) -> Result<Ending, AllocError> {
+    let words = words_of(rt)?;
+    match order_of(words.as_slice()) {
+        Order::Help => Ok(say(rt, HELP)),
+        Order::Version => {
+            let _told = println!(rt; "{VERSION}");
+            Ok(Ending::Done)
+        }
+        Order::Usage => {
+            let _told = eprintln!(rt; "usage: nqnfsd [IMAGE] [--longest N] [--every S]");
+            Ok(Ending::Usage)
+        }
+        Order::Serve(options) => serve(rt, words.as_slice(), options),
+    }
+}
+
+/// Prints a text.
+fn say(rt: &HostRuntime, text: &str) -> Ending {
+    match print!(rt; "{text}") {
+        Ok(()) => Ending::Done,
+        Err(_) => Ending::WriteFault,
+    }
+}
+
+/// Serves over the image that the words name.
+fn serve(rt: &HostRuntime, words: &[String], options: Options) -> Result<Ending, AllocError> {
+    let image = match options.image {
+        Some(place) => match words.get(place) {
+            Some(word) => word.as_str(),
+            None => IMAGE,
+        },
+        None => IMAGE,
+    };
+    serve_image(rt, image, options.longest.clamp(5, 600), options.every)
+}
+
+/// The words behind the program's name.
+fn words_of(rt: &HostRuntime) -> Result<Vec<String>, AllocError> {
+    let mut words = Vec::new(rt.alloc());
+    match env::args(rt) {
+        Ok(args) => {
+            for word in args.skip(1) {
+                words.push(word)?;
+            }
+            Ok(words)
+        }
+        Err(error) if error.kind() == ErrorKind::OutOfMemory => Err(AllocError),
+        Err(_) => Ok(words),
+    }
+}

@@ -1,0 +1,149 @@
+//! Serving over an image.
+
+ghost use Rattle.std.specs.Prelude.{◌≤◌};
+
+use nq_base::Party;
+use nq_clock::StdClock;
+use nq_daemon::{MOST_TURNS, Served, keep_serving};
+use nq_disk::FileDisk;
+use nq_ending::{Ending, Halt};
+use nq_link::{Came, Link, UdpLink};
+use nq_mount::{Survey, open_or_make, surveyed};
+use nq_store::{OpenFault, Store};
+use nq_streams::StdSink;
+use nq_traffic::{CountedLink, Report};
+use std::alloc::AllocError;
+use std::io;
+
+// The port of the server.
+const PORT: u16 = 20560;
+
+// By how many seconds a recovery is longer than the longest term of the boot before it: the skew and the write slack.
+const BEYOND: u32 = 8;
+
+/// Serves over the image in this file until something stops it; how that ends.
+pub(crate) fn serve_image(
+    rt: &HostRuntime,
+    image: &str,
+    longest: u32,
+    every: Option<u64>,
+) -> Result<Ending, AllocError>
+    requires long { 5 ≤ longest }
+    requires short { longest ≤ 600 }
+{
+    let mut link = UdpLink::new(rt.clone()?, Party::Server);
+    if !is_bound(rt, &mut link) {
+        return Ok(Ending::LinkFault);
+    }
+    let Ok(disk) = FileDisk::new(rt.alloc(), rt.clone()?, image) else {
+        return Err(AllocError);
+    };
+    match open_or_make(rt.alloc(), disk) {
+        Ok(store) => serve_store(rt, image, store, link, longest, every),
+        Err(fault) => tell_fault(rt, image, fault),
+    }
+}
+
+/// Binds the server's socket, and says why not where it cannot. A datagram that comes at that very moment is lost.
+fn is_bound(rt: &HostRuntime, link: &mut UdpLink<HostRuntime>) -> bool {
+    match link.receive(&mut [0]) {
+        Came::Datagram { .. } | Came::Nothing => true,
+        Came::Failed => {
+            let _told = match link.taken_port() {
+                Some(port) => eprintln!(rt; "nqnfsd: the port {port} is taken"),
+                None => eprintln!(rt; "nqnfsd: the port {PORT} of 127.0.0.1 cannot be bound"),
+            };
+            false
+        }
+    }
+}
+
+/// Says why an image was not opened.
+fn tell_fault(
+    rt: &HostRuntime,
+    image: &str,
+    fault: OpenFault<FileDisk>,
+) -> Result<Ending, AllocError> {
+    match fault {
+        OpenFault::NotAnImage(_) => {
+            let _told = eprintln!(rt; "nqnfsd: {image}: the file is no image");
+            Ok(Ending::Spent)
+        }
+        OpenFault::BadField(_, place) => {
+            let _told = eprintln!(rt; "nqnfsd: {image}: the image is wrong at byte {place}");
+            Ok(Ending::Spent)
+        }
+        OpenFault::Failed(_) => {
+            let _told = eprintln!(rt;
+                "nqnfsd: {image}: the file cannot be opened, read or written, or another server has it"
+            );
+            Ok(Ending::KeepFault)
+        }
+        OpenFault::Memory(_) => Err(AllocError),
+    }
+}
+
+/// Serves over a store until something stops it; how that ends.
+fn serve_store(
+    rt: &HostRuntime,
+    image: &str,
+    store: Store<FileDisk>,
+    link: UdpLink<HostRuntime>,
+    longest: u32,
+    every: Option<u64>,
+) -> Result<Ending, AllocError>
+    requires long { 5 ≤ longest }
+    requires short { longest ≤ 600 }
+{
+    let mut store = store;
+    if let Ok(found) = surveyed(&mut store) {
+        tell_start(rt, image, &found);
+    }
+    let mut link = CountedLink::new(link);
+    let mut clock = StdClock::new(rt.clone()?);
+    let mut report = Report::new(rt.alloc(), StdSink::new(io::writer(rt)), every);
+    let Served { ended, keeper } = keep_serving(
+        rt.alloc(),
+        store,
+        MOST_TURNS,
+        longest,
+        &mut link,
+        &mut clock,
+        &mut report,
+    );
+    let _disk = keeper.into_disk();
+    tell_end(rt, image, ended)
+}
+
+/// Says what the server begins with.
+fn tell_start(rt: &HostRuntime, image: &str, found: &Survey) {
+    let boot = found.heads.boot.saturating_add(1);
+    let (files, blocks) = (found.space.files, found.space.blocks);
+    let recovers = match found.heads.opened {
+        0 => 0,
+        _ => found.heads.longest.saturating_add(BEYOND),
+    };
+    let _told = println!(rt;
+        "nqnfsd 1: image {image}, boot {boot}, {files} files with {blocks} blocks, 127.0.0.1 port {PORT}, recovers for {recovers} seconds"
+    );
+}
+
+/// Says why serving ended.
+fn tell_end(rt: &HostRuntime, image: &str, ended: Result<(), Halt>) -> Result<Ending, AllocError> {
+    match ended {
+        Ok(()) => Ok(Ending::Done),
+        Err(Halt::Keep) => {
+            let _told = eprintln!(rt; "nqnfsd: {image}: the file cannot be read or written");
+            Ok(Ending::KeepFault)
+        }
+        Err(Halt::Spent) => {
+            let _told = eprintln!(rt; "nqnfsd: {image}: no number is left for a boot, at byte 8");
+            Ok(Ending::Spent)
+        }
+        Err(Halt::Link | Halt::NoAnswer) => Ok(Ending::LinkFault),
+        Err(Halt::Memory) => {
+            let _told = eprintln!(rt; "nqnfsd: memory was wanting");
+            Ok(Ending::Memory)
+        }
+    }
+}
