@@ -1,0 +1,11 @@
+pub mod Growing
+pub mod Bounded
+pub mod Agreeing
+pub mod Hearing
+pub mod Files
+pub mod Reaching
+pub mod Leading
+pub mod Finding
+pub mod Renewing
+pub mod Taking
+pub mod Keeping
