@@ -1,4 +1,0 @@
-pub mod Playing
-pub mod Finding
-pub mod Going
-pub mod Running
