@@ -1,0 +1,6 @@
+//! Runs over a disk.
+#![tactic(auto)]
+
+mod emptying;
+
+pub use emptying::{NotEmptied, emptied};
