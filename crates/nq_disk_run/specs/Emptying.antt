@@ -1,5 +1,5 @@
 -- What making an empty store of a disk does. Below, `before` and `count` are the disk's counts of faults.
-use Rattle.std.specs.Prelude.{◌≡◌, ℕ, Result, Ok, Err}
+use Rattle.std.specs.Prelude.{◌≡◌, ◌⊎◌, ◌<◌, ◌≤◌, ◌-◌, ◌^◌, ℕ, Result, Ok, Err}
 use Rattle.nq_ending.specs.declared.Ending.{Ending}
 use Rattle.nq_io.specs.Faults.{Rose}
 
@@ -13,3 +13,12 @@ EmptiesNot other before count = ⊥
 abbrev pub disk_in : {X Y D : Type 0} → (X → D) → (Y → D) → Result X Y → D
 disk_in held back (Ok store) = held store
 disk_in held back (Err left) = back left
+
+-- a count rose, or it stands at the end of its type
+abbrev pub HasRisen : (before count : ℕ) → Type 0
+HasRisen before count = (before < count) ⊎ (2 ^ 64 - 1 ≤ count)
+
+-- a run over a disk ended with a fault of its store only where the disk failed
+abbrev pub CountsDisk : Ending → (before count : ℕ) → Type 0
+CountsDisk Ending.KeepFault before count = HasRisen before count
+CountsDisk other before count = Unit {0}

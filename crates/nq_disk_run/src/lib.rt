@@ -2,5 +2,7 @@
 #![tactic(auto)]
 
 mod emptying;
+mod replaying;
 
 pub use emptying::{NotEmptied, emptied};
+pub use replaying::{Replayed, replay_on};
