@@ -1,2 +1,3 @@
+mod Failing
 pub mod Refusing
 pub mod Surviving

@@ -1,5 +1,5 @@
 -- What a stop within serving leaves, from what one leaves before the store was opened and behind it.
-use Rattle.std.proofs.Common.{◌≡◌, ◌⊎◌, ℕ, List, Option, Some, Result, Ok, Err, IfOk, inl, inr, refl, ap, subst, ◌∙◌}
+use Rattle.std.proofs.Common.{◌≡◌, ◌⊎◌, ◌≤◌, ℕ, List, Option, Some, Result, Ok, Err, IfOk, OnOk, inl, inr, refl, sym, ap, subst, ◌∙◌}
 use Rattle.std.specs.Option.{ForSome}
 use Rattle.nq_ending.specs.declared.Ending.{Ending}
 use Rattle.nq_ending.specs.declared.Halt.{Halt}
@@ -8,10 +8,11 @@ use Rattle.nq_hosts.specs.Serving.{Runs, Tells}
 use Rattle.nq_model.specs.Kept.{Kept}
 use Rattle.nq_node.specs.Clocks.{ClockTold}
 use Rattle.nq_node.specs.Links.{LinkTold}
-use Rattle.nq_service.specs.Serving.{AllStandFor, EndsServing, ServesStore, StaysSame, Survives}
+use Rattle.nq_service.specs.Serving.{AllStandFor, EndsServing, HasRisen, ServesStore, StaysSame, Survives}
 use Rattle.nq_store.specs.Opening.{AnswersOpen, FollowsOpen, LeavesLike, disk_of}
-use Rattle.nq_store.specs.Storing.{GoesOn, IsFresh, LeavesKept, StoredStore, content_of, faults_of, kept_on, kept_told}
+use Rattle.nq_store.specs.Storing.{GoesOn, IsFresh, IsKept, LeavesKept, StoredStore, content_of, faults_of, kept_on, kept_told}
 use Rattle.nq_store.specs.declared.fault.OpenFault.{OpenFault}
+use Rattle.nq_service.proofs.Failing.{failed_by, right_of}
 
 left-same : (kept : Kept) (bytes image : List ℕ) (before : List ℕ → Type 0) → before bytes → AllStandFor before kept
     → before image ⊎ (kept_on image ≡ kept_on bytes) → kept_on image ≡ Some kept
@@ -45,15 +46,15 @@ module _ {D : Type 0} (told : D → Option (List ℕ)) (faults : D → ℕ) (may
       → ((image : List ℕ) → leaves disk left.disk image → leaves disk store.disk image ⊎ leaves store.disk left.disk image)
       → LeavesLike (told disk) (may_leave disk) (leaves disk store.disk)
       → content_of told store ≡ kept_told (told disk)
-      → LeavesServing (content_of told) (faults_of faults) (GoesOn follows) (λ first last. LeavesKept (leaves first.disk last.disk)) longest turns
+      → LeavesServing (content_of told) (faults_of faults) (GoesOn faults follows) (λ first last. LeavesKept (leaves first.disk last.disk)) longest turns
       store ended left clock clock' link link'
       → Survives told faults may_leave follows leaves longest turns disk store ended left clock clock' link link'
   survives longest turns disk store ended left clock clock' link link' stays parts like keeps s = record {
     serving = s;
     survives = λ bytes is kept same image l.
-        left-either (IsLeftInRuns (content_of told) (faults_of faults) (GoesOn follows) longest turns s.serves.time store ended left
+        left-either (IsLeftInRuns (content_of told) (faults_of faults) (GoesOn faults follows) longest turns s.serves.time store ended left
         s.serves.between clock' link link' s.serves.runs kept (kept_on image))
-        (λ first. left-first (content_of told) (faults_of faults) (GoesOn follows) longest turns s.serves.time store ended left s.serves.between
+        (λ first. left-first (content_of told) (faults_of faults) (GoesOn faults follows) longest turns s.serves.time store ended left s.serves.between
         clock' link link' s.serves.runs kept (kept_on image)
         (left-same kept bytes image (may_leave disk) (stays bytes is) same (like bytes is image first)))
         (λ later. s.only kept (keeps ∙ ap kept_told is ∙ same bytes (stays bytes is)) (kept_on image) (image, later, refl))
@@ -83,7 +84,7 @@ module _ {D : Type 0} (told : D → Option (List ℕ)) (faults : D → ℕ) (may
       → ((last : D) (image : List ℕ) → follows store.disk last → leaves disk last image → leaves disk store.disk image ⊎ leaves store.disk last image)
       → LeavesLike (told disk) (may_leave disk) (leaves disk store.disk)
       → content_of told store ≡ kept_told (told disk)
-      → EndsServing told faults follows (λ ended served. LeavesServing (content_of told) (faults_of faults) (GoesOn follows) (λ first last.
+      → EndsServing told faults follows (λ ended served. LeavesServing (content_of told) (faults_of faults) (GoesOn faults follows) (λ first last.
       LeavesKept (leaves first.disk last.disk)) longest turns store ended served clock clock' link link') code turns store left link link' held
       now w w'
       → EndsServing told faults follows (λ ended served. Survives told faults may_leave follows leaves longest turns disk store ended served clock
@@ -96,7 +97,7 @@ module _ {D : Type 0} (told : D → Option (List ℕ)) (faults : D → ℕ) (may
     handed = e.handed;
     same = e.same;
     tells = tells-on e.end turns
-        (λ ended. LeavesServing (content_of told) (faults_of faults) (GoesOn follows) (λ first last. LeavesKept (leaves first.disk last.disk))
+        (λ ended. LeavesServing (content_of told) (faults_of faults) (GoesOn faults follows) (λ first last. LeavesKept (leaves first.disk last.disk))
         longest turns store ended e.served clock clock' link link')
         (λ ended. Survives told faults may_leave follows leaves longest turns disk store ended e.served clock clock' link link')
         held e.between w e.count
@@ -113,25 +114,33 @@ module _ {D : Type 0} (told : D → Option (List ℕ)) (faults : D → ℕ) (may
       → ((bytes : List ℕ) → told disk ≡ Some bytes → may_leave disk bytes)
       → ((middle last : D) (image : List ℕ) → follows disk middle → follows middle last → leaves disk last image
       → leaves disk middle image ⊎ leaves middle last image)
-      → IfOk result (λ s. content_of told s ≡ kept_told (told disk)) → IfOk result IsFresh
+      → ((first last : D) → follows first last → faults first ≤ faults last)
+      → OnOk result (ForSome (told disk) IsKept) → IfOk result (λ s. content_of told s ≡ kept_told (told disk)) → IfOk result IsFresh
       → AnswersOpen (λ s. s.disk) faults result disk → FollowsOpen (λ s. s.disk) follows result disk
       → LeavesLike (told disk) (may_leave disk) (leaves disk (disk_of (λ s. s.disk) result))
-      → EndsServing told faults follows (λ ended served. LeavesServing (content_of told) (faults_of faults) (GoesOn follows) (λ first last.
+      → EndsServing told faults follows (λ ended served. LeavesServing (content_of told) (faults_of faults) (GoesOn faults follows) (λ first last.
       LeavesKept (leaves first.disk last.disk)) longest turns store ended served clock clock' link link') code turns store left link link' held
       now w w'
       → ServesStore told faults may_leave follows leaves code longest turns disk left clock clock' link link' held now w w'
-  serves_opened longest code turns disk store left clock clock' link link' held now w w' result is stays parts content fresh answers opens like e =
+  serves_opened longest code turns disk store left clock clock' link link' held now w w' result is stays parts rises stands content fresh answers opens like e =
       let keeps : content_of told store ≡ kept_told (told disk) =
       subst (λ (r : Result (StoredStore D) (OpenFault D)). IfOk r (λ s. content_of told s ≡ kept_told (told disk))) is content in
       let goes : follows disk store.disk = subst (λ (r : Result (StoredStore D) (OpenFault D)). FollowsOpen (λ s. s.disk) follows r disk) is opens in
       let still : LeavesLike (told disk) (may_leave disk) (leaves disk store.disk) =
       subst (λ (r : Result (StoredStore D) (OpenFault D)). LeavesLike (told disk) (may_leave disk) (leaves disk (disk_of (λ s. s.disk) r))) is like in
+      let new = subst (λ (r : Result (StoredStore D) (OpenFault D)). IfOk r IsFresh) is fresh in
+      let counts : faults store.disk ≡ faults disk =
+      subst (λ (r : Result (StoredStore D) (OpenFault D)). AnswersOpen (λ s. s.disk) faults r disk) is answers in
       record {
         store = store;
+        right = right_of (told disk) (subst (λ (r : Result (StoredStore D) (OpenFault D)). OnOk r (ForSome (told disk) IsKept)) is stands);
         keeps = keeps;
         opened = goes;
-        fresh = subst (λ (r : Result (StoredStore D) (OpenFault D)). IfOk r IsFresh) is fresh;
-        counts = subst (λ (r : Result (StoredStore D) (OpenFault D)). AnswersOpen (λ s. s.disk) faults r disk) is answers;
+        fresh = new;
+        counts = counts;
+        failed = λ six. subst (λ (d : D). HasRisen (faults disk) (faults d)) (sym e.handed)
+            (failed_by faults follows e.end code disk store e.served (content_of told store) link.faults link'.faults e.between now w w' e.count rises
+            new counts e.same e.cause e.prints six);
         serves = ends_surviving longest code turns disk store left clock clock' link link' held now w w' stays (λ last image next. parts store.disk
             last image goes next) still keeps e;
       }

@@ -3,7 +3,7 @@
 -- stop between two moments may leave.
 use Rattle.std.specs.Fmt.{decimal}
 use Rattle.std.specs.Option.{ForSome}
-use Rattle.std.specs.Prelude.{◌≡◌, ◌⊎◌, ◌++◌, ℕ, List, Option, Some, None, Result, Ok, Err, codes}
+use Rattle.std.specs.Prelude.{◌≡◌, ◌⊎◌, ◌<◌, ◌≤◌, ◌-◌, ◌^◌, ◌++◌, ℕ, List, Option, Some, None, Result, Ok, Err, codes}
 use Rattle.nq_ending.specs.Status.{status_of}
 use Rattle.nq_ending.specs.declared.Ending.{Ending}
 use Rattle.nq_ending.specs.declared.Halt.{Halt}
@@ -47,9 +47,9 @@ StaysSame before leaves = (kept : Kept) → AllStandFor before kept → AllStand
 -- whatever a stop at any moment may leave opens, and stands for that, or for what was kept after some of the steps: the boot, and the ticks
 -- and datagrams of the turns
 pub record Survives {D : Type 0} (told : D → Option (List ℕ)) (faults : D → ℕ) (may_leave : D → List ℕ → Type 0) (follows : D → D → Type 0) (leaves : D → D → List ℕ → Type 0) (longest turns : ℕ) (disk : D) (store : StoredStore D) (ended : Result Unit Halt) (left : StoredStore D) (clock clock' : ClockTold) (link link' : LinkTold) : Type 0 where
-  pub serving : LeavesServing (content_of told) (faults_of faults) (GoesOn follows) (λ first last. LeavesKept (leaves first.disk last.disk)) longest turns store ended left clock clock' link link'
+  pub serving : LeavesServing (content_of told) (faults_of faults) (GoesOn faults follows) (λ first last. LeavesKept (leaves first.disk last.disk)) longest turns store ended left clock clock' link link'
   pub survives : ForSome (told disk) (λ bytes. (kept : Kept) → AllStandFor (may_leave disk) kept
-      → Each (leaves disk left.disk) (λ image. IsLeftInRuns (content_of told) (faults_of faults) (GoesOn follows) longest turns serving.serves.time store ended left serving.serves.between clock' link link' serving.serves.runs kept (kept_on image)))
+      → Each (leaves disk left.disk) (λ image. IsLeftInRuns (content_of told) (faults_of faults) (GoesOn faults follows) longest turns serving.serves.time store ended left serving.serves.between clock' link link' serving.serves.runs kept (kept_on image)))
 
 -- ---- where the disk is not served from
 
@@ -105,18 +105,25 @@ pub record EndsServing {D : Type 0} (told : D → Option (List ℕ)) (faults : D
   pub between : Option (List ℕ)
   pub count : ℕ
   pub handed : left ≡ served.disk
-  pub same : GoesOn follows store served
+  pub same : GoesOn faults follows store served
   pub tells : Tells end turns (λ ended. P ended served) held between w count
   pub cause : EndsBy end (content_of told store) (faults_of faults store) (faults_of faults served) link.faults link'.faults w count
   pub prints : PrintsBehind end code between now count w'
 
--- the disk was opened as a store, which keeps what the disk stood for, and the store was served from
+-- a count of faults rose, or it stands at the end of its type, where it cannot rise
+abbrev pub HasRisen : (before now : ℕ) → Type 0
+HasRisen before now = (before < now) ⊎ (2 ^ 64 - 1 ≤ now)
+
+-- The disk was opened as a store, which keeps what the disk stood for, and the store was served from. No byte of the disk was wrong. The
+-- status says that the keeper failed only where the disk failed
 pub record ServesStore {D : Type 0} (told : D → Option (List ℕ)) (faults : D → ℕ) (may_leave : D → List ℕ → Type 0) (follows : D → D → Type 0) (leaves : D → D → List ℕ → Type 0) (code longest turns : ℕ) (disk left : D) (clock clock' : ClockTold) (link link' : LinkTold) (held now : Option (List ℕ)) (w w' : ℕ) : Type 0 where
   pub store : StoredStore D
+  pub right : ForSome (told disk) (λ bytes. first_wrong (stands_as bytes) ≡ None)
   pub keeps : content_of told store ≡ kept_told (told disk)
   pub opened : follows disk store.disk
   pub fresh : IsFresh store
   pub counts : faults store.disk ≡ faults disk
+  pub failed : code ≡ status_of Ending.KeepFault → HasRisen (faults disk) (faults left)
   pub serves : EndsServing told faults follows (λ ended served. Survives told faults may_leave follows leaves longest turns disk store ended served clock clock' link link') code turns store left link link' held now w w'
 
 -- the disk was not opened, or it was served from

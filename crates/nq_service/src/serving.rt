@@ -35,8 +35,9 @@ pub struct Ended<D> {
 /// moment of the call may leave on the disk opens, and stands for what was kept at first, or after some of the steps: the boot, and
 /// the ticks and datagrams of the turns.
 ///
-/// The status is that of [`serve`]. It is 10, and `image byte P` is printed, where the disk is no image (byte 0), where a field of it
-/// is wrong (the first byte of that field), and where no number is left for a boot (byte 8). It is 6 only where the disk failed.
+/// The status is that of [`serve`]. It is 10, and `image byte P` is printed, exactly where the disk is no image (byte 0), where a field of
+/// it is wrong (the first byte of that field), and where no number is left for a boot (byte 8), unless the disk fails before, or memory is
+/// wanting. It is 6 only where the disk failed.
 pub fn serve_disk<D: Disk + Drop, L: Link, C: Clock, K: Sink>(
     alloc: Global,
     disk: D,
@@ -111,7 +112,7 @@ fn serve_store<D: Disk + Drop, L: Link, C: Clock, K: Sink>(
     requires long { 5 ≤ longest }
     requires short { longest ≤ 600 }
     ensures serves { EndsServing D.told D.faults D.follows
-        (λ ended served. LeavesServing (content_of D.told) (faults_of D.faults) (GoesOn D.follows) (λ first last. LeavesKept (D.leaves first.disk last.disk))
+        (λ ended served. LeavesServing (content_of D.told) (faults_of D.faults) (GoesOn D.faults D.follows) (λ first last. LeavesKept (D.leaves first.disk last.disk))
         longest turns store ended served
         (clock_told C.floor C.readings clock.old) (clock_told C.floor C.readings clock.new)
         (link_told L.sent L.waiting L.faults L.receives link.old)

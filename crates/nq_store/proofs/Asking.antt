@@ -9,6 +9,9 @@ use Rattle.nq_model.specs.Kept.{Kept}
 use Rattle.nq_store.specs.Storing.{GoesOn, IsSound, LeavesKept, StoredStore, after_asking, answered, content_of, faults_of, refusals}
 use Rattle.nq_store.proofs.Keeping.{leaves-same, rose-refused}
 
+true-false : (b : Bool) → b ≡ true → b ≡ false → ⊥
+true-false b yes no = cc
+
 module _ {D : Type 0} (store new : StoredStore D) where
   asking-as : (b : Bool) → store.ended ≡ b → after_asking store ≡ record store { refused = refusals b store.refused }
   asking-as b is = ap (λ (c : Bool). record store { refused = refusals c store.refused }) is
@@ -26,8 +29,12 @@ module _ {D : Type 0} (store new : StoredStore D) where
         let Done : StoredStore D → Type 0 = λ s. Reads {X = X} (Err Failed) (content_of told store) (content_of told s) (faults_of faults store) (faults_of faults s) in
         subst Done (sym is) (inl refl, rose-refused (faults store.disk) store.refused)
 
-    pub refused-follows : (follows : D → D → Type 0) → ((disk : D) → follows disk disk) → store.refused ≤ new.refused → GoesOn follows store new
-    refused-follows follows itself rises = record { disk = subst (λ (s : StoredStore D). follows store.disk s.disk) (sym is) (itself store.disk); refused = rises }
+    pub refused-follows : (faults : D → ℕ) (follows : D → D → Type 0) → ((disk : D) → follows disk disk) → store.refused ≤ new.refused → GoesOn faults follows store new
+    refused-follows faults follows itself rises = record {
+      disk = subst (λ (s : StoredStore D). follows store.disk s.disk) (sym is) (itself store.disk);
+      refused = rises;
+      cause = λ goes. absurd (true-false store.ended ended goes);
+    }
 
     pub refused-leaves : (told : D → Option (List ℕ)) (leaves : D → D → List ℕ → Type 0) → LeavesOne (content_of told store) (LeavesKept (leaves store.disk new.disk))
     refused-leaves told leaves =

@@ -1,5 +1,5 @@
 -- What the clauses of a commit say of a store, by what happened to its fields.
-use Rattle.std.proofs.Common.{◌≡◌, ℕ, Bool, true, false, List, Option, Result, Ok, Err, sym, ap, subst, ◌∙◌, inl, inr, arith}
+use Rattle.std.proofs.Common.{◌≡◌, ◌⊎◌, ℕ, Bool, true, false, List, Option, Result, Ok, Err, sym, ap, subst, ◌∙◌, inl, inr, ⊎_elim, arith}
 use Rattle.std.specs.Option.{ForSome}
 use Rattle.nq_base.specs.declared.Change.{Change}
 use Rattle.nq_io.specs.Faults.{Rose}
@@ -61,10 +61,12 @@ module _ {D : Type 0} (view store : StoredStore D) (is : view ≡ store) (goes :
           subst (λ (n : ℕ). Counts n (faults_of faults new)) (sym (counts-as faults)) (subst (λ (n : ℕ). Counts (counted (faults view.disk) view.refused) n) (sym (counts-now faults)) risen),
         )
 
-    pub follows-so : (follows : D → D → Type 0) → follows view.disk new.disk → GoesOn follows store new
-    follows-so follows goes_on = record {
+    pub follows-so : (faults : D → ℕ) (follows : D → D → Type 0) → (new.ended ≡ view.ended) ⊎ Rose (faults view.disk) (faults new.disk) → follows view.disk new.disk → GoesOn faults follows store new
+    follows-so faults follows why goes_on = record {
       disk = subst (λ (s : StoredStore D). follows s.disk new.disk) is goes_on;
       refused = let a = same in let b = ap (λ (s : StoredStore D). s.refused) is in omega arith;
+      cause = λ going. ⊎_elim (λ still. inl (record { goes_on = still ∙ goes-in; none = same ∙ ap (λ (s : StoredStore D). s.refused) is }))
+          (λ rose. inr (subst (λ (s : StoredStore D). Rose (faults s.disk) (faults new.disk)) is rose)) why;
     }
 
     pub leaves-so : (change : Change) (told : D → Option (List ℕ)) (leaves : D → D → List ℕ → Type 0) → LeavesTwo change (kept_told (told view.disk)) (LeavesKept (leaves view.disk new.disk)) → LeavesTwo change (content_of told store) (LeavesKept (leaves store.disk new.disk))

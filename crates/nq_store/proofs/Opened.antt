@@ -2,13 +2,15 @@
 use Rattle.std.proofs.Common.{◌≡◌, ℕ, List, Option, Some, None, Result, Ok, Err, refl, sym, ap, subst, ◌∙◌}
 use Rattle.std.specs.Option.{ForSome}
 use Rattle.nq_format.specs.Standing.{stands_as}
+use Rattle.nq_image.specs.Standing.{kept_at}
 use Rattle.nq_plan.specs.Held.{HeldTables}
 use Rattle.nq_store.specs.Loading.{IsShut, IsShutAs, OpensTables}
 use Rattle.nq_store.specs.Opening.{SaysWrong, open_fault}
-use Rattle.nq_store.specs.Storing.{IsKeptOn, kept_of, kept_on, kept_told}
+use Rattle.nq_store.specs.Storing.{IsKept, IsKeptOn, kept_of, kept_on, kept_told}
 use Rattle.nq_store.specs.declared.fault.Fault.{Fault}
 use Rattle.nq_store.specs.declared.fault.Fault.TheVariants.{NotAnImage, BadField, Failed, Memory}
 use Rattle.nq_store.specs.declared.fault.OpenFault.{OpenFault}
+use Rattle.nq_store.proofs.Keeping.{held-kept}
 use Rattle.nq_store.proofs.Told.{opens-as}
 
 pub kept-same : (now bytes : List ℕ) → stands_as now ≡ stands_as bytes → kept_on now ≡ kept_on bytes
@@ -30,6 +32,12 @@ opens-both result o mid tells mid_may may shut opens = λ bytes is.
 pub content-same : (held : HeldTables) (o tells : Option (List ℕ)) (may : List ℕ → Type 0) → (o ≡ None → tells ≡ None) → ForSome o (λ bytes. OpensTables (Ok held) bytes tells may) → kept_told tells ≡ kept_told o
 content-same held None tells may silent opens = ap kept_told (silent refl)
 content-same held (Some bytes) tells may silent opens = let l = opens bytes refl in ap kept_told l.told ∙ kept-same l.now bytes l.same
+
+-- the bytes of an opened disk stood for a kept state
+pub stands-opened : (held : HeldTables) (o tells : Option (List ℕ)) (may : List ℕ → Type 0) → ForSome o (λ bytes. OpensTables (Ok held) bytes tells may) → ForSome o IsKept
+stands-opened held o tells may opens = λ bytes is.
+    let l = opens bytes is in
+    (kept_at l.now held.standing, sym (kept-same l.now bytes l.same) ∙ held-kept held may l.now l.kept)
 
 pub sound-opened : (held : HeldTables) (o tells : Option (List ℕ)) (may : List ℕ → Type 0) → (o ≡ None → tells ≡ None) → ForSome o (λ bytes. OpensTables (Ok held) bytes tells may) → ForSome tells (IsKeptOn held may)
 sound-opened held None tells may silent opens = λ bytes is. absurd (none-tells tells bytes (silent refl) is)

@@ -29,10 +29,16 @@ counted faults refused = min (faults + refused) (2 ^ 64 - 1)
 abbrev pub faults_of : {D : Type 0} → (D → ℕ) → StoredStore D → ℕ
 faults_of faults store = counted (faults store.disk) store.refused
 
--- the second store is the first one after some calls
-pub record GoesOn {D : Type 0} (follows : D → D → Type 0) (first last : StoredStore D) : Type 0 where
+-- no change failed between these two, and no call was refused
+pub record RefusesNone {D : Type 0} (first last : StoredStore D) : Type 0 where
+  pub goes_on : last.ended ≡ false
+  pub none : last.refused ≡ first.refused
+
+-- the second store is the first one after some calls; a call was refused only where the disk failed between the two, or a change failed before
+pub record GoesOn {D : Type 0} (faults : D → ℕ) (follows : D → D → Type 0) (first last : StoredStore D) : Type 0 where
   pub disk : follows first.disk last.disk
   pub refused : first.refused ≤ last.refused
+  pub cause : first.ended ≡ false → RefusesNone first last ⊎ Rose (faults first.disk) (faults last.disk)
 
 -- a kept state, where it is within its bounds
 abbrev pub if_within : Kept → Option Kept
@@ -52,6 +58,10 @@ kept_on bytes = kept_of (stands_as bytes)
 abbrev pub kept_told : Option (List ℕ) → Option Kept
 kept_told None = None
 kept_told (Some bytes) = kept_on bytes
+
+-- the bytes of a disk stand for some kept state
+abbrev pub IsKept : List ℕ → Type 0
+IsKept bytes = (kept : Kept) × (kept_on bytes ≡ Some kept)
 
 -- what a store tells of what it keeps: what its disk stands for, until a change fails
 abbrev pub content_while : (ended : Bool) → Option (List ℕ) → Option Kept

@@ -14,7 +14,7 @@ ghost use Rattle.nq_plan.specs.Placing.{IsPlacedFor};
 ghost use Rattle.nq_plan.specs.Ranges.{ranges_of};
 ghost use Rattle.nq_store.specs.Laws.{goes-further, goes-itself, goes-rising, leaves-parts, may-leave, told-is-within};
 ghost use Rattle.nq_store.specs.Opening.{AnswersOpen, FollowsOpen, LeavesLike, SaysWrong, disk_of};
-ghost use Rattle.nq_store.specs.Storing.{GoesOn, IsFresh, IsSound, LeavesKept, after_asking, answered, content_of, faults_of, kept_told, space_in};
+ghost use Rattle.nq_store.specs.Storing.{GoesOn, IsFresh, IsKept, IsSound, LeavesKept, after_asking, answered, content_of, faults_of, kept_told, space_in};
 
 use crate::fault::OpenFault;
 use crate::opening::{open_record, open_tables};
@@ -58,13 +58,14 @@ impl<D: Disk> Model for Store<D> {
 
 impl<D: Disk + Drop> Store<D> {
     /// Opens a disk: it writes what an open record says, and makes an image of version 1 one of version 2. The store keeps what the
-    /// disk stood for.
+    /// disk stood for, which is a kept state: bytes that stand for none are refused.
     ///
     /// # Errors
     ///
     /// `NotAnImage` and `BadField` where the disk stands for no kept state, `Failed` only where the disk failed, and want of memory.
     pub fn open(alloc: Global, disk: D) -> Result<Store<D>, OpenFault<D>>
         ensures content { IfOk result (λ store. content_of D.told store ≡ kept_told (D.told disk)) }
+        ensures stands { OnOk result (ForSome (D.told disk) IsKept) }
         ensures wrong { SaysWrong result (D.told disk) }
         ensures fresh { IfOk result IsFresh }
         ensures cause { AnswersOpen (λ store. store.disk) D.faults result disk }
@@ -131,7 +132,7 @@ impl<D: Disk + Drop> Store<D> {
         ensures store { self.new ≡ after_asking self.old }
         ensures sound { IsSound (D.told self.old.disk) (D.may_leave self.old.disk) self.old.tables self.old.ended }
         ensures reads { Reads result (content_of D.told self.old) (content_of D.told self.new) (faults_of D.faults self.old) (faults_of D.faults self.new) }
-        ensures follows { GoesOn D.follows self.old self.new }
+        ensures follows { GoesOn D.faults D.follows self.old self.new }
         ensures leaves { LeavesOne (content_of D.told self.old) (LeavesKept (D.leaves self.old.disk self.new.disk)) }
     {
         if self.has_ended() {
@@ -156,7 +157,7 @@ impl<D: Disk + Drop> Store<D> {
         ensures told { ForSome (D.told self.old.disk) (λ bytes. place_of_block block + 4096 ≤ length bytes → IfOk result (λ body. body ≡ body_in bytes block)) }
         ensures sound { IsSound (D.told self.old.disk) (D.may_leave self.old.disk) self.old.tables self.old.ended }
         ensures reads { Reads result (content_of D.told self.old) (content_of D.told self.new) (faults_of D.faults self.old) (faults_of D.faults self.new) }
-        ensures follows { GoesOn D.follows self.old self.new }
+        ensures follows { GoesOn D.faults D.follows self.old self.new }
         ensures leaves { LeavesOne (content_of D.told self.old) (LeavesKept (D.leaves self.old.disk self.new.disk)) }
     {
         read_body(&mut self.redo.disk, self.alloc, block)
@@ -171,7 +172,7 @@ impl<D: Disk + Drop> Store<D> {
         requires fits { ForSome (content_of D.told self.old) (λ kept. Fits kept change.now) }
         requires within { ForSome (content_of D.told self.old) (λ kept. IsChangeWithin kept change.now) }
         ensures commits { Commits result change.now (content_of D.told self.old) (content_of D.told self.new) (faults_of D.faults self.old) (faults_of D.faults self.new) }
-        ensures follows { GoesOn D.follows self.old self.new }
+        ensures follows { GoesOn D.faults D.follows self.old self.new }
         ensures leaves { LeavesTwo change.now (content_of D.told self.old) (LeavesKept (D.leaves self.old.disk self.new.disk)) }
     {
         let Plan { batch, placed } = plan;
@@ -193,7 +194,7 @@ impl<D: Disk + Drop> Keeper for Store<D> {
 
     ghost faults = { faults_of D.faults };
 
-    ghost follows = { GoesOn D.follows };
+    ghost follows = { GoesOn D.faults D.follows };
 
     ghost leaves = { λ first last. LeavesKept (D.leaves first.disk last.disk) };
 
@@ -201,7 +202,7 @@ impl<D: Disk + Drop> Keeper for Store<D> {
         // As of any keeper.
         ensures told { ForSome (content_of D.told self.old) (λ kept. IfOk result (λ row. row ≡ row_of_found (find_file id kept.files))) }
         ensures reads { Reads result (content_of D.told self.old) (content_of D.told self.new) (faults_of D.faults self.old) (faults_of D.faults self.new) }
-        ensures follows { GoesOn D.follows self.old self.new }
+        ensures follows { GoesOn D.faults D.follows self.old self.new }
         ensures leaves { LeavesOne (content_of D.told self.old) (LeavesKept (D.leaves self.old.disk self.new.disk)) }
 
         // Of this one.
@@ -216,7 +217,7 @@ impl<D: Disk + Drop> Keeper for Store<D> {
         // As of any keeper.
         ensures told { ForSome (content_of D.told self.old) (λ kept. IfOk result (λ row. row ≡ row_of_found (find_name name.now kept.files))) }
         ensures reads { Reads result (content_of D.told self.old) (content_of D.told self.new) (faults_of D.faults self.old) (faults_of D.faults self.new) }
-        ensures follows { GoesOn D.follows self.old self.new }
+        ensures follows { GoesOn D.faults D.follows self.old self.new }
         ensures leaves { LeavesOne (content_of D.told self.old) (LeavesKept (D.leaves self.old.disk self.new.disk)) }
 
         // Of this one.
@@ -231,7 +232,7 @@ impl<D: Disk + Drop> Keeper for Store<D> {
         // As of any keeper.
         ensures told { ForSome (content_of D.told self.old) (λ kept. IfOk result (λ row. row ≡ row_of_found (file_after after kept.files))) }
         ensures reads { Reads result (content_of D.told self.old) (content_of D.told self.new) (faults_of D.faults self.old) (faults_of D.faults self.new) }
-        ensures follows { GoesOn D.follows self.old self.new }
+        ensures follows { GoesOn D.faults D.follows self.old self.new }
         ensures leaves { LeavesOne (content_of D.told self.old) (LeavesKept (D.leaves self.old.disk self.new.disk)) }
 
         // Of this one.
@@ -248,7 +249,7 @@ impl<D: Disk + Drop> Keeper for Store<D> {
         // As of any keeper.
         ensures told { ForSome (content_of D.told self.old) (λ kept. IfOk result (λ row. row ≡ host_row kept host)) }
         ensures reads { Reads result (content_of D.told self.old) (content_of D.told self.new) (faults_of D.faults self.old) (faults_of D.faults self.new) }
-        ensures follows { GoesOn D.follows self.old self.new }
+        ensures follows { GoesOn D.faults D.follows self.old self.new }
         ensures leaves { LeavesOne (content_of D.told self.old) (LeavesKept (D.leaves self.old.disk self.new.disk)) }
 
         // Of this one.
@@ -263,7 +264,7 @@ impl<D: Disk + Drop> Keeper for Store<D> {
         // As of any keeper.
         ensures told { ForSome (content_of D.told self.old) (λ kept. IfOk result (λ heads. heads ≡ heads_of kept)) }
         ensures reads { Reads result (content_of D.told self.old) (content_of D.told self.new) (faults_of D.faults self.old) (faults_of D.faults self.new) }
-        ensures follows { GoesOn D.follows self.old self.new }
+        ensures follows { GoesOn D.faults D.follows self.old self.new }
         ensures leaves { LeavesOne (content_of D.told self.old) (LeavesKept (D.leaves self.old.disk self.new.disk)) }
 
         // Of this one.
@@ -278,7 +279,7 @@ impl<D: Disk + Drop> Keeper for Store<D> {
         // As of any keeper.
         ensures told { ForSome (content_of D.told self.old) (λ kept. IfOk result (λ space. space ≡ space_of kept)) }
         ensures reads { Reads result (content_of D.told self.old) (content_of D.told self.new) (faults_of D.faults self.old) (faults_of D.faults self.new) }
-        ensures follows { GoesOn D.follows self.old self.new }
+        ensures follows { GoesOn D.faults D.follows self.old self.new }
         ensures leaves { LeavesOne (content_of D.told self.old) (LeavesKept (D.leaves self.old.disk self.new.disk)) }
 
         // Of this one.
@@ -295,7 +296,7 @@ impl<D: Disk + Drop> Keeper for Store<D> {
         // As of any keeper.
         ensures told { ForSome (content_of D.told self.old) (λ kept. IfOk result (λ body. Some body ≡ body_at block (find_file id kept.files))) }
         ensures reads { Reads result (content_of D.told self.old) (content_of D.told self.new) (faults_of D.faults self.old) (faults_of D.faults self.new) }
-        ensures follows { GoesOn D.follows self.old self.new }
+        ensures follows { GoesOn D.faults D.follows self.old self.new }
         ensures leaves { LeavesOne (content_of D.told self.old) (LeavesKept (D.leaves self.old.disk self.new.disk)) }
     {
         let physical = self.tables().physical(id, block);
@@ -315,7 +316,7 @@ impl<D: Disk + Drop> Keeper for Store<D> {
 
         // As of any keeper.
         ensures commits { Commits result change (content_of D.told self.old) (content_of D.told self.new) (faults_of D.faults self.old) (faults_of D.faults self.new) }
-        ensures follows { GoesOn D.follows self.old self.new }
+        ensures follows { GoesOn D.faults D.follows self.old self.new }
         ensures leaves { LeavesTwo change (content_of D.told self.old) (LeavesKept (D.leaves self.old.disk self.new.disk)) }
     {
         if self.has_ended() {
@@ -335,13 +336,13 @@ impl<D: Disk + Drop> Keeper for Store<D> {
 
     ghost within = { told-is-within D.told };
 
-    ghost follows_itself = { goes-itself D.follows D.follows_itself };
+    ghost follows_itself = { goes-itself D.faults D.follows D.follows_itself };
 
-    ghost follows_on = { goes-further D.follows D.follows_on };
+    ghost follows_on = { goes-further D.faults D.follows D.follows_on D.rises };
 
-    ghost faults_rise = { goes-rising D.follows D.faults D.rises };
+    ghost faults_rise = { goes-rising D.faults D.follows D.rises };
 
-    ghost may_leave = { may-leave D.follows D.told D.may_leave D.leaves D.told_may_stay D.leaves_ends };
+    ghost may_leave = { may-leave D.faults D.follows D.told D.may_leave D.leaves D.told_may_stay D.leaves_ends };
 
-    ghost parts = { leaves-parts D.follows D.leaves D.parts };
+    ghost parts = { leaves-parts D.faults D.follows D.leaves D.parts };
 }

@@ -1,4 +1,4 @@
-use Rattle.std.proofs.Common.{true, refl, sym, ap, subst, ◌∙◌}
+use Rattle.std.proofs.Common.{true, refl, sym, ap, subst, ◌∙◌, inl, inr}
 use Rattle.std.specs.Option.{ForSome}
 use Rattle.nq_model.specs.Change.{Fits, IsChangeWithin}
 use Rattle.nq_plan.specs.Held.{HeldTables}
@@ -84,7 +84,14 @@ returns-in-Ok-clause-follows g c =
     let inside = c.self.inside in
     let view = stored inside.redo.disk inside.tables inside.ended inside.refused in
     let new = stored c.carry_out.new.redo.disk c.settle.new.self inside.ended inside.refused in
-    follows-so view c.args.self.now c.self.view_is c.requires.goes_on new refl g.D.Disk.follows c.carry_out.ensures.follows
+    follows-so view c.args.self.now c.self.view_is c.requires.goes_on new refl g.D.Disk.faults g.D.Disk.follows (inl refl) c.carry_out.ensures.follows
+
+pub returns-clause-follows : goal.returns-clause-follows
+returns-clause-follows g c =
+    let inside = c.self.inside in
+    let view = stored inside.redo.disk inside.tables inside.ended inside.refused in
+    let new = stored c.carry_out.new.redo.disk inside.tables true inside.refused in
+    follows-so view c.args.self.now c.self.view_is c.requires.goes_on new refl g.D.Disk.faults g.D.Disk.follows (inr c.in-Err-Failed.ensures.cause) c.carry_out.ensures.follows
 
 pub returns-clause-commits : goal.returns-clause-commits
 returns-clause-commits g c =

@@ -1,7 +1,7 @@
 use Rattle.std.proofs.Common.{Ok, Err, subst, ◌∙◌, inr, ⊎_elim}
 use Rattle.nq_store.specs.Storing.{StoredStore}
 use Rattle.nq_store.proofs.Left.{back-given}
-use Rattle.nq_store.proofs.Opened.{content-same, kept-same, opens-both, says-opened, sound-opened}
+use Rattle.nq_store.proofs.Opened.{content-same, kept-same, opens-both, says-opened, sound-opened, stands-opened}
 use Rattle.nq_store.proofs.store.Store.open.Goals as goal
 
 pub invariant_of-result : goal.invariant_of-result
@@ -25,6 +25,15 @@ returns-in-Ok-clause-content g c =
     let opens = opens-both (Ok c.in-Ok.tables) (told c.args.disk) (told mid) (told last) (may mid) (may last) c.in_ok-redo.ensures.shut c.in-Ok.ensures.told in
     content-same c.in-Ok.tables (told c.args.disk) (told last) (may last)
     (λ none. g.met.D.Disk.silent mid last c.open_tables.ensures.follows (g.met.D.Disk.silent c.args.disk mid c.in_ok-redo.ensures.follows none)) opens
+
+pub returns-in-Ok-clause-stands : goal.returns-in-Ok-clause-stands
+returns-in-Ok-clause-stands g c =
+    let mid = c.in_ok-redo.redo.disk in
+    let last = c.open_tables.new.redo.disk in
+    let told = g.D.Disk.told in
+    let may = g.D.Disk.may_leave in
+    stands-opened c.in-Ok.tables (told c.args.disk) (told last) (may last)
+    (opens-both (Ok c.in-Ok.tables) (told c.args.disk) (told mid) (told last) (may mid) (may last) c.in_ok-redo.ensures.shut c.in-Ok.ensures.told)
 
 pub returns-in-Err-clause-wrong : goal.returns-in-Err-clause-wrong
 returns-in-Err-clause-wrong g c =

@@ -1,4 +1,4 @@
-use Rattle.std.proofs.Common.{◌≡◌, ◌≤◌, ◌+◌, length, refl, inr}
+use Rattle.std.proofs.Common.{◌≡◌, ◌≤◌, ◌+◌, length, refl, inl, inr}
 use Rattle.std.specs.Prelude.{IfOk}
 use Rattle.nq_image.specs.Kept.{body_in}
 use Rattle.nq_image.specs.Layout.{block_place}
@@ -21,7 +21,7 @@ returns-clause-reads g c =
 pub returns-clause-follows : goal.returns-clause-follows
 returns-clause-follows g c =
     let inside = c.self.inside in
-    follows-so _ c.args.self.now c.self.view_is c.requires (stored c.read_body.new.disk inside.tables inside.ended inside.refused) refl g.D.Disk.follows c.read_body.ensures.follows
+    follows-so _ c.args.self.now c.self.view_is c.requires (stored c.read_body.new.disk inside.tables inside.ended inside.refused) refl g.D.Disk.faults g.D.Disk.follows (inl refl) c.read_body.ensures.follows
 
 pub returns-clause-leaves : goal.returns-clause-leaves
 returns-clause-leaves g c =

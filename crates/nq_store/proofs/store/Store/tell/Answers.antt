@@ -21,7 +21,7 @@ returns-then-has_ended-clause-reads g c =
 pub returns-then-has_ended-clause-follows : goal.returns-then-has_ended-clause-follows
 returns-then-has_ended-clause-follows g c =
     let is : c.has_ended.result ≡ true = cc in
-    refused-follows c.args.self.now c.refuse.new.self (sym c.has_ended.ensures.ended ∙ is) c.refuse.ensures.counted g.D.Disk.follows g.met.D.Disk.follows_itself c.refuse.ensures.rises
+    refused-follows c.args.self.now c.refuse.new.self (sym c.has_ended.ensures.ended ∙ is) c.refuse.ensures.counted g.D.Disk.faults g.D.Disk.follows g.met.D.Disk.follows_itself c.refuse.ensures.rises
 
 pub returns-then-has_ended-clause-leaves : goal.returns-then-has_ended-clause-leaves
 returns-then-has_ended-clause-leaves g c =
@@ -42,7 +42,7 @@ pub returns-clause-reads : goal.returns-clause-reads
 returns-clause-reads g c = (refl, refl)
 
 pub returns-clause-follows : goal.returns-clause-follows
-returns-clause-follows g c = goes-itself g.D.Disk.follows g.met.D.Disk.follows_itself c.args.self.now
+returns-clause-follows g c = goes-itself g.D.Disk.faults g.D.Disk.follows g.met.D.Disk.follows_itself c.args.self.now
 
 pub returns-clause-leaves : goal.returns-clause-leaves
 returns-clause-leaves g c = told-leaves c.args.self.now g.D.Disk.told g.D.Disk.may_leave g.D.Disk.leaves c.has_ended.ensures.sound g.met.D.Disk.leaves_now
