@@ -10,7 +10,7 @@ use Rattle.nq_store.specs.Storing.{GoesOn, IsSound, LeavesKept, StoredStore, aft
 use Rattle.nq_store.proofs.Keeping.{leaves-same, rose-refused}
 
 true-false : (b : Bool) → b ≡ true → b ≡ false → ⊥
-true-false b yes no = cc
+true-false b here off = cc
 
 module _ {D : Type 0} (store new : StoredStore D) where
   asking-as : (b : Bool) → store.ended ≡ b → after_asking store ≡ record store { refused = refusals b store.refused }
