@@ -1,5 +1,5 @@
 -- When serving fails, and when a disk is refused.
-use Rattle.std.proofs.Common.{◌≡◌, ◌⊎◌, ◌<◌, ◌≤◌, ◌-◌, ◌^◌, ℕ, List, Option, Some, None, Result, Ok, Err, inl, inr, refl, subst, ◌∙◌, ⊎_elim, arith}
+use Rattle.std.proofs.Common.{◌≡◌, ◌⊎◌, ◌≤◌, ℕ, List, Option, Some, None, Result, Ok, Err, inl, inr, refl, subst, ◌∙◌, ⊎_elim, arith}
 use Rattle.std.specs.Option.{ForSome}
 use Rattle.nq_ending.specs.Status.{status_of}
 use Rattle.nq_ending.specs.declared.Ending.{Ending}
