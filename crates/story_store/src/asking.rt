@@ -1,8 +1,8 @@
 //! Requests, one after another, that are decided over what a server keeps.
 
-use nq_base::{
-    Block, BlockNo, Decided, FileId, Gate, Host, Inc, Name, Number, Request, Seq, Who,
-};
+ghost use Rattle.std.specs.Prelude.{◌≡◌};
+
+use nq_base::{Block, BlockNo, Decided, FileId, Gate, Host, Inc, Name, Number, Request, Seq, Who};
 use nq_files::decide;
 use nq_keeper::Keeper;
 use std::alloc::Global;

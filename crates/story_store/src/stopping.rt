@@ -48,7 +48,9 @@ pub(crate) fn formatted(alloc: Global) -> Result<Vec<u8>> {
 
 /// What is kept on a disk of these bytes, once it is opened.
 pub(crate) fn kept_on(alloc: Global, bytes: &[u8]) -> Result<String> {
-    let mut store = Store::open(alloc, disk_of(alloc, bytes)?).ok().context("no image")?;
+    let mut store = Store::open(alloc, disk_of(alloc, bytes)?)
+        .ok()
+        .context("no image")?;
     tell(alloc, &mut store)
 }
 
@@ -110,7 +112,10 @@ impl Found {
 
     /// Prints how often what was found, and what is kept after the request.
     pub(crate) fn print(&self, rt: &HostRuntime) -> Result<()> {
-        println!(rt; "  {} before, {} after, {} other", self.old, self.new, self.other)?;
+        println!(rt;
+            "  {} before, {} after, {} other",
+            self.old, self.new, self.other
+        )?;
         println!(rt; "  {}", self.after)?;
         Ok(())
     }

@@ -18,7 +18,10 @@ fn tell_file<K: Keeper>(alloc: Global, keeper: &mut K, row: &FileRow) -> Result<
     let name = str::from_utf8(row.name.as_bytes())?;
     let mut text = format!(in alloc; ", file {} {name} rev {}:", row.id.0, row.rev.0)?;
     for block in 0..row.blocks {
-        match read_block(keeper, row.id, BlockNo(block)).ok().context("not read")? {
+        match read_block(keeper, row.id, BlockNo(block))
+            .ok()
+            .context("not read")?
+        {
             ReadOut::Got { body, .. } => text.push_str(&tell_block(alloc, &body)?)?,
             _ => text.push_str(" none")?,
         }
@@ -28,7 +31,10 @@ fn tell_file<K: Keeper>(alloc: Global, keeper: &mut K, row: &FileRow) -> Result<
 
 fn tell_host<K: Keeper>(alloc: Global, keeper: &mut K) -> Result<String> {
     let row = keeper.host(Host(5)).ok().context("no row of a host")?;
-    Ok(format!(in alloc; ", host 5 inc {} seq {} value {}", row.inc.0, row.seq.0, row.value)?)
+    Ok(format!(in alloc;
+        ", host 5 inc {} seq {} value {}",
+        row.inc.0, row.seq.0, row.value
+    )?)
 }
 
 /// What is kept, in a line.

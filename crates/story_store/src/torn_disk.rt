@@ -1,6 +1,6 @@
 //! A disk that is stopped, and what the stop may leave of it.
 
-ghost use Rattle.std.specs.Prelude.{◌≡◌, ◌≤◌, None, drop, length, IfOk};
+ghost use Rattle.std.specs.Prelude.{◌≡◌, ◌≤◌, None};
 ghost use Rattle.std.proofs.Common.{inl};
 ghost use Rattle.nq_disk.specs.FileLaws.{Anything, counts-itself, counts-on};
 ghost use Rattle.nq_io.specs.Faults.{Rose, count_up};
@@ -54,11 +54,7 @@ fn write_over(into: &mut Vec<u8>, place: usize, bytes: &[u8]) -> Result<(), NoMe
 /// The bytes of a range, as far as there are any.
 fn part(bytes: &[u8], place: usize, count: usize) -> &[u8] {
     let end = place.saturating_add(count).min(bytes.len());
-    if place < end {
-        &bytes[place..end]
-    } else {
-        &[]
-    }
+    if place < end { &bytes[place..end] } else { &[] }
 }
 
 impl<D: Disk + Drop> TornDisk<D> {
@@ -145,7 +141,11 @@ impl<D: Disk + Drop> TornDisk<D> {
         let mut bits = came;
         for open in &self.open {
             if bits % 2 == 1 {
-                write_over(&mut image, open.place, part(&self.now, open.place, open.count))?;
+                write_over(
+                    &mut image,
+                    open.place,
+                    part(&self.now, open.place, open.count),
+                )?;
             }
             bits /= 2;
         }
@@ -164,7 +164,11 @@ impl<D: Disk + Drop> TornDisk<D> {
             write_over(&mut image, open.place, part(&self.now, open.place, front))?;
             let wild = [random.byte(), random.byte(), random.byte(), random.byte()];
             let rest = (open.count.saturating_sub(front)).min(random.below(5));
-            write_over(&mut image, open.place.saturating_add(front), part(&wild, 0, rest))?;
+            write_over(
+                &mut image,
+                open.place.saturating_add(front),
+                part(&wild, 0, rest),
+            )?;
         }
         Ok(image)
     }
