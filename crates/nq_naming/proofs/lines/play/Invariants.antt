@@ -1,0 +1,20 @@
+use Rattle.std.proofs.Common.{◌≡◌, ◌+◌, [], drop, length}
+use Rattle.nq_model.specs.World.{Head}
+use Rattle.nq_name_script.specs.Text.{mixed}
+use Rattle.nq_names.specs.Playing.{PlaysOutside}
+use Rattle.nq_naming.proofs.Onward.{IsOn}
+use Rattle.nq_naming.specs.Going.{IsAtMoment}
+use Rattle.nq_naming.specs.Playing.{first_moment, play_lines}
+use Rattle.nq_world.specs.Playing.{HasSettings}
+use Rattle.nq_naming.proofs.lines.play.Given as goal
+
+abbrev pub invariant-loop-place : goal.invariant-loop-place
+invariant-loop-place g l = record {
+  on : (head : Head) → head.hosts ≡ l.script.script.head.hosts → PlaysOutside head [] l.fn.world (g.K.Keeper.content l.fn.world.inner.server.keeper)
+      → IsOn (λ m. IsAtMoment head m l.world (g.K.Keeper.content l.world.inner.server.keeper) l.delivered l.found.items)
+      (play_lines head l.most (l.script.script.first + l.place) (drop l.place (mixed l.script.asides.items l.script.script.lines)))
+      (play_lines head l.most l.script.script.first (mixed l.script.asides.items l.script.script.lines) first_moment);
+  faults : g.K.Keeper.faults l.world.inner.server.keeper ≡ g.K.Keeper.faults l.fn.world.inner.server.keeper;
+  follows : g.K.Keeper.follows l.fn.world.inner.server.keeper l.world.inner.server.keeper;
+  settings : HasSettings (length l.fn.world.inner.clients) l.fn.world.inner.skew.window l.fn.world.inner.term l.world.inner;
+}

@@ -1,0 +1,4 @@
+pub mod Playing
+pub mod Finding
+pub mod Going
+pub mod Running

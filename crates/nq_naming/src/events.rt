@@ -1,0 +1,192 @@
+//! Events of a schedule with lists, one after another. Packets are those that travel outside.
+
+ghost use Rattle.std.specs.Prelude.{◌≡◌, ◌≤◌, ℕ, List, ◌∷◌, length};
+ghost use Rattle.nq_base.specs.declared.Event.{Event};
+ghost use Rattle.nq_names.specs.Playing.{CanComeOutside};
+ghost use Rattle.nq_model.specs.World.{Head};
+ghost use Rattle.nq_play.specs.Delivering.{Marks};
+ghost use Rattle.nq_naming.specs.Going.{Goes, HasFlagOutside, IsAt};
+ghost use Rattle.nq_naming.specs.Playing.{plain_events, play_event, play_flow, play_round, play_ticks, repeated};
+ghost use Rattle.nq_names_run.specs.declared.NameEvent.{NameEvent};
+ghost use Rattle.nq_world.specs.Playing.{CountsFaults, HasSettings};
+
+use nq_base::{Event, Host};
+use nq_keeper::Keeper;
+use nq_names::NameWorld;
+use nq_names_run::NameEvent;
+use nq_play::Delivered;
+use nq_world::{Limit, Stepped};
+
+/// Notes an event that was taken, if it is the delivery of a packet with a flag.
+fn note(delivered: &mut Delivered, event: &NameEvent)
+    ensures { HasFlagOutside (length delivered.old) event.now → (events : List NameEvent) → Marks delivered.old (plain_events events) → Marks delivered.new (plain_events (event.now ∷ events)) }
+{
+    match event {
+        NameEvent::Plain(event) => nq_play::note(delivered, event),
+        NameEvent::List(..) => {}
+    }
+}
+
+/// Gives an event to a world, and notes which packet was delivered.
+pub(crate) fn take<K: Keeper>(
+    world: &mut NameWorld<K>,
+    delivered: &mut Delivered,
+    event: &NameEvent,
+) -> Stepped
+    requires { CanComeOutside (length world.old.inner.clients) world.old.inner.skew.window event.now }
+    ensures goes { (head : Head) (events : List NameEvent) → IsAt head events world.old (K.content world.old.inner.server.keeper) delivered.old
+        → Goes result (play_event head event.now events) (λ es. IsAt head es world.new (K.content world.new.inner.server.keeper) delivered.new) }
+    ensures faults { CountsFaults result (K.faults world.old.inner.server.keeper) (K.faults world.new.inner.server.keeper) }
+    ensures follows { K.follows world.old.inner.server.keeper world.new.inner.server.keeper }
+    ensures settings { HasSettings (length world.old.inner.clients) world.old.inner.skew.window world.old.inner.term world.new.inner }
+{
+    let Ok(sent) = world.sent() else {
+        return Stepped::Memory;
+    };
+    let Ok(()) = delivered.reach(sent as usize) else {
+        return Stepped::Memory;
+    };
+    match world.step(event) {
+        Stepped::Done => {
+            note(delivered, event);
+            Stepped::Done
+        }
+        other => other,
+    }
+}
+
+/// Gives an event so many times.
+pub(crate) fn take_times<K: Keeper>(
+    world: &mut NameWorld<K>,
+    delivered: &mut Delivered,
+    event: &NameEvent,
+    times: u32,
+) -> Stepped
+    requires { CanComeOutside (length world.old.inner.clients) world.old.inner.skew.window event.now }
+    ensures goes { (head : Head) (events : List NameEvent) → IsAt head events world.old (K.content world.old.inner.server.keeper) delivered.old
+        → Goes result (repeated times (play_event head event.now) events) (λ es. IsAt head es world.new (K.content world.new.inner.server.keeper) delivered.new) }
+    ensures faults { CountsFaults result (K.faults world.old.inner.server.keeper) (K.faults world.new.inner.server.keeper) }
+    ensures follows { K.follows world.old.inner.server.keeper world.new.inner.server.keeper }
+    ensures settings { HasSettings (length world.old.inner.clients) world.old.inner.skew.window world.old.inner.term world.new.inner }
+{
+    for turn in 0..times {
+        match take(world, delivered, event) {
+            Stepped::Done => {}
+            other => return other,
+        }
+    }
+    Stepped::Done
+}
+
+/// Gives a tick of the server's clock.
+fn tick_server<K: Keeper>(world: &mut NameWorld<K>, delivered: &mut Delivered) -> Stepped
+    ensures goes { (head : Head) (events : List NameEvent) → IsAt head events world.old (K.content world.old.inner.server.keeper) delivered.old
+        → Goes result (play_event head (NameEvent.Plain Event.ServerTick) events) (λ es. IsAt head es world.new (K.content world.new.inner.server.keeper) delivered.new) }
+    ensures faults { CountsFaults result (K.faults world.old.inner.server.keeper) (K.faults world.new.inner.server.keeper) }
+    ensures follows { K.follows world.old.inner.server.keeper world.new.inner.server.keeper }
+    ensures settings { HasSettings (length world.old.inner.clients) world.old.inner.skew.window world.old.inner.term world.new.inner }
+{
+    let event = NameEvent::Plain(Event::ServerTick);
+    take(world, delivered, &event)
+}
+
+/// The clocks of so many hosts tick.
+fn tick_hosts<K: Keeper>(world: &mut NameWorld<K>, delivered: &mut Delivered, hosts: u32) -> Stepped
+    requires { hosts ≤ length world.old.inner.clients }
+    ensures goes { (head : Head) (events : List NameEvent) → IsAt head events world.old (K.content world.old.inner.server.keeper) delivered.old
+        → Goes result (play_ticks head 0 hosts events) (λ es. IsAt head es world.new (K.content world.new.inner.server.keeper) delivered.new) }
+    ensures faults { CountsFaults result (K.faults world.old.inner.server.keeper) (K.faults world.new.inner.server.keeper) }
+    ensures follows { K.follows world.old.inner.server.keeper world.new.inner.server.keeper }
+    ensures settings { HasSettings (length world.old.inner.clients) world.old.inner.skew.window world.old.inner.term world.new.inner }
+{
+    for host in 0..hosts {
+        let event = NameEvent::Plain(Event::ClientTick(Host(host)));
+        match take(world, delivered, &event) {
+            Stepped::Done => {}
+            other => return other,
+        }
+    }
+    Stepped::Done
+}
+
+/// The clock of each host ticks, then the server's.
+fn round<K: Keeper>(world: &mut NameWorld<K>, delivered: &mut Delivered, hosts: u32) -> Stepped
+    requires { hosts ≤ length world.old.inner.clients }
+    ensures goes { (head : Head) (events : List NameEvent) → head.hosts ≡ hosts → IsAt head events world.old (K.content world.old.inner.server.keeper) delivered.old
+        → Goes result (play_round head events) (λ es. IsAt head es world.new (K.content world.new.inner.server.keeper) delivered.new) }
+    ensures faults { CountsFaults result (K.faults world.old.inner.server.keeper) (K.faults world.new.inner.server.keeper) }
+    ensures follows { K.follows world.old.inner.server.keeper world.new.inner.server.keeper }
+    ensures settings { HasSettings (length world.old.inner.clients) world.old.inner.skew.window world.old.inner.term world.new.inner }
+{
+    match tick_hosts(world, delivered, hosts) {
+        Stepped::Done => tick_server(world, delivered),
+        other => other,
+    }
+}
+
+/// So many rounds.
+pub(crate) fn rounds<K: Keeper>(
+    world: &mut NameWorld<K>,
+    delivered: &mut Delivered,
+    hosts: u32,
+    times: u32,
+) -> Stepped
+    requires { hosts ≤ length world.old.inner.clients }
+    ensures goes { (head : Head) (events : List NameEvent) → head.hosts ≡ hosts → IsAt head events world.old (K.content world.old.inner.server.keeper) delivered.old
+        → Goes result (repeated times (play_round head) events) (λ es. IsAt head es world.new (K.content world.new.inner.server.keeper) delivered.new) }
+    ensures faults { CountsFaults result (K.faults world.old.inner.server.keeper) (K.faults world.new.inner.server.keeper) }
+    ensures follows { K.follows world.old.inner.server.keeper world.new.inner.server.keeper }
+    ensures settings { HasSettings (length world.old.inner.clients) world.old.inner.skew.window world.old.inner.term world.new.inner }
+{
+    for turn in 0..times {
+        match round(world, delivered, hosts) {
+            Stepped::Done => {}
+            other => return other,
+        }
+    }
+    Stepped::Done
+}
+
+/// Gives the delivery of a packet that travels.
+pub(crate) fn deliver<K: Keeper>(
+    world: &mut NameWorld<K>,
+    delivered: &mut Delivered,
+    packet: u64,
+) -> Stepped
+    ensures goes { (head : Head) (events : List NameEvent) → IsAt head events world.old (K.content world.old.inner.server.keeper) delivered.old
+        → Goes result (play_event head (NameEvent.Plain (Event.Deliver packet)) events) (λ es. IsAt head es world.new (K.content world.new.inner.server.keeper) delivered.new) }
+    ensures faults { CountsFaults result (K.faults world.old.inner.server.keeper) (K.faults world.new.inner.server.keeper) }
+    ensures follows { K.follows world.old.inner.server.keeper world.new.inner.server.keeper }
+    ensures settings { HasSettings (length world.old.inner.clients) world.old.inner.skew.window world.old.inner.term world.new.inner }
+{
+    let event = NameEvent::Plain(Event::Deliver(packet));
+    take(world, delivered, &event)
+}
+
+/// The least packet that was never delivered is delivered, again and again, until each packet was; so many deliveries are too
+/// many events.
+pub(crate) fn flow<K: Keeper>(
+    world: &mut NameWorld<K>,
+    delivered: &mut Delivered,
+    most: u32,
+) -> Stepped
+    ensures goes { (head : Head) (events : List NameEvent) → IsAt head events world.old (K.content world.old.inner.server.keeper) delivered.old
+        → Goes result (play_flow head most events) (λ es. IsAt head es world.new (K.content world.new.inner.server.keeper) delivered.new) }
+    ensures faults { CountsFaults result (K.faults world.old.inner.server.keeper) (K.faults world.new.inner.server.keeper) }
+    ensures follows { K.follows world.old.inner.server.keeper world.new.inner.server.keeper }
+    ensures settings { HasSettings (length world.old.inner.clients) world.old.inner.skew.window world.old.inner.term world.new.inner }
+{
+    for turn in 0..most {
+        let Ok(sent) = world.sent() else {
+            return Stepped::Memory;
+        };
+        match delivered.next(sent as usize) {
+            None => return Stepped::Done,
+            Some(packet) => match deliver(world, delivered, packet as u64) {
+                Stepped::Done => {}
+                other => return other,
+            },
+        }
+    }
+    Stepped::Limit(Limit::Events)
+}

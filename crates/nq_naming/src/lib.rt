@@ -1,0 +1,14 @@
+//! A schedule in which hosts list directories and find names is run, and the schedule of the inner world, its journal, and what was
+//! found are printed.
+//!
+//! How a schedule with lists is played stands in `specs/Playing`, what its finds say in `specs/Finding`, and what is printed in
+//! `specs/Running`.
+#![tactic(auto)]
+
+mod events;
+mod lines;
+mod printing;
+mod running;
+mod schedules;
+
+pub use running::run_names;

@@ -1,0 +1,243 @@
+//! Lines of a schedule with lists, one after another.
+
+ghost use Rattle.std.specs.Prelude.{◌≡◌, ◌≤◌, ◌+◌, ◌^◌, ◌<◌, ℕ, Bool, List, [], Option, length, slice_get, Some, OnOk};
+ghost use Rattle.nq_names.specs.Playing.{PlaysOutside};
+ghost use Rattle.nq_model.specs.World.{Head};
+ghost use Rattle.nq_play.specs.Going.{AreForWorld, IsForWorld, said};
+ghost use Rattle.nq_play.specs.declared.Played.{Played};
+ghost use Rattle.nq_script.specs.declared.lines.Line.{Line};
+ghost use Rattle.nq_model.specs.Kept.{Kept};
+ghost use Rattle.nq_naming.specs.Going.{Comes, Goes, IsAt, IsAtEnd, IsAtMoment};
+ghost use Rattle.nq_naming.specs.Playing.{Moment, first_moment, play_event, play_line, play_lines, play_plain, with_find};
+ghost use Rattle.nq_name_script.specs.Text.{AreForHosts, IsOfHost, NamesLine, aside_at, beside, mixed};
+ghost use Rattle.nq_names_run.specs.declared.NameEvent.{NameEvent};
+ghost use Rattle.nq_world.specs.Playing.{CountsFaults, HasSettings};
+
+use crate::events::{deliver, flow, rounds, take, take_times};
+use crate::printing::push_find;
+use nq_base::{Host, Name, NoMemory};
+use nq_directory::Prefix;
+use nq_keeper::Keeper;
+use nq_name_script::{Aside, NamesScript};
+use nq_names::NameWorld;
+use nq_names_run::NameEvent;
+use nq_play::{Delivered, Played};
+use nq_script::{Line, Lines};
+use nq_world::Stepped;
+use std::alloc::Global;
+
+/// Plays a line of a schedule, where a flow may have so many deliveries.
+fn play_plain<K: Keeper>(
+    world: &mut NameWorld<K>,
+    delivered: &mut Delivered,
+    hosts: u32,
+    most: u32,
+    line: Line,
+) -> Stepped
+    requires hosts { hosts ≤ length world.old.inner.clients }
+    requires can { IsForWorld (length world.old.inner.clients) world.old.inner.skew.window line }
+    ensures goes { (head : Head) (events : List NameEvent) → head.hosts ≡ hosts
+        → IsAt head events world.old (K.content world.old.inner.server.keeper) delivered.old
+        → Goes result (play_plain head most line events) (λ es. IsAt head es world.new (K.content world.new.inner.server.keeper) delivered.new) }
+    ensures faults { CountsFaults result (K.faults world.old.inner.server.keeper) (K.faults world.new.inner.server.keeper) }
+    ensures follows { K.follows world.old.inner.server.keeper world.new.inner.server.keeper }
+    ensures settings { HasSettings (length world.old.inner.clients) world.old.inner.skew.window world.old.inner.term world.new.inner }
+{
+    match line {
+        Line::Events { event, times } => {
+            let event = NameEvent::Plain(event);
+            take_times(world, delivered, &event, times)
+        }
+        Line::Round(times) => rounds(world, delivered, hosts, times),
+        Line::Flow => flow(world, delivered, most),
+        Line::End => Stepped::Done,
+    }
+}
+
+/// Plays the line of a schedule at a place, of which a second one is made.
+fn play_second<K: Keeper>(
+    world: &mut NameWorld<K>,
+    delivered: &mut Delivered,
+    hosts: u32,
+    most: u32,
+    lines: &Lines,
+    place: usize,
+) -> Stepped
+    requires hosts { hosts ≤ length world.old.inner.clients }
+    requires can { AreForWorld (length world.old.inner.clients) world.old.inner.skew.window lines.now }
+    requires below { place < length lines.now }
+    ensures goes { (line : Line) → slice_get lines.now place ≡ Some line → (head : Head) (events : List NameEvent) → head.hosts ≡ hosts
+        → IsAt head events world.old (K.content world.old.inner.server.keeper) delivered.old
+        → Goes result (play_plain head most line events) (λ es. IsAt head es world.new (K.content world.new.inner.server.keeper) delivered.new) }
+    ensures faults { CountsFaults result (K.faults world.old.inner.server.keeper) (K.faults world.new.inner.server.keeper) }
+    ensures follows { K.follows world.old.inner.server.keeper world.new.inner.server.keeper }
+    ensures settings { HasSettings (length world.old.inner.clients) world.old.inner.skew.window world.old.inner.term world.new.inner }
+{
+    match lines.get(place) {
+        Some(line) => play_plain(world, delivered, hosts, most, line),
+        None => unreachable!(),
+    }
+}
+
+/// Plays the line of a schedule at a place. A delivery, which most lines are, makes no second line.
+fn play_plain_at<K: Keeper>(
+    world: &mut NameWorld<K>,
+    delivered: &mut Delivered,
+    hosts: u32,
+    most: u32,
+    lines: &Lines,
+    place: usize,
+) -> Stepped
+    requires hosts { hosts ≤ length world.old.inner.clients }
+    requires can { AreForWorld (length world.old.inner.clients) world.old.inner.skew.window lines.now }
+    requires below { place < length lines.now }
+    ensures goes { (line : Line) → slice_get lines.now place ≡ Some line → (head : Head) (events : List NameEvent) → head.hosts ≡ hosts
+        → IsAt head events world.old (K.content world.old.inner.server.keeper) delivered.old
+        → Goes result (play_plain head most line events) (λ es. IsAt head es world.new (K.content world.new.inner.server.keeper) delivered.new) }
+    ensures faults { CountsFaults result (K.faults world.old.inner.server.keeper) (K.faults world.new.inner.server.keeper) }
+    ensures follows { K.follows world.old.inner.server.keeper world.new.inner.server.keeper }
+    ensures settings { HasSettings (length world.old.inner.clients) world.old.inner.skew.window world.old.inner.term world.new.inner }
+{
+    match lines.packet_at(place) {
+        Some(packet) => deliver(world, delivered, packet),
+        None => play_second(world, delivered, hosts, most, lines, place),
+    }
+}
+
+/// A host asks for the list of a directory.
+fn list<K: Keeper>(
+    world: &mut NameWorld<K>,
+    delivered: &mut Delivered,
+    host: Host,
+    prefix: &Prefix,
+) -> Stepped
+    requires { host < length world.old.inner.clients }
+    ensures goes { (head : Head) (events : List NameEvent) → IsAt head events world.old (K.content world.old.inner.server.keeper) delivered.old
+        → Goes result (play_event head (NameEvent.List host prefix.now) events) (λ es. IsAt head es world.new (K.content world.new.inner.server.keeper) delivered.new) }
+    ensures faults { CountsFaults result (K.faults world.old.inner.server.keeper) (K.faults world.new.inner.server.keeper) }
+    ensures follows { K.follows world.old.inner.server.keeper world.new.inner.server.keeper }
+    ensures settings { HasSettings (length world.old.inner.clients) world.old.inner.skew.window world.old.inner.term world.new.inner }
+{
+    let event = NameEvent::List(host, *prefix);
+    take(world, delivered, &event)
+}
+
+/// A host looks a name up, and the line of what it knows is appended.
+fn find<K: Keeper>(
+    world: &NameWorld<K>,
+    found: &mut Vec<u8>,
+    host: Host,
+    name: &Name,
+) -> Result<(), NoMemory>
+    requires { host < length world.now.inner.clients }
+    ensures { OnOk result ((head : Head) (m : Moment) (told : Option Kept) (flags : List Bool) → IsAtMoment head m world.now told flags found.old.items
+        → IsAtMoment head (with_find m host name.now) world.now told flags found.new.items) }
+{
+    let known = world.find(host, name);
+    let events = world.ran().len() as u64;
+    push_find(found, host, name, events, known)
+}
+
+/// Plays a line that is none of a schedule.
+fn play_aside<K: Keeper>(
+    world: &mut NameWorld<K>,
+    delivered: &mut Delivered,
+    found: &mut Vec<u8>,
+    aside: &Aside,
+) -> Stepped
+    requires { IsOfHost (length world.old.inner.clients) aside.now }
+    ensures goes { (head : Head) (most : ℕ) (m : Moment) → IsAtMoment head m world.old (K.content world.old.inner.server.keeper) delivered.old found.old.items
+        → Goes result (play_line head most (beside aside.now) m) (λ n. IsAtMoment head n world.new (K.content world.new.inner.server.keeper) delivered.new found.new.items) }
+    ensures faults { CountsFaults result (K.faults world.old.inner.server.keeper) (K.faults world.new.inner.server.keeper) }
+    ensures follows { K.follows world.old.inner.server.keeper world.new.inner.server.keeper }
+    ensures settings { HasSettings (length world.old.inner.clients) world.old.inner.skew.window world.old.inner.term world.new.inner }
+{
+    match aside {
+        Aside::List(host, prefix) => list(world, delivered, *host, prefix),
+        Aside::Find(host, name) => match find(world, found, *host, name) {
+            Ok(()) => Stepped::Done,
+            Err(NoMemory::Memory) => Stepped::Memory,
+        },
+    }
+}
+
+/// What a host does in the line at a place, if it is none of a schedule.
+fn aside_at(asides: &[Option<Aside>], place: usize) -> Option<Aside>
+    ensures { result ≡ aside_at asides.now place }
+{
+    match asides.get(place) {
+        Some(aside) => *aside,
+        None => None,
+    }
+}
+
+/// Plays the line at a place, and appends what it found.
+fn play_at<K: Keeper>(
+    world: &mut NameWorld<K>,
+    delivered: &mut Delivered,
+    found: &mut Vec<u8>,
+    hosts: u32,
+    most: u32,
+    script: &NamesScript,
+    place: usize,
+) -> Stepped
+    requires hosts { hosts ≤ length world.old.inner.clients }
+    requires asides { AreForHosts (length world.old.inner.clients) script.now.asides.items }
+    requires can { AreForWorld (length world.old.inner.clients) world.old.inner.skew.window script.now.script.lines }
+    requires below { place < length script.now.script.lines }
+    ensures goes { (line : NamesLine) → slice_get (mixed script.now.asides.items script.now.script.lines) place ≡ Some line → (head : Head) (m : Moment) → head.hosts ≡ hosts
+        → IsAtMoment head m world.old (K.content world.old.inner.server.keeper) delivered.old found.old.items
+        → Goes result (play_line head most line m) (λ n. IsAtMoment head n world.new (K.content world.new.inner.server.keeper) delivered.new found.new.items) }
+    ensures faults { CountsFaults result (K.faults world.old.inner.server.keeper) (K.faults world.new.inner.server.keeper) }
+    ensures follows { K.follows world.old.inner.server.keeper world.new.inner.server.keeper }
+    ensures settings { HasSettings (length world.old.inner.clients) world.old.inner.skew.window world.old.inner.term world.new.inner }
+{
+    match aside_at(&script.asides, place) {
+        Some(aside) => play_aside(world, delivered, found, &aside),
+        None => play_plain_at(world, delivered, hosts, most, &script.script.lines, place),
+    }
+}
+
+/// Where playing stopped. There are fewer lines than a number can count.
+fn stopped(first: u32, place: usize, answer: Stepped) -> Played
+    requires { first + place < 2 ^ 32 }
+    ensures { result ≡ Played.Stopped (first + place) answer }
+{
+    Played::Stopped {
+        line: first + place as u32,
+        answer,
+    }
+}
+
+/// Plays lines over a world of so many hosts, in which nothing was played before, and appends what was found. A flow may have so many
+/// deliveries.
+pub(crate) fn play<K: Keeper>(
+    alloc: Global,
+    world: &mut NameWorld<K>,
+    found: &mut Vec<u8>,
+    most: u32,
+    script: &NamesScript,
+) -> Played
+    requires hosts { script.now.script.head.hosts ≤ length world.old.inner.clients }
+    requires asides { AreForHosts (length world.old.inner.clients) script.now.asides.items }
+    requires can { AreForWorld (length world.old.inner.clients) world.old.inner.skew.window script.now.script.lines }
+    requires few { script.now.script.first + length script.now.script.lines < 2 ^ 32 }
+    requires none { found.old.items ≡ [] }
+    ensures comes { (head : Head) → head.hosts ≡ script.now.script.head.hosts → PlaysOutside head [] world.old (K.content world.old.inner.server.keeper)
+        → Comes result (play_lines head most script.now.script.first (mixed script.now.asides.items script.now.script.lines) first_moment)
+        (λ m. IsAtEnd head m world.new (K.content world.new.inner.server.keeper) found.new.items) }
+    ensures stops { said result ≡ Stepped.Done → result ≡ Played.All }
+    ensures faults { CountsFaults (said result) (K.faults world.old.inner.server.keeper) (K.faults world.new.inner.server.keeper) }
+    ensures follows { K.follows world.old.inner.server.keeper world.new.inner.server.keeper }
+{
+    let hosts = script.script.head.hosts;
+    let first = script.script.first;
+    let mut delivered = Delivered::new(alloc);
+    for place in 0..script.script.lines.len() {
+        match play_at(world, &mut delivered, found, hosts, most, script, place) {
+            Stepped::Done => {}
+            answer => return stopped(first, place, answer),
+        }
+    }
+    Played::All
+}

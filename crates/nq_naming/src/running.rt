@@ -1,0 +1,229 @@
+//! Running a schedule with lists.
+
+ghost use Rattle.std.specs.Prelude.{◌≡◌, ◌⊎◌, ◌<◌, ◌≤◌, ◌^◌, ℕ, List, [], Some, length, IfOk};
+ghost use Rattle.nq_base.specs.declared.SkewBroken.{SkewBroken};
+ghost use Rattle.nq_names.specs.Playing.{PlaysOutside};
+ghost use Rattle.nq_ending.specs.declared.Ending.{Ending};
+ghost use Rattle.nq_keeper.specs.StoredKeeper.{empty_kept};
+ghost use Rattle.nq_model.specs.Stepped.{out_of_skew};
+ghost use Rattle.nq_play.specs.Playing.{beginning};
+ghost use Rattle.nq_play.specs.declared.Played.{Played};
+ghost use Rattle.nq_replay.specs.Ending.{IsUnlessFault};
+ghost use Rattle.nq_replay.specs.Schedules.{HasReason, NeverFails};
+ghost use Rattle.nq_replay.specs.declared.Bound.{Bound};
+ghost use Rattle.nq_script.specs.Heads.{FitsHead};
+ghost use Rattle.nq_script.specs.declared.heads.Head.{Head};
+ghost use Rattle.nq_naming.specs.Going.{Comes, IsAtEnd};
+ghost use Rattle.nq_naming.specs.Playing.{Ended, Moment, play};
+ghost use Rattle.nq_naming.specs.Running.{EndsNames, EndsNamesPlayed, EndsNamesText, FaultyNames, IsTold, PassesNames, PrintsRun, RunsNames, StopsNames};
+ghost use Rattle.nq_name_script.specs.Text.{IsReadyNames, mixed};
+ghost use Rattle.nq_world.specs.Playing.{HasSettings};
+
+use crate::lines::play;
+use crate::printing::print_parts;
+use crate::schedules::schedule_text;
+use nq_base::NoMemory;
+use nq_ending::Ending;
+use nq_io::{Sink, Source, Whole, read_all};
+use nq_keeper::{Keeper, ListKeeper};
+use nq_name_script::{NamesScript, read_script};
+use nq_names::NameWorld;
+use nq_play::Played;
+use nq_replay::{begin_surely, tell_over, tell_script, tell_stop};
+use nq_script::{Head, ScriptFault};
+use nq_world::{MOST_EVENTS, NewFault};
+use std::alloc::Global;
+
+/// Reads a schedule with lists to the end of the input, of at most so many bytes, and runs it: a schedule of version 2 that may have
+/// lines `list H PREFIX` and `find H NAME`, whose `deliver` and `flow` speak of the packets that travel outside. Prints the schedule of
+/// the inner world that was run, in version 2, its journal, and for each `find` the line `find H NAME at E F`, where E is the number of
+/// inner events before it, and F the id of the file, 0 where no file has the name, or `none` where the host does not know. How it ends:
+///
+/// - `Done`: all of that was printed.
+/// - `Script`: a line is outside the grammar, or delivers a packet that does not travel; prints `script line N`, with lines counted
+///   from 1.
+/// - `Skew`: a tick of the server's clock breaks the rule on skew (Macklem 1994); prints `skew line N host H server S client C` with
+///   the lowest such host, and how often both clocks ticked in the shortest part of the inner schedule that breaks the rule.
+/// - `ReadFault`: the source failed, which it has counted, behind a front of what was left in it; prints nothing.
+/// - `WriteFault`: the sink failed, which it has counted; a front of what is to be printed is printed.
+/// - `Memory`: memory was wanting; a front of what is to be printed may be printed.
+/// - `Limit`: the input has more bytes than the limit, the schedule more than 100,000 events, or an event comes after more than
+///   999,936 packets outside; prints `limit line N bytes`, `events` or `packets` with the line of the first byte beyond them, or of
+///   the event.
+pub fn run_names<S: Source, K: Sink>(
+    alloc: Global,
+    input: &mut S,
+    out: &mut K,
+    limit: usize,
+) -> Ending
+    requires { limit < 2 ^ 31 }
+    ensures ends { EndsNames result limit (S.left input.old) (S.left input.new) (K.held out.old) (K.held out.new)
+        (S.faults input.old) (S.faults input.new) (K.faults out.old) (K.faults out.new) }
+    ensures usage { result ≡ Ending.Usage → ⊥ }
+    ensures limit { (text : List ℕ) → S.left input.old ≡ Some text → limit < length text
+        → IsUnlessFault result Ending.Limit (S.faults input.old) (S.faults input.new) (K.faults out.old) (K.faults out.new) }
+    ensures script { (text : List ℕ) → S.left input.old ≡ Some text → length text ≤ limit
+        → (number : ℕ) → FaultyNames text number
+        → IsUnlessFault result Ending.Script (S.faults input.old) (S.faults input.new) (K.faults out.old) (K.faults out.new) }
+    ensures skew { (text : List ℕ) → S.left input.old ≡ Some text → length text ≤ limit
+        → (number : ℕ) (broken : SkewBroken) → StopsNames text number (out_of_skew broken)
+        → IsUnlessFault result Ending.Skew (S.faults input.old) (S.faults input.new) (K.faults out.old) (K.faults out.new) }
+    ensures passes { (text : List ℕ) → S.left input.old ≡ Some text → length text ≤ limit
+        → (number : ℕ) (bound : Bound) → PassesNames text number bound
+        → IsUnlessFault result Ending.Limit (S.faults input.old) (S.faults input.new) (K.faults out.old) (K.faults out.new) }
+    ensures done { (text : List ℕ) → S.left input.old ≡ Some text → length text ≤ limit
+        → (head : Head) (m : Moment) → RunsNames text head m
+        → IsUnlessFault result Ending.Done (S.faults input.old) (S.faults input.new) (K.faults out.old) (K.faults out.new) }
+{
+    match read_all(alloc, input, limit) {
+        Whole::All(text) => run_text(alloc, &text, out),
+        Whole::Over(front) => tell_over(alloc, &front, out),
+        Whole::Failed => Ending::ReadFault,
+        Whole::Memory => Ending::Memory,
+    }
+}
+
+/// Runs a schedule with lists that was read, and prints what it made or the line at which it stopped.
+fn run_text<K: Sink>(alloc: Global, text: &[u8], out: &mut K) -> Ending
+    requires { length text.now < 2 ^ 31 }
+    ensures ends { EndsNamesText result text.now (K.held out.old) (K.held out.new) (K.faults out.old) (K.faults out.new) }
+    ensures script { (number : ℕ) → FaultyNames text.now number
+        → IsUnlessFault result Ending.Script 0 0 (K.faults out.old) (K.faults out.new) }
+    ensures skew { (number : ℕ) (broken : SkewBroken) → StopsNames text.now number (out_of_skew broken)
+        → IsUnlessFault result Ending.Skew 0 0 (K.faults out.old) (K.faults out.new) }
+    ensures passes { (number : ℕ) (bound : Bound) → PassesNames text.now number bound
+        → IsUnlessFault result Ending.Limit 0 0 (K.faults out.old) (K.faults out.new) }
+    ensures done { (head : Head) (m : Moment) → RunsNames text.now head m
+        → IsUnlessFault result Ending.Done 0 0 (K.faults out.old) (K.faults out.new) }
+{
+    match read_script(alloc, text) {
+        Ok(script) => run_in_memory(alloc, &script, out),
+        Err(ScriptFault::Bad(number)) => tell_script(alloc, number, out),
+        Err(ScriptFault::Memory) => Ending::Memory,
+    }
+}
+
+/// Runs a schedule with lists over a keeper in memory, which is told to fail in no call.
+fn run_in_memory<K: Sink>(alloc: Global, script: &NamesScript, out: &mut K) -> Ending
+    requires { IsReadyNames script.now.script script.now.asides.items }
+    ensures { EndsNamesPlayed result script.now.script.head (play script.now.script.head (mixed script.now.asides.items script.now.script.lines))
+        (K.held out.old) (K.held out.new) (K.faults out.old) (K.faults out.new) }
+{
+    match ListKeeper::new(alloc, Vec::new(alloc)) {
+        Ok(keeper) => run_over(alloc, script, keeper, out),
+        Err(_) => Ending::Memory,
+    }
+}
+
+/// Runs a schedule with lists over a keeper that keeps nothing yet and never fails, and prints what it made or the line at which it
+/// stopped.
+fn run_over<L: Keeper + Drop, K: Sink>(
+    alloc: Global,
+    script: &NamesScript,
+    keeper: L,
+    out: &mut K,
+) -> Ending
+    requires ready { IsReadyNames script.now.script script.now.asides.items }
+    requires empty { L.content keeper ≡ Some empty_kept }
+    requires never { NeverFails L.faults L.follows keeper }
+    ensures { EndsNamesPlayed result script.now.script.head (play script.now.script.head (mixed script.now.asides.items script.now.script.lines))
+        (K.held out.old) (K.held out.new) (K.faults out.old) (K.faults out.new) }
+{
+    let Ok(mut world) = begin_names(alloc, &script.script.head, keeper) else {
+        return Ending::Memory;
+    };
+    let mut found = Vec::new(alloc);
+    let played = play_over(alloc, &mut world, &mut found, script);
+    let ending = tell(alloc, &script.script.head, &world, &found, played, out);
+    let _keeper = world.into_keeper();
+    ending
+}
+
+/// The world with leased directories before the first event of a schedule with this head, over a keeper that keeps nothing yet and never fails.
+///
+/// # Errors
+///
+/// Only want of memory.
+fn begin_names<L: Keeper + Drop>(
+    alloc: Global,
+    head: &Head,
+    keeper: L,
+) -> Result<NameWorld<L>, NoMemory>
+    requires fits { FitsHead head.now }
+    requires empty { L.content keeper ≡ Some empty_kept }
+    requires never { NeverFails L.faults L.follows keeper }
+    ensures plays { IfOk result (λ w. PlaysOutside (beginning head.now) [] w (L.content w.inner.server.keeper)) }
+    ensures settings { IfOk result (λ w. HasSettings head.now.hosts head.now.longest head.now.term w.inner) }
+    ensures never { IfOk result (λ w. NeverFails L.faults L.follows w.inner.server.keeper) }
+{
+    let world = begin_surely(alloc, head, keeper)?;
+    match NameWorld::new(alloc, world, head.hosts) {
+        Ok(world) => Ok(world),
+        Err(NewFault::Memory(_keeper)) => Err(NoMemory::Memory),
+        Err(NewFault::Failed(_keeper)) => unreachable!(),
+    }
+}
+
+/// Plays a schedule with lists over a world in which nothing was played before, and appends what was found. A flow may have one delivery
+/// more than there may be events.
+fn play_over<L: Keeper>(
+    alloc: Global,
+    world: &mut NameWorld<L>,
+    found: &mut Vec<u8>,
+    script: &NamesScript,
+) -> Played
+    requires ready { IsReadyNames script.now.script script.now.asides.items }
+    requires settings { HasSettings script.now.script.head.hosts script.now.script.head.longest script.now.script.head.term world.old.inner }
+    requires never { NeverFails L.faults L.follows world.old.inner.server.keeper }
+    requires none { found.old.items ≡ [] }
+    ensures comes { PlaysOutside (beginning script.now.script.head) [] world.old (L.content world.old.inner.server.keeper)
+        → Comes result (play script.now.script.head (mixed script.now.asides.items script.now.script.lines))
+        (λ m. IsAtEnd (beginning script.now.script.head) m world.new (L.content world.new.inner.server.keeper) found.new.items) }
+    ensures reason { HasReason result }
+{
+    let most = MOST_EVENTS + 1;
+    play(alloc, world, found, most, script)
+}
+
+/// Prints what a world made whose schedule with lists was played to its end, or tells where it stopped.
+fn tell<L: Keeper, K: Sink>(
+    alloc: Global,
+    head: &Head,
+    world: &NameWorld<L>,
+    found: &[u8],
+    played: Played,
+    out: &mut K,
+) -> Ending
+    requires fits { FitsHead head.now }
+    requires version { head.now.version ≡ 2 }
+    requires reason { HasReason played }
+    requires told { played ≡ Played.All → IsTold head.now world.now (L.content world.now.inner.server.keeper) }
+    ensures { (due : Ended) → Comes played due (λ m. IsAtEnd (beginning head.now) m world.now (L.content world.now.inner.server.keeper) found.now)
+        → EndsNamesPlayed result head.now due (K.held out.old) (K.held out.new) (K.faults out.old) (K.faults out.new) }
+{
+    match played {
+        Played::All => print_run(alloc, head, world, found, out),
+        Played::Stopped { line, answer } => tell_stop(alloc, line, answer, out),
+    }
+}
+
+/// Prints the schedule of the inner world, its journal, and what was found.
+fn print_run<L: Keeper, K: Sink>(
+    alloc: Global,
+    head: &Head,
+    world: &NameWorld<L>,
+    found: &[u8],
+    out: &mut K,
+) -> Ending
+    requires fits { FitsHead head.now }
+    requires version { head.now.version ≡ 2 }
+    requires told { IsTold head.now world.now (L.content world.now.inner.server.keeper) }
+    ensures { (m : Moment) → IsAtEnd (beginning head.now) m world.now (L.content world.now.inner.server.keeper) found.now
+        → PrintsRun result head.now m (K.held out.old) (K.held out.new) (K.faults out.old) (K.faults out.new)
+        ⊎ ((result ≡ Ending.Memory) × (K.held out.new ≡ K.held out.old)) }
+{
+    let Ok(text) = schedule_text(alloc, head, world.ran()) else {
+        return Ending::Memory;
+    };
+    print_parts(alloc, &text, world.journal(), found, out)
+}
