@@ -17,6 +17,14 @@ IsCheck words = words ≡ codes "check" ∷ []
 abbrev pub IsStaged : List (List ℕ) → Type 0
 IsStaged words = words ≡ codes "staged" ∷ []
 
+-- the one word of a run with lists
+abbrev pub IsNames : List (List ℕ) → Type 0
+IsNames words = words ≡ codes "names" ∷ []
+
+-- the one word of making an image
+abbrev pub IsFormat : List (List ℕ) → Type 0
+IsFormat words = words ≡ codes "format" ∷ []
+
 -- the number from `least` to `most` that a word writes in decimal, without a sign or a needless zero
 unfoldable pub ranged_of : (least most : ℕ) → (word : List ℕ) → Option ℕ
 ranged_of least most word = do
@@ -48,12 +56,14 @@ client_of host inc turns = do
   turns ← ranged_of 1 1000000 turns
   Some (Command.Client host inc turns)
 
--- `replay`, `check` and `staged` stand alone
+-- `replay`, `check`, `staged`, `names` and `format` stand alone
 unfoldable pub alone_of : (name : List ℕ) → Option Command
 alone_of name =
     if bytes_eq name (codes "replay") then Some Command.Replay
     else if bytes_eq name (codes "check") then Some Command.Check
     else if bytes_eq name (codes "staged") then Some Command.Staged
+    else if bytes_eq name (codes "names") then Some Command.Names
+    else if bytes_eq name (codes "format") then Some Command.Format
     else None
 
 -- TURNS and a longest term: 1 to 1,000,000 turns

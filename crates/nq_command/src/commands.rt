@@ -14,6 +14,10 @@ pub enum Command {
     Check,
     /// Reads a staged schedule, and prints the inner schedule that was run, its journal and counts.
     Staged,
+    /// Reads a schedule with lists and finds, and prints the inner schedule that was run, its journal and what was found.
+    Names,
+    /// Makes the image of a server that keeps nothing.
+    Format,
     /// Runs events that a fate chooses.
     Storm {
         /// The kind of the fate: 0 steady, 1 lossy, 2 cut, 3 hostile.
@@ -66,6 +70,10 @@ pub(crate) fn alone(name: &[u8]) -> Option<Command>
         Some(Command::Check)
     } else if name == b"staged".as_slice() {
         Some(Command::Staged)
+    } else if name == b"names".as_slice() {
+        Some(Command::Names)
+    } else if name == b"format".as_slice() {
+        Some(Command::Format)
     } else {
         None
     }

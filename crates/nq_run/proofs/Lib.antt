@@ -6,3 +6,4 @@ pub mod Promises
 pub mod ReplayPromises
 pub mod StormPromises
 pub mod StagedPromises
+pub mod NamesPromises

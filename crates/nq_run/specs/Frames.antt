@@ -6,6 +6,7 @@ use Rattle.nq_command.specs.declared.Command.{Command}
 abbrev pub reads_input : Option Command → Bool
 reads_input (Some Command.Replay) = true
 reads_input (Some Command.Staged) = true
+reads_input (Some Command.Names) = true
 reads_input (Some Command.Check) = true
 reads_input (Some (Command.Client host inc turns)) = true
 reads_input other = false

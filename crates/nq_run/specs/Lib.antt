@@ -7,3 +7,4 @@ pub mod Storming
 pub mod Looping
 pub mod Frames
 pub mod Staging
+pub mod Naming

@@ -27,6 +27,7 @@ use Rattle.nq_storm_rules.specs.Rules.{Rule}
 abbrev pub RunsNothing : Option Command → (told : List (Option Rule)) → Type 0
 RunsNothing (Some Command.Replay) told = ⊥
 RunsNothing (Some Command.Staged) told = ⊥
+RunsNothing (Some Command.Names) told = ⊥
 RunsNothing (Some Command.Check) told = ⊥
 RunsNothing (Some (Command.Serve turns longest)) told = ⊥
 RunsNothing (Some (Command.Client host inc turns)) told = ⊥

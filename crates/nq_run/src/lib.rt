@@ -5,6 +5,7 @@ mod checking;
 mod fates;
 mod hosting;
 mod looping;
+mod naming;
 mod ran;
 mod replaying;
 mod staged;

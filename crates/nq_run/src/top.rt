@@ -1,7 +1,7 @@
 //! Running what the words say.
 
 ghost use Rattle.std.specs.Prelude.{◌≡◌, ◌+◌, ℕ, Some, false, true, length, map};
-ghost use Rattle.nq_command.specs.Commands.{IsCheck, IsReplay, IsStaged, command_of};
+ghost use Rattle.nq_command.specs.Commands.{IsCheck, IsNames, IsReplay, IsStaged, command_of};
 ghost use Rattle.nq_command.specs.declared.Command.{Command};
 ghost use Rattle.nq_ending.specs.Status.{status_of};
 ghost use Rattle.nq_ending.specs.declared.Ending.{Ending};
@@ -15,6 +15,7 @@ ghost use Rattle.nq_run.specs.Fates.{fate_told};
 ghost use Rattle.nq_run.specs.Frames.{makes_a_run, reads_clock, reads_input, uses_fates, uses_keeper, uses_link, uses_links};
 ghost use Rattle.nq_run.specs.Hosting.{Attends, ServesFor};
 ghost use Rattle.nq_run.specs.Looping.{LoopsFor};
+ghost use Rattle.nq_run.specs.Naming.{NamesFor};
 ghost use Rattle.nq_run.specs.Promised.{most_bytes};
 ghost use Rattle.nq_run.specs.Replaying.{ReplaysFor};
 ghost use Rattle.nq_run.specs.Staging.{StagesFor};
@@ -23,6 +24,7 @@ ghost use Rattle.nq_run.specs.Storming.{NeverRuns, RunsNothing, StormsFor};
 use crate::checking::checked;
 use crate::hosting::served;
 use crate::looping::looped;
+use crate::naming::named;
 use crate::ran::Ran;
 use crate::replaying::replayed;
 use crate::staged::staged;
@@ -42,15 +44,15 @@ use std::alloc::Global;
 const MOST_BYTES: usize = 16_777_216;
 
 /// Runs what the words say, with input of at most 16,777,216 bytes: `replay`, `storm` by the first fate of the kind, and `loop` over the
-/// clock and the links, of which the server's is the first, over a keeper that keeps nothing yet; `serve` over the keeper, the link and
-/// the clock; `client` over the link and the clock; `check` and `staged`. The headline of `nq_laws` holds at each moment of the run whose
-/// journal `replay`, `storm`, `loop` or `staged` printed, and that journal is sound for `check`: leases, ticks, restarts and crashes
-/// included. That the schedule is within skew and keeps to the bounds is no premise, since the run itself tests it. What such a run keeps
-/// is what the keeper tells behind it, but for `staged`. What the words have no use for stays as it was: the input, the keeper, the link,
-/// the links of a loop, the clock, the fates.
+/// clock and the links, of which the server's is the first, over a keeper that keeps nothing yet; `serve` over the keeper, the link and the
+/// clock; `client` over the link and the clock; `check`, `staged` and `names`. The headline of `nq_laws` holds at each moment of the run
+/// whose journal `replay`, `storm`, `loop`, `staged` or `names` printed, and that journal is sound for `check`: leases, ticks, restarts and
+/// crashes included. That the schedule is within skew and keeps to the bounds is no premise, since the run itself tests it. What such a run
+/// keeps is what the keeper tells behind it, but for `staged` and `names`. What the words have no use for stays as it was: the input, the
+/// keeper, the link, the links of a loop, the clock, the fates.
 ///
 /// The answer is the exit status, with the keeper. `docs/commands.md` says when each comes, and what is printed then.
-#[tactic(auto, using(crate::proofs::Commands::says_replay, crate::proofs::Commands::says_check, crate::proofs::Commands::says_staged), unfolding(crate::specs::Promised::most_bytes))]
+#[tactic(auto, using(crate::proofs::Commands::says_replay, crate::proofs::Commands::says_check, crate::proofs::Commands::says_staged, crate::proofs::Commands::says_names), unfolding(crate::specs::Promised::most_bytes))]
 pub fn run<S: Source, K: Sink, P: Keeper, L: Link, C: Clock>(
     alloc: Global,
     words: &Words,
@@ -77,6 +79,9 @@ pub fn run<S: Source, K: Sink, P: Keeper, L: Link, C: Clock>(
         (S.faults input.old) (S.faults input.new) (K.faults out.old) (K.faults out.new) }
     ensures stages { IsStaged words.now
         → StagesFor most_bytes result.status (S.left input.old) (S.left input.new) (K.held out.old) (K.held out.new)
+        (S.faults input.old) (S.faults input.new) (K.faults out.old) (K.faults out.new) }
+    ensures names { IsNames words.now
+        → NamesFor most_bytes result.status (S.left input.old) (S.left input.new) (K.held out.old) (K.held out.new)
         (S.faults input.old) (S.faults input.new) (K.faults out.old) (K.faults out.new) }
     ensures serves { (turns longest : ℕ) → command_of words.now ≡ Some (Command.Serve turns longest)
         → ServesFor P.content P.faults P.follows P.leaves result.status longest turns keeper result.keeper
@@ -117,6 +122,10 @@ pub fn run<S: Source, K: Sink, P: Keeper, L: Link, C: Clock>(
             status: staged(alloc, input, out, MOST_BYTES),
             keeper,
         },
+        Some(Command::Names) => Ran {
+            status: named(alloc, input, out, MOST_BYTES),
+            keeper,
+        },
         Some(Command::Serve { turns, longest }) => {
             served(alloc, keeper, turns, longest, link, clock, out)
         }
@@ -144,7 +153,7 @@ pub fn run<S: Source, K: Sink, P: Keeper, L: Link, C: Clock>(
         Some(Command::Loop { hosts, turns }) => {
             looped(alloc, keeper, hosts, turns, links, clock, out)
         }
-        None => Ran {
+        Some(Command::Format) | None => Ran {
             status: usage(out),
             keeper,
         },

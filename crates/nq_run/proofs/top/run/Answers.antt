@@ -3,6 +3,7 @@ use Rattle.nq_command.specs.Commands.{command_of}
 use Rattle.nq_run.proofs.HostPromises.{serve_does, serve_usage}
 use Rattle.nq_run.proofs.LoopPromises.{loop_does, loop_usage}
 use Rattle.nq_run.proofs.ReplayPromises.{check_usage, replay_usage}
+use Rattle.nq_run.proofs.NamesPromises.{names_usage}
 use Rattle.nq_run.proofs.StagedPromises.{stages_usage}
 use Rattle.nq_run.proofs.StormPromises.{storm_does, storm_never, storm_prints, storm_usage}
 use Rattle.nq_run.specs.Promised.{most_bytes}
@@ -37,6 +38,16 @@ returns-in-Some-Staged-clause-nothing g c = λ none. absurd (stages_usage _ _ _ 
 pub returns-in-Some-Staged-clause-stages : goal.returns-in-Some-Staged-clause-stages
 unfolding most_bytes
 returns-in-Some-Staged-clause-stages g c = λ is. c.staged.ensures
+
+pub returns-in-Some-Names-clause-usage : goal.returns-in-Some-Names-clause-usage
+returns-in-Some-Names-clause-usage g c = λ none. absurd (names_usage _ _ _ _ _ _ _ _ _ _ c.named.ensures none)
+
+pub returns-in-Some-Names-clause-nothing : goal.returns-in-Some-Names-clause-nothing
+returns-in-Some-Names-clause-nothing g c = λ none. absurd (names_usage _ _ _ _ _ _ _ _ _ _ c.named.ensures none)
+
+pub returns-in-Some-Names-clause-names : goal.returns-in-Some-Names-clause-names
+unfolding most_bytes
+returns-in-Some-Names-clause-names g c = λ is. c.named.ensures
 
 pub returns-in-Some-Serve-clause-usage : goal.returns-in-Some-Serve-clause-usage
 returns-in-Some-Serve-clause-usage g c = λ none. absurd (serve_usage _ _ _ _ _ _ _ _ _ _ _ _ _ _ _ _ _ c.served.ensures.serves none)
