@@ -23,7 +23,7 @@ use Rattle.law_progress.specs.CallsAreAnswered.{IsAnswered}
 use Rattle.law_progress.specs.CalmRound.{calm_round, calm_rounds}
 use Rattle.law_progress.specs.CalmRoundsAreLawful.{IsLawful}
 use Rattle.law_progress.specs.EverythingIsStored.{HasStored}
-use Rattle.law_progress.proofs.AttachWorlds.{rounds-more}
+use Rattle.law_progress.proofs.AllAttached.{rounds-more}
 use Rattle.law_progress.proofs.CalmEnds.{IsRising, rounds-rising, calmed-rising, lawful-delivers}
 use Rattle.law_progress.proofs.CalmIsLawful.{flows, rounds}
 use Rattle.law_progress.proofs.IdleSteps.{Rests, hear-idles}

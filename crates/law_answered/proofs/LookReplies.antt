@@ -24,7 +24,7 @@ use Rattle.law_calm.proofs.HostsBelow.{get-below}
 use Rattle.law_leases.proofs.LeaseIntervals.{run-runs}
 use Rattle.law_progress.specs.CalmRoundsAreLawful.{IsLawful}
 use Rattle.law_progress.specs.QuietDeliveries.{recovers}
-use Rattle.law_progress.proofs.AttachWorlds.{Comes}
+use Rattle.law_progress.proofs.PacketsCome.{Comes}
 use Rattle.law_progress.proofs.Attaching.{hear-stays}
 use Rattle.law_progress.proofs.CalmIsLawful.{played-quiet}
 use Rattle.law_progress.proofs.QuietFlows.{delivered-phase}

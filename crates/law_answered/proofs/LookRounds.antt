@@ -17,7 +17,8 @@ use Rattle.law_deliveries.specs.DeliveryEnds.{calmed, enough_deliveries}
 use Rattle.law_progress.specs.CalmRound.{calm_round, calm_rounds}
 use Rattle.law_progress.specs.CalmRoundsAreLawful.{IsLawful}
 use Rattle.law_progress.specs.QuietDeliveries.{recovers}
-use Rattle.law_progress.proofs.AttachWorlds.{Comes, rounds-more}
+use Rattle.law_progress.proofs.AllAttached.{rounds-more}
+use Rattle.law_progress.proofs.PacketsCome.{Comes}
 use Rattle.law_progress.proofs.Attaching.{tick-stays}
 use Rattle.law_progress.proofs.CalmEnds.{IsRising, rounds-rising, calmed-rising, lawful-delivers}
 use Rattle.law_progress.proofs.CalmIsLawful.{flows, calm-round, rounds}

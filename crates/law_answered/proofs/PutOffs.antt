@@ -98,14 +98,14 @@ module _ (s : Server) (sender next xid : ℕ) (r : Request) (who : Who) (serving
   declined w z v (not_while_recovering rec free is) f = serves-not s serving_now rec
   declined w z v (bad_length seq blocks name p on bad is) f = let two : Verdict.Invalid ≡ Verdict.TryLater = sym is ∙ f in cc
   declined w z v (name_taken seq blocks name p on taken is) f = let two : Verdict.Exist ≡ Verdict.TryLater = sym is ∙ f in cc
-  declined w z v (no_room seq blocks name p on is) f = let two : Verdict.NoSpace ≡ Verdict.TryLater = sym is ∙ f in cc
+  declined w z v (no_room seq blocks name p on full is) f = let two : Verdict.NoSpace ≡ Verdict.TryLater = sym is ∙ f in cc
   declined w z v (not_kept file on missing is) f = let two : Verdict.Stale ≡ Verdict.TryLater = sym is ∙ f in cc
   declined w z v (outside seq file block first last push body g on found out is) f = let two : Verdict.Invalid ≡ Verdict.TryLater = sym is ∙ f in cc
   declined w z v (no_row seq file block first last base body g p on found missing is) f = let two : Verdict.Fenced ≡ Verdict.TryLater = sym is ∙ f in cc
   declined w z v (not_under seq file block first last base body g row p on found some bars is) f = let two : Verdict.Fenced ≡ Verdict.TryLater = sym is ∙ f in cc
   declined w z v (not_over seq file block first last base body g rec on found bars is) f = let two : Verdict.Fenced ≡ Verdict.TryLater = sym is ∙ f in cc
   declined w z v (bad_size seq q file blocks g p on found bad is) f = let two : Verdict.Invalid ≡ Verdict.TryLater = sym is ∙ f in cc
-  declined w z v (no_room_to_grow seq q file blocks g p on found is) f = let two : Verdict.NoSpace ≡ Verdict.TryLater = sym is ∙ f in cc
+  declined w z v (no_room_to_grow seq q file blocks g p on found full is) f = let two : Verdict.NoSpace ≡ Verdict.TryLater = sym is ∙ f in cc
 
   -- ---- put off
 

@@ -15,7 +15,7 @@ use Rattle.law_deliveries.specs.DeliveryEnds.{calmed, enough_deliveries}
 use Rattle.law_progress.specs.CallsAreAnswered.{IsAnswered}
 use Rattle.law_progress.specs.CalmRound.{calm_rounds}
 use Rattle.law_progress.specs.CalmRoundsAreLawful.{IsLawful}
-use Rattle.law_progress.proofs.AttachWorlds.{rounds-more}
+use Rattle.law_progress.proofs.AllAttached.{rounds-more}
 use Rattle.law_progress.proofs.CalmEnds.{IsRising, played-rising, rounds-rising, calmed-rising}
 use Rattle.law_progress.proofs.CalmIsLawful.{played-quiet, rounds}
 use Rattle.law_progress.proofs.IdleWorlds.{answers-stay}

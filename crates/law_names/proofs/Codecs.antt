@@ -9,7 +9,7 @@ use Rattle.nq_datagrams.proofs.Readers.{server-reads-messages}
 use Rattle.nq_datagrams.specs.Incoming.{datagram_in}
 use Rattle.nq_datagrams.specs.Messages.{bytes_of}
 use Rattle.nq_directory.specs.Prefix.{directory}
-use Rattle.law_names.proofs.Again.{answers-are-read, evicted-are-read, read-dirs-are-read, vacated-are-read}
+use Rattle.nq_listing.proofs.Again.{answers-are-read, evicted-are-read, read-dirs-are-read, vacated-are-read}
 use Rattle.nq_listing.specs.declared.DirTag.{DirTag}
 use Rattle.nq_listing.specs.declared.ReadDir.{ReadDir}
 use Rattle.nq_listing.specs.Messages.{Answer, IsAnswer, IsDirTag, IsReadDir, answer_bytes, dir_evicted, dir_evicted_bytes, dir_tag_arguments, dir_vacated, dir_vacated_bytes, front_bytes, head_of, page, read_dir, read_dir_arguments, read_dir_bytes, results, wait}
@@ -27,7 +27,7 @@ use Rattle.nq_xdr.specs.Item.{boolean, opaque, word}
 use Rattle.walk_client.proofs.ClientMoves.{none-some, some-same}
 use Rattle.walk_server.proofs.Rows.{number-same, same-number}
 use Rattle.law_names.proofs.Codec.{IsAsking, IsChange, IsCodec, IsGiving, IsNoticed, IsNoticing, IsRead, IsSame, IsTold}
-use Rattle.law_names.proofs.SameNumbers.{same-hyper, same-word}
+use Rattle.nq_xdr.proofs.SameNumbers.{same-hyper, same-word}
 
 -- ---- calls
 

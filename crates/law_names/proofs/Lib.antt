@@ -23,7 +23,5 @@ pub mod TickSteps
 pub mod ServerSteps
 pub mod OuterSteps
 pub mod EachFind
-pub mod SameNumbers
-pub mod Again
 pub mod Codecs
 pub mod SomeFind

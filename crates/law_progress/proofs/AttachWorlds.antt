@@ -1,8 +1,7 @@
 -- Who is not attached is so after three calm rounds: in one of the first two his ATTACH is sent again, and in the next delivery it is
 -- answered.
 use Rattle.std.proofs.Common.{◌≡◌, ◌≢◌, ◌≤◌, ◌<◌, ◌⊎◌, ℕ, ◌+◌, ◌-◌, ◌==◌, ◌++◌, not, nat_lt, Bool, true, false, zero, suc, List, [], ◌∷◌, Option, Some, None, length, refl, sym, ap, subst, ◌∙◌, arith, inl, inr}
-use Rattle.std.specs.Prelude.{All, map, slice_get, slice_index_or}
-use Rattle.std.proofs.lemmas.List.{append-nil, length-append}
+use Rattle.std.specs.Prelude.{map, slice_get}
 use Rattle.nq_base.specs.declared.Event.{Event}
 use Rattle.nq_base.specs.declared.Party.{Party}
 use Rattle.nq_base.specs.declared.Reply.{Reply}
@@ -13,111 +12,39 @@ use Rattle.nq_model.specs.Client.{Client, ClientStep, Ticket}
 use Rattle.nq_model.specs.ClientStep.{client_tick}
 use Rattle.nq_model.specs.Hear.{hear}
 use Rattle.nq_model.specs.Kept.{host_row}
-use Rattle.nq_model.specs.Lines.{Play, play, play_flow, flow_first, play_hosts, play_rounds, delivered, numbers_from, added}
+use Rattle.nq_model.specs.Lines.{Play, play, play_flow, flow_first, play_hosts, play_rounds, delivered}
 use Rattle.nq_model.specs.Message.{Message, Packet, call, reply, datagram_of}
 use Rattle.nq_model.specs.Profile.{patience, inc_end}
-use Rattle.nq_model.specs.Stepped.{most_events}
-use Rattle.law_bounds.proofs.WorldNumbers.{drawn-up-to}
 use Rattle.nq_model.specs.Server.{ServerStep, to_host}
 use Rattle.nq_model.specs.ServerStep.{receive}
 use Rattle.nq_model.specs.World.{Head, World, from_host, after_server, after_client, at_client, after_hearing, sending_host, deliver, deliver_to, deliver_to_client, step, run}
 use Rattle.law_leases.proofs.LeaseIntervals.{run-runs}
 use Rattle.walk_client.proofs.ClientFacts.{Alone}
-use Rattle.walk_client.proofs.ClientMoves.{some-same, none-some}
+use Rattle.walk_client.proofs.ClientMoves.{some-same}
 use Rattle.walk_run.proofs.Members.{filter-in}
-use Rattle.walk_run.proofs.Packets.{In, in-left, in-right, in-get, Told}
-use Rattle.walk_run.proofs.Steps.{Changes, nothing, by_client, by_server, step-changes}
+use Rattle.walk_run.proofs.Packets.{In, in-get, Told}
 use Rattle.walk_run.proofs.Worlds.{Holds, run-holds, get-set-other, set-there, to-told}
 use Rattle.walk_server.proofs.Rows.{same-number, number-same}
 use Rattle.walk_server.proofs.Tests.{is-below, is-not-below}
-use Rattle.law_progress.specs.AttachedSoon.{IsAttached, AttachedSoon}
 use Rattle.law_progress.specs.CalmRound.{calm_round, calm_rounds}
-use Rattle.law_deliveries.specs.DeliveryEnds.{calmed, enough_deliveries, IsDelivered}
+use Rattle.law_deliveries.specs.DeliveryEnds.{enough_deliveries, IsDelivered}
 use Rattle.law_progress.specs.CalmRoundsAreLawful.{IsLawful}
 use Rattle.law_progress.proofs.Attaching.{hear-stays, tick-stays, hear-attaches, hears-attach, attach-answered, TickedOff, tick-off}
-use Rattle.law_calm.proofs.ClientCount.{client-count}
-use Rattle.law_progress.proofs.CalmIsLawful.{flows, calm-round, rounds}
+use Rattle.law_progress.proofs.CalmIsLawful.{flows, calm-round}
 use Rattle.law_calm.proofs.GoingOn.{calls-go-on}
 use Rattle.law_calm.proofs.HostsBelow.{get-below}
-use Rattle.law_progress.proofs.CalmEnds.{calm-delivers}
-
--- ---- lists
-
-get-kept : {A : Type 0} (xs ys : List A) (k : ℕ) (x : A) → slice_get xs k ≡ Some x → slice_get (xs ++ ys) k ≡ Some x
-get-kept [] ys k x is = none-some x is
-get-kept (y ∷ xs) ys zero x is = is
-get-kept (y ∷ xs) ys (suc k) x is = get-kept xs ys k x is
-
-get-next : {A : Type 0} (xs : List A) (y : A) → slice_get (xs ++ y ∷ []) (length xs) ≡ Some y
-get-next [] y = refl
-get-next (x ∷ xs) y = get-next xs y
-
-all-found : {A : Type 0} (P : A → Type 0) (xs : List A) → ((i : ℕ) (x : A) → slice_get xs i ≡ Some x → P x) → (k : ℕ) (d : A) → k < length xs → P (slice_index_or xs k d)
-all-found P [] given k d below = absurd (omega arith)
-all-found P (y ∷ xs) given zero d below = given 0 y refl
-all-found P (y ∷ xs) given (suc k) d below = all-found P xs (λ i x is. given (suc i) x is) k d (omega arith)
-
-found-in-all : {A : Type 0} (P : A → Type 0) (xs : List A) (i : ℕ) (x : A) → slice_get xs i ≡ Some x → All P xs → P x
-found-in-all P [] i x is all = none-some x is
-found-in-all P (y ∷ xs) zero x is all = subst P (some-same y x is) (all 0 y (omega arith))
-found-in-all P (y ∷ xs) (suc i) x is all = found-in-all P xs i x is (λ k d below. all (suc k) d (omega arith))
-
--- ---- packets only come
-
-record More (w v : World) : Type 0 where
-  more : List Packet
-  is : v.packets ≡ w.packets ++ more
-
-more-after : (w v : World) → Changes w v → More w v
-unfolding after_client after_server
-more-after w v (nothing is) = record { more = []; is = ap (λ (u : World). u.packets) is ∙ sym (append-nil w.packets) }
-more-after w v (by_client host c t at acts to) = record { more = map (from_host host) t.sends; is = ap (λ (u : World). u.packets) to }
-more-after w v (by_server t acts to) = record { more = t.sends; is = ap (λ (u : World). u.packets) to }
-
-still-there : (w v : World) → More w v → (k : ℕ) (q : Packet) → slice_get w.packets k ≡ Some q → slice_get v.packets k ≡ Some q
-still-there w v m k q is = ap (λ ps. slice_get ps k) m.is ∙ get-kept w.packets m.more k q is
-
--- a packet is under way
-pub record Comes (p : Play) (q : Packet) : Type 0 where
-  pub number : ℕ
-  pub fresh : In p.fresh number
-  pub is : slice_get p.world.packets number ≡ Some q
-
--- it stays so where another one is delivered, or none
-keeps-coming : (p : Play) (e : Event) (q : Packet) (c : Comes p q) → In (delivered e p.fresh) c.number → Comes (play p e) q
-keeps-coming p e q c stays = record {
-  number = c.number;
-  fresh = in-left (delivered e p.fresh) (added p.world (step p.world e)) c.number stays;
-  is = still-there p.world (step p.world e) (more-after p.world (step p.world e) (step-changes p.world e)) c.number q c.is;
-}
-
--- what a step sent alone comes
-sent-comes : (p : Play) (e : Event) (q : Packet) → (step p.world e).packets ≡ p.world.packets ++ q ∷ [] → Comes (play p e) q
-sent-comes p e q is = record {
-  number = length p.world.packets;
-  fresh = in-right (delivered e p.fresh) (added p.world (step p.world e)) (length p.world.packets) (subst (λ ns. In ns (length p.world.packets)) (sym new) (inl refl));
-  is = ap (λ ps. slice_get ps (length p.world.packets)) is ∙ get-next p.world.packets q;
-}
-  where
-    longer : length (step p.world e).packets ≡ length p.world.packets + 1
-    longer = ap (λ ps. length ps) is ∙ length-append p.world.packets (q ∷ [])
-
-    new : added p.world (step p.world e) ≡ length p.world.packets ∷ []
-    new = let n = longer in ap (numbers_from (length p.world.packets)) (one (length (step p.world e).packets) (length p.world.packets) n)
-      where
-        one : (a b : ℕ) → a ≡ b + 1 → a - b ≡ 1
-        one a b n = omega arith
+use Rattle.law_progress.proofs.PacketsCome.{Comes, keeps-coming, sent-comes}
 
 -- ---- one host
 
 module _ (most : ℕ) (head : Head) (host xid : ℕ) (who : Who) (small : who.inc < inc_end) where
   -- its client is attached, or asks to be, and is due to ask again within so many ticks
-  record On (w : World) : Type 0 where
+  pub record On (w : World) : Type 0 where
     c : Client
     at : slice_get w.clients host ≡ Some c
     on : c.attached ≡ true
 
-  record Off (due : ℕ) (w : World) : Type 0 where
+  pub record Off (due : ℕ) (w : World) : Type 0 where
     c : Client
     at : slice_get w.clients host ≡ Some c
     off : c.attached ≡ false
@@ -128,7 +55,7 @@ module _ (most : ℕ) (head : Head) (host xid : ℕ) (who : Who) (small : who.in
     same : c.who ≡ who
     soon : ticket.last + patience ≤ c.now + due
 
-  abbrev State : ℕ → World → Type 0
+  abbrev pub State : ℕ → World → Type 0
   State due w = On w ⊎ Off due w
 
   on-same : (w v : World) → slice_get v.clients host ≡ slice_get w.clients host → On w → On v
@@ -516,7 +443,7 @@ module _ (most : ℕ) (head : Head) (host xid : ℕ) (who : Who) (small : who.in
       on-same r.world (step r.world Event.ServerTick) (server-step r.world _)
       (hosts-on (length q.world.clients) 0 q (flows most head (enough_deliveries p) p l).is_run x)
 
-  rounds-on : (count : ℕ) (p : Play) → IsLawful most head p → On p.world → On (calm_rounds count p).world
+  pub rounds-on : (count : ℕ) (p : Play) → IsLawful most head p → On p.world → On (calm_rounds count p).world
   rounds-on zero p l x = x
   rounds-on (suc count) p l x = rounds-on count (calm_round p) (calm-round most head p l) (ticked-on p l (on-flows (enough_deliveries p) p l x))
 
@@ -527,71 +454,20 @@ module _ (most : ℕ) (head : Head) (host xid : ℕ) (who : Who) (small : who.in
       by (inl x) = ticked-on p l x
       by (inr x) = ticked-on p l (over (play_flow (enough_deliveries p) p) (flows most head (enough_deliveries p) p l) x)
 
-  on-there : (w : World) (c : Client) → slice_get w.clients host ≡ Some c → On w → c.attached ≡ true
+  pub on-there : (w : World) (c : Client) → slice_get w.clients host ≡ Some c → On w → c.attached ≡ true
   on-there w c at s = subst (λ (d : Client). d.attached ≡ true) (some-same s.c c (sym s.at ∙ at)) s.on
 
-  starts-on : (w : World) (c : Client) → slice_get w.clients host ≡ Some c → c.attached ≡ true → State patience w
+  pub starts-on : (w : World) (c : Client) → slice_get w.clients host ≡ Some c → c.attached ≡ true → State patience w
   starts-on w c at on = inl (record { c = c; at = at; on = on })
 
-  starts-off : (w : World) (c : Client) (ticket : Ticket) → slice_get w.clients host ≡ Some c → c.attached ≡ false → c.ticket ≡ Some ticket → ticket.xid ≡ xid → ticket.request ≡ Request.Attach who → c.who ≡ who → ticket.last ≤ c.now → State patience w
+  pub starts-off : (w : World) (c : Client) (ticket : Ticket) → slice_get w.clients host ≡ Some c → c.attached ≡ false → c.ticket ≡ Some ticket → ticket.xid ≡ xid → ticket.request ≡ Request.Attach who → c.who ≡ who → ticket.last ≤ c.now → State patience w
   starts-off w c ticket at off asks number request same past = inr (record { c = c; at = at; off = off; ticket = ticket; asks = asks; number = number; request = request; same = same; soon = omega arith })
 
   -- three rounds
-  three-rounds : (p : Play) → IsLawful most head p → IsDelivered (calm_round p) → IsDelivered (calm_round (calm_round p)) → State patience p.world → On (calm_rounds 3 p).world
+  pub three-rounds : (p : Play) → IsLawful most head p → IsDelivered (calm_round p) → IsDelivered (calm_round (calm_round p)) → State patience p.world → On (calm_rounds 3 p).world
   three-rounds p l second third s =
       let one = calm-round most head p l in
       let two = calm-round most head (calm_round p) one in
       let a = next-round 1 p l (state-flows patience (enough_deliveries p) p l s) in
       let b = next-round 0 (calm_round p) one (ended 1 (enough_deliveries (calm_round p)) (calm_round p) one second a) in
       last-round (calm_round (calm_round p)) two third b
-
--- ---- all hosts
-
-get-there : {A : Type 0} (xs : List A) (i : ℕ) → i < length xs → (x : A) × (slice_get xs i ≡ Some x)
-get-there [] i below = absurd (omega arith)
-get-there (x ∷ xs) zero below = (x, refl)
-get-there (x ∷ xs) (suc i) below = get-there xs i (omega arith)
-
-pub rounds-more : (n k : ℕ) (p : Play) → calm_rounds (n + k) p ≡ calm_rounds k (calm_rounds n p)
-rounds-more zero k p = let e : zero + k ≡ k = omega arith in ap (λ m. calm_rounds m p) e
-rounds-more (suc n) k p = let e : suc n + k ≡ suc (n + k) = omega arith in ap (λ m. calm_rounds m p) e ∙ rounds-more n k (calm_round p)
-
-module _ (most : ℕ) (head : Head) (p : Play) (l : IsLawful most head p) (few : length p.events ≤ most_events) (second : IsDelivered (calm_round p)) (third : IsDelivered (calm_round (calm_round p))) (more : ℕ) where
-  host-attached : (host : ℕ) (c d : Client) → slice_get p.world.clients host ≡ Some c → slice_get (calm_rounds more (calm_rounds 3 p)).world.clients host ≡ Some d → d.attached ≡ true
-  host-attached host c d at after = by c.attached refl
-    where
-      there : slice_get (run head p.events).clients host ≡ Some c
-      there = subst (λ (u : World). slice_get u.clients host ≡ Some c) l.is_run at
-
-      small : c.who.inc < inc_end
-      small = let low : c.who.inc ≤ length p.events + 1 = (drawn-up-to head p.events).inc host c there in omega arith
-
-      on : (xid : ℕ) → State most head host xid c.who small patience p.world → d.attached ≡ true
-      on xid s =
-          on-there most head host xid c.who small (calm_rounds more (calm_rounds 3 p)).world d after
-          (rounds-on most head host xid c.who small more (calm_rounds 3 p) (rounds most head 3 p l) (three-rounds most head host xid c.who small p l second third s))
-
-      by : (b : Bool) → c.attached ≡ b → d.attached ≡ true
-      by true attached = on 0 (starts-on most head host 0 c.who small p.world c at attached)
-      by false off =
-          let a = (calls-go-on head p.events host c there).attaching off in
-          let past = (((run-holds head p.events).clients host c there).alone.asking.ticketed a.ticket a.under_way).past in
-          on a.ticket.xid (starts-off most head host a.ticket.xid c.who small p.world c a.ticket at off a.under_way refl a.asks refl past)
-
-  all-attached : All IsAttached (calm_rounds more (calm_rounds 3 p)).world.clients
-  all-attached = all-found IsAttached (calm_rounds more (calm_rounds 3 p)).world.clients (λ i d is.
-      let later = rounds most head more (calm_rounds 3 p) (rounds most head 3 p l) in
-      let few : length (calm_rounds more (calm_rounds 3 p)).world.clients ≡ head.hosts = ap (λ (w : World). length w.clients) later.is_run ∙ client-count head (calm_rounds more (calm_rounds 3 p)).events in
-      let many : length p.world.clients ≡ head.hosts = ap (λ (w : World). length w.clients) l.is_run ∙ client-count head p.events in
-      let inside = get-below (calm_rounds more (calm_rounds 3 p)).world.clients i d is in
-      let c = get-there p.world.clients i (omega arith) in
-      host-attached i c.0 d c.1 is)
-
-pub attached-soon : AttachedSoon
-unfolding calmed
-attached-soon most head events bounds within few under_way more all =
-    let p = calmed head events under_way in
-    subst (λ (q : Play). All IsAttached q.world.clients) (sym (rounds-more 3 more p))
-    (all-attached most head p (record { is_run = refl; bounds = bounds; within = within }) few
-    (calm-delivers most head events bounds within under_way 1 all)
-    (calm-delivers most head events bounds within under_way 2 all) more)

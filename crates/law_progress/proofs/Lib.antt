@@ -11,6 +11,8 @@ pub mod QuietFlows
 pub mod CancelFlows
 pub mod Attaching
 pub mod CalmEnds
+pub mod PacketsCome
 pub mod AttachWorlds
+pub mod AllAttached
 pub mod SoonRounds
 pub mod LeasesOfUse

@@ -10,20 +10,14 @@ use Rattle.nq_model.specs.Lines.{Play, play, delivered, numbers_from, added}
 use Rattle.nq_model.specs.Message.{Packet, datagram_of}
 use Rattle.nq_model.specs.ServerStep.{receive}
 use Rattle.nq_model.specs.World.{World, after_client, after_server, after_hearing, sending_host, deliver, deliver_to, deliver_to_client, step}
-use Rattle.walk_client.proofs.ClientMoves.{none-some}
 use Rattle.walk_run.proofs.Members.{filter-in}
 use Rattle.walk_run.proofs.Packets.{In, in-left, in-right}
 use Rattle.walk_run.proofs.Steps.{step-changes}
 use Rattle.walk_server.proofs.Rows.{same-number}
-use Rattle.law_progress.proofs.AttachWorlds.{Comes}
+use Rattle.law_progress.proofs.PacketsCome.{Comes, get-kept}
 use Rattle.law_progress.proofs.QuietFlows.{grown}
 
 -- ---- lists
-
-get-kept : {A : Type 0} (xs ys : List A) (k : ℕ) (x : A) → slice_get xs k ≡ Some x → slice_get (xs ++ ys) k ≡ Some x
-get-kept [] ys k x is = none-some x is
-get-kept (y ∷ xs) ys zero x is = is
-get-kept (y ∷ xs) ys (suc k) x is = get-kept xs ys k x is
 
 get-behind : {A : Type 0} (xs ys : List A) (j : ℕ) → slice_get (xs ++ ys) (length xs + j) ≡ slice_get ys j
 get-behind [] ys j = let e : 0 + j ≡ j = omega arith in ap (slice_get ys) e

@@ -180,7 +180,7 @@ fair-done r = refl
 pub declined-fair : (s : Server) (who : Who) (r : Request) (v : Verdict) → IsDeclined s who r v → fair r v ≡ true
 declined-fair s who r v (bad_length seq blocks name p on bad is) = ap (λ q. fair q v) on ∙ ap (λ u. fair_create u) is
 declined-fair s who r v (name_taken seq blocks name p on taken is) = ap (λ q. fair q v) on ∙ ap (λ u. fair_create u) is
-declined-fair s who r v (no_room seq blocks name p on is) = ap (λ q. fair q v) on ∙ ap (λ u. fair_create u) is
+declined-fair s who r v (no_room seq blocks name p on full is) = ap (λ q. fair q v) on ∙ ap (λ u. fair_create u) is
 declined-fair s who r v (not_kept file on none is) = ap (fair r) is ∙ fair-stale r
 declined-fair s who r v (outside seq file block first last push body f on found out is) = ap (λ q. fair q v) on ∙ ap (λ u. fair_for push u) is ∙ fair-outside push
 declined-fair s who r v (no_row seq file block first last base body f p on found none is) = ap (λ q. fair q v) on ∙ ap (λ u. fair_push u) is
@@ -188,7 +188,7 @@ declined-fair s who r v (not_under seq file block first last base body f row p o
 declined-fair s who r v (not_over seq file block first last base body f rec on found bars is) = ap (λ q. fair q v) on ∙ ap (λ u. fair_push u) is
 declined-fair s who r v (not_while_recovering rec none is) = ap (fair r) is ∙ fair-later r none
 declined-fair s who r v (bad_size seq q file blocks f p on found bad is) = ap (λ z. fair z v) on ∙ ap (λ u. fair_change u) is
-declined-fair s who r v (no_room_to_grow seq q file blocks f p on found is) = ap (λ z. fair z v) on ∙ ap (λ u. fair_change u) is
+declined-fair s who r v (no_room_to_grow seq q file blocks f p on found full is) = ap (λ z. fair z v) on ∙ ap (λ u. fair_change u) is
 
 -- ---- who only asks may be put off
 

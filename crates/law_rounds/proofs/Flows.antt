@@ -22,7 +22,7 @@ use Rattle.law_calm.proofs.ClientCount.{client-count}
 use Rattle.law_deliveries.specs.DeliveryEnds.{enough_deliveries}
 use Rattle.law_progress.specs.CalmRound.{calm_round, calm_rounds}
 use Rattle.law_progress.specs.CalmRoundsAreLawful.{IsLawful}
-use Rattle.law_progress.proofs.AttachWorlds.{Comes}
+use Rattle.law_progress.proofs.PacketsCome.{Comes}
 use Rattle.law_progress.proofs.CalmEnds.{IsRising, lawful-delivers}
 use Rattle.law_progress.proofs.CalmIsLawful.{played-quiet, flows, calm-round, rounds}
 use Rattle.law_progress.proofs.QuietFlows.{grown}

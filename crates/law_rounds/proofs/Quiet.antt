@@ -14,7 +14,7 @@ use Rattle.law_chains.proofs.ChainWorlds.{chain-fits}
 use Rattle.law_deliveries.specs.DeliveryEnds.{calmed, enough_deliveries}
 use Rattle.law_progress.specs.CalmRound.{calm_rounds}
 use Rattle.law_progress.specs.CalmRoundsAreLawful.{IsLawful}
-use Rattle.law_progress.proofs.AttachWorlds.{rounds-more}
+use Rattle.law_progress.proofs.AllAttached.{rounds-more}
 use Rattle.law_progress.proofs.CalmEnds.{IsRising, rounds-rising, calmed-rising}
 use Rattle.law_progress.proofs.CalmIsLawful.{flows, rounds}
 use Rattle.walk_client.proofs.ClientMoves.{none-some}

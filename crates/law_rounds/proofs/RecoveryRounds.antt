@@ -18,7 +18,7 @@ use Rattle.law_progress.specs.CalmRound.{calm_round, calm_rounds}
 use Rattle.law_progress.specs.CalmRoundsAreLawful.{IsLawful}
 use Rattle.law_progress.specs.QuietDeliveries.{recovers}
 use Rattle.law_progress.proofs.Attaching.{tick-stays}
-use Rattle.law_progress.proofs.AttachWorlds.{rounds-more}
+use Rattle.law_progress.proofs.AllAttached.{rounds-more}
 use Rattle.law_progress.proofs.CalmEnds.{IsRising, round-rising, rounds-rising, calmed-rising}
 use Rattle.law_progress.proofs.CalmIsLawful.{played-quiet, flows, calm-round}
 use Rattle.law_progress.proofs.QuietFlows.{delivered-phase}

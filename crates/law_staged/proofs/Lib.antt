@@ -8,6 +8,5 @@ mod Meaning
 mod Meant
 mod NotStored
 pub mod Rebuilt
-mod SameNumbers
 pub mod Schedules
 mod SomeStaged

@@ -75,7 +75,7 @@ module _ (s : Server) (who : Who) (r : Request) where
       let there = there-is _ taken in
       gives Verdict.Exist verdict is
       (tt, subst (λ q. IsCause s.kept.files Refusal.Exist q) (sym on) (record { file = there.0; found = there.1 }))
-  declined-told verdict (no_room seq blocks name p on is) = gives Verdict.NoSpace verdict is (tt, tt)
+  declined-told verdict (no_room seq blocks name p on full is) = gives Verdict.NoSpace verdict is (tt, tt)
   declined-told verdict (not_kept file on none is) = gives Verdict.Stale verdict is (tt, changed-lacks s.kept.files r file on none)
   declined-told verdict (outside seq file block first last push body f on found out is) =
       gives Verdict.Invalid verdict is
@@ -86,4 +86,4 @@ module _ (s : Server) (who : Who) (r : Request) where
   declined-told verdict (not_while_recovering rec none is) = gives Verdict.TryLater verdict is (tt, tt)
   declined-told verdict (bad_size seq q file blocks f p on found bad is) =
       gives Verdict.Invalid verdict is (tt, subst (λ z. IsCause s.kept.files Refusal.Inval z) (sym on) (no-length blocks most_blocks_of_file bad))
-  declined-told verdict (no_room_to_grow seq q file blocks f p on found is) = gives Verdict.NoSpace verdict is (tt, tt)
+  declined-told verdict (no_room_to_grow seq q file blocks f p on found full is) = gives Verdict.NoSpace verdict is (tt, tt)

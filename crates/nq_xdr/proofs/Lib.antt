@@ -4,3 +4,4 @@ pub mod Numbers
 pub mod Opaque
 pub mod Follows
 pub mod Repeats
+pub mod SameNumbers

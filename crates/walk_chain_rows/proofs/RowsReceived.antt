@@ -126,7 +126,7 @@ module _ (ps : List Packet) (s : Server) (sender next : ℕ) (d : Datagram) (hos
       subst (λ z. VerdictFits r z value) (sym to) (subst (λ z. VerdictFits z Verdict.Invalid value) (sym is) tt)
   declined-fits w r v value (name_taken seq blocks name p is taken to) =
       subst (λ z. VerdictFits r z value) (sym to) (subst (λ z. VerdictFits z Verdict.Exist value) (sym is) tt)
-  declined-fits w r v value (no_room seq blocks name p is to) =
+  declined-fits w r v value (no_room seq blocks name p is full to) =
       subst (λ z. VerdictFits r z value) (sym to) (subst (λ z. VerdictFits z Verdict.NoSpace value) (sym is) tt)
   declined-fits w r v value (not_kept file changes none to) = subst (λ z. VerdictFits r z value) (sym to) (any-stale r value)
   declined-fits w r v value (outside seq file block first last push body f is found past to) =
@@ -141,7 +141,7 @@ module _ (ps : List Packet) (s : Server) (sender next : ℕ) (d : Datagram) (hos
   declined-fits w r v value (not_while_recovering recovers none to) = subst (λ z. VerdictFits r z value) (sym to) (any-later r value none)
   declined-fits w r v value (bad_size seq q file blocks f p is found bad to) =
       subst (λ z. VerdictFits r z value) (sym to) (subst (λ z. VerdictFits z Verdict.Invalid value) (sym is) tt)
-  declined-fits w r v value (no_room_to_grow seq q file blocks f p is found to) =
+  declined-fits w r v value (no_room_to_grow seq q file blocks f p is found full to) =
       subst (λ z. VerdictFits r z value) (sym to) (subst (λ z. VerdictFits z Verdict.NoSpace value) (sym is) tt)
 
   decided-line : (kept : Kept) (t : Server) (x seq : ℕ) (w : Who) (r : Request) (k : Decision) → t.kept ≡ with_row kept w.host (row_after w seq k)

@@ -122,7 +122,7 @@ module _ (s : Server) (c : Client) (ps : List Packet) (k : ChainFits s c ps) (bo
   pub bound-stored : (w : Who) (verdict : Verdict) → w ≡ c.who → IsDeclined s w t.request verdict → ⊥
   bound-stored w verdict who_is (bad_length seq blocks name q on bad v) = not-push (Request.Create w seq name blocks) on refl
   bound-stored w verdict who_is (name_taken seq blocks name q on taken v) = not-push (Request.Create w seq name blocks) on refl
-  bound-stored w verdict who_is (no_room seq blocks name q on v) = not-push (Request.Create w seq name blocks) on refl
+  bound-stored w verdict who_is (no_room seq blocks name q on full v) = not-push (Request.Create w seq name blocks) on refl
   bound-stored w verdict who_is (not_kept file on none v) =
       let at : p.file ≡ file = some-same p.file file (sym (ap file_changed_by sh.is) ∙ on) in
       none-some knows.f (sym none ∙ ap (λ n. find_file n s.kept.files) (sym at) ∙ knows.found)
@@ -167,4 +167,4 @@ module _ (s : Server) (c : Client) (ps : List Packet) (k : ChainFits s c ps) (bo
       absurd (cc)
   bound-stored w verdict who_is (not_while_recovering rec none v) = none-some sh.base (sym none ∙ ap base_in sh.is)
   bound-stored w verdict who_is (bad_size seq q file blocks f ph on found bad v) = not-push (Request.Resize w seq q file blocks) on refl
-  bound-stored w verdict who_is (no_room_to_grow seq q file blocks f ph on found v) = not-push (Request.Resize w seq q file blocks) on refl
+  bound-stored w verdict who_is (no_room_to_grow seq q file blocks f ph on found full v) = not-push (Request.Resize w seq q file blocks) on refl

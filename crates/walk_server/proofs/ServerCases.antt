@@ -91,7 +91,7 @@ module _ (s : Server) (sender next : ℕ) (d : Datagram) (Q : ServerStep → Typ
       roomless
       (decides s Verdict.NoSpace)
       (creates s name blocks)
-      (λ no. cases.declining xid who seq r Verdict.NoSpace e refl refl fresh (no_room seq blocks name serves refl refl))
+      (λ no. cases.declining xid who seq r Verdict.NoSpace e refl refl fresh (no_room seq blocks name serves refl no refl))
       (λ room.
       let a = or_parts _ _ room in
       let b = or_parts _ _ a.0 in
@@ -233,7 +233,7 @@ module _ (s : Server) (sender next : ℕ) (d : Datagram) (Q : ServerStep → Typ
       roomless
       (decides s Verdict.NoSpace)
       (unless_conflict s who f (resizes s who q f blocks))
-      (λ no. cases.declining xid who seq r Verdict.NoSpace e refl refl fresh (no_room_to_grow seq q f.id blocks f serves refl found refl))
+      (λ no. cases.declining xid who seq r Verdict.NoSpace e refl refl fresh (no_room_to_grow seq q f.id blocks f serves refl found no refl))
       (λ room.
       let changing : IsChanging s sender who seq f = record { fresh = fresh; serves = serves; found = found } in
       let can : CanResize s f blocks = record

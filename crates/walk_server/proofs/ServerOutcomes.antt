@@ -160,14 +160,22 @@ pub record CanStore (s : Server) (who : Who) (f : File) (base : PushBase) (row :
   pub boot : base.boot ≡ s.kept.boot
   pub rev : base.base ≡ f.rev
 
+-- no further file of so many blocks can be kept: there are too many files, blocks or ids
+abbrev pub has_no_room : Server → (blocks : ℕ) → Bool
+has_no_room s blocks = nat_le most_files (length s.kept.files) || nat_lt most_blocks (blocks_in_all s.kept.files + blocks) || nat_le most_ids s.kept.next
+
+-- with so many blocks in this file, too many would be kept in all
+abbrev pub cannot_grow : Server → File → (blocks : ℕ) → Bool
+cannot_grow s f blocks = nat_lt most_blocks ((blocks_in_all s.kept.files - blocks_of f) + blocks)
+
 -- a decision that has no effect, by its reason
 pub data IsDeclined (s : Server) (who : Who) (r : Request) (verdict : Verdict) : Type 0 where
   bad_length : (seq blocks : ℕ) (name : List ℕ) → s.phase ≡ serving → r ≡ Request.Create who seq name blocks
       → (blocks == 0 || nat_lt most_blocks_of_file blocks) ≡ true → verdict ≡ Verdict.Invalid → IsDeclined s who r verdict
   name_taken : (seq blocks : ℕ) (name : List ℕ) → s.phase ≡ serving → r ≡ Request.Create who seq name blocks
       → is_some (find_name name s.kept.files) ≡ true → verdict ≡ Verdict.Exist → IsDeclined s who r verdict
-  no_room : (seq blocks : ℕ) (name : List ℕ) → s.phase ≡ serving → r ≡ Request.Create who seq name blocks → verdict ≡ Verdict.NoSpace
-      → IsDeclined s who r verdict
+  no_room : (seq blocks : ℕ) (name : List ℕ) → s.phase ≡ serving → r ≡ Request.Create who seq name blocks
+      → has_no_room s blocks ≡ true → verdict ≡ Verdict.NoSpace → IsDeclined s who r verdict
   not_kept : (file : ℕ) → file_changed_by r ≡ Some file → find_file file s.kept.files ≡ None → verdict ≡ Verdict.Stale → IsDeclined s who r verdict
   outside : (seq file block first last : ℕ) (push : Option PushBase) (body : List ℕ) (f : File)
       → r ≡ Request.Write who seq file block first last push body → find_file file s.kept.files ≡ Some f → blocks_of f ≤ block
@@ -187,13 +195,13 @@ pub data IsDeclined (s : Server) (who : Who) (r : Request) (verdict : Verdict) :
   bad_size : (seq q file blocks : ℕ) (f : File) → s.phase ≡ serving → r ≡ Request.Resize who seq q file blocks → find_file file s.kept.files ≡ Some f
       → (blocks == 0 || nat_lt most_blocks_of_file blocks) ≡ true → verdict ≡ Verdict.Invalid → IsDeclined s who r verdict
   no_room_to_grow : (seq q file blocks : ℕ) (f : File) → s.phase ≡ serving → r ≡ Request.Resize who seq q file blocks
-      → find_file file s.kept.files ≡ Some f → verdict ≡ Verdict.NoSpace → IsDeclined s who r verdict
+      → find_file file s.kept.files ≡ Some f → cannot_grow s f blocks ≡ true → verdict ≡ Verdict.NoSpace → IsDeclined s who r verdict
 
 -- a decision without effect is not Done
 pub declined-not : (s : Server) (who : Who) (r : Request) (v : Verdict) → IsDeclined s who r v → v ≡ Verdict.Done → ⊥
 declined-not s who r v (bad_length seq blocks name p on bad is) done = cc
 declined-not s who r v (name_taken seq blocks name p on taken is) done = cc
-declined-not s who r v (no_room seq blocks name p on is) done = cc
+declined-not s who r v (no_room seq blocks name p on full is) done = cc
 declined-not s who r v (not_kept file on none is) done = cc
 declined-not s who r v (outside seq file block first last push body f on found out is) done = cc
 declined-not s who r v (no_row seq file block first last base body f p on found none is) done = cc
@@ -201,7 +209,7 @@ declined-not s who r v (not_under seq file block first last base body f row p on
 declined-not s who r v (not_over seq file block first last base body f rec on found bars is) done = cc
 declined-not s who r v (not_while_recovering rec none is) done = cc
 declined-not s who r v (bad_size seq q file blocks f p on found bad is) done = cc
-declined-not s who r v (no_room_to_grow seq q file blocks f p on found is) done = cc
+declined-not s who r v (no_room_to_grow seq q file blocks f p on found full is) done = cc
 
 -- the outcomes of a datagram
 pub record ServerCases (s : Server) (sender next : ℕ) (d : Datagram) (Q : ServerStep → Type 0) : Type 0 where
