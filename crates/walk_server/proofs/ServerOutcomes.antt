@@ -1,5 +1,5 @@
 -- What the server's step for a datagram may be, each outcome with what led to it.
-use Rattle.std.proofs.Common.{◌≡◌, ◌<◌, ◌≤◌, ℕ, ◌+◌, ◌-◌, ◌==◌, Bool, true, false, ◌&&◌, ◌||◌, nat_lt, List, [], ◌∷◌, Option, Some, None, length}
+use Rattle.std.proofs.Common.{◌≡◌, ◌<◌, ◌≤◌, ℕ, ◌+◌, ◌-◌, ◌==◌, Bool, true, false, ◌&&◌, ◌||◌, nat_lt, nat_le, List, [], ◌∷◌, Option, Some, None, length}
 use Rattle.std.specs.List.{find}
 use Rattle.std.specs.Prelude.{slice_get, is_some}
 use Rattle.nq_base.specs.declared.Access.{Access}
