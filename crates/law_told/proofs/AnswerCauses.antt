@@ -21,7 +21,7 @@ use Rattle.nq_promises.specs.AnswersTellWhatWas.{HasNamed, HasLength, ToldSo}
 use Rattle.nq_promises.specs.RepliesTellWhatWas.{Once, KeepsNamed}
 use Rattle.law_calm.specs.RequestsAreMeant.{IsWriteTo}
 use Rattle.law_synchronized.proofs.OkFacts.{IsFor}
-use Rattle.law_told.specs.RefusalsHaveCauses.{LacksName, HasName, LacksFile, IsAnsweredSo}
+use Rattle.law_told.specs.RefusalsHaveCauses.{LacksName, HasName, LacksFile, HasNoRoom, CannotGrow, IsAnsweredSo}
 use Rattle.law_told.proofs.RunTells.{once-map, HadSo}
 use Rattle.walk_client.proofs.RepliedCases.{IsNamed, looked_up, created, attributes}
 use Rattle.walk_client.proofs.SettleCases.{IsRead}
@@ -54,6 +54,9 @@ later-says head event earlier Said.NoEntry other so = absurd so
 later-says head event earlier Said.Stale o so = (so.0, so.1, inr so.2)
 later-says head event earlier Said.Exists (Some (Told.Create name blocks)) so = inr so
 later-says head event earlier Said.Exists other so = absurd so
+later-says head event earlier Said.NoSpace (Some (Told.Create name blocks)) so = inr so
+later-says head event earlier Said.NoSpace (Some (Told.Resize file blocks)) so = inr so
+later-says head event earlier Said.NoSpace other so = absurd so
 later-says head event earlier answer o so = tt
 
 -- ---- the refusal that is answered with
@@ -88,6 +91,17 @@ module _ (head : Head) (events : List Event) (host xid inc : ℕ) (u : UnderWay)
       (once-map (HadSo host xid (Reply.Refused inc Refusal.Exist) (Request.Create who seq name blocks)) (λ w. HasName w.server.kept.files name) head
       events (λ w so. so.1.1) had)
   exists r is had = absurd (causeless Refusal.Exist r (λ w so. so.1.1) had)
+
+  no-space : (r : Request) → IsFor u dirty push r → Had Refusal.NoSpc r → Answered Refusal.NoSpc
+  no-space (Request.Create who seq name blocks) is had =
+      subst (λ k. Says head events Said.NoSpace (Some (told k))) (sym is)
+      (once-map (HadSo host xid (Reply.Refused inc Refusal.NoSpc) (Request.Create who seq name blocks)) (λ w. HasNoRoom w.server.kept.files w.server.kept.next blocks) head
+      events (λ w so. so.1.1) had)
+  no-space (Request.Resize who seq q file blocks) is had =
+      subst (λ k. Says head events Said.NoSpace (Some (told k))) (sym is.0)
+      (once-map (HadSo host xid (Reply.Refused inc Refusal.NoSpc) (Request.Resize who seq q file blocks))
+      (λ w. CannotGrow w.server.kept.files file blocks) head events (λ w so. so.1.1) had)
+  no-space r is had = absurd (causeless Refusal.NoSpc r (λ w so. so.1.1) had)
 
   -- ---- what a reply names
 
@@ -157,6 +171,7 @@ module _ (head : Head) (events : List Event) (host xid inc : ℕ) (u : UnderWay)
   refused-says Refusal.NoEnt r is leases had = no-entry r is had
   refused-says Refusal.Exist r is leases had = exists r is had
   refused-says Refusal.Stale r is leases had = stale r is leases had
+  refused-says Refusal.NoSpc r is leases had = no-space r is had
   refused-says other r is leases had = tt
 
   -- an answer says what the reply to the call's request says

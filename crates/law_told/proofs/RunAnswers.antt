@@ -109,6 +109,7 @@ rests-so head events (Entry.A who q (Said.OkValue value)) entries journal (inr c
 rests-so head events (Entry.A who q Said.NoEntry) entries journal rests placed = caused-so head events who q Said.NoEntry entries journal (rests refl)
 rests-so head events (Entry.A who q Said.Stale) entries journal rests placed = caused-so head events who q Said.Stale entries journal (rests refl)
 rests-so head events (Entry.A who q Said.Exists) entries journal rests placed = caused-so head events who q Said.Exists entries journal (rests refl)
+rests-so head events (Entry.A who q Said.NoSpace) entries journal rests placed = caused-so head events who q Said.NoSpace entries journal (rests refl)
 rests-so head events other entries journal rests placed = tt
 
 client-so : (head : Head) (events : List Event) (entries journal : List Entry) → AllRest (TellsOf head events journal) entries
