@@ -9,9 +9,9 @@ use Rattle.nq_base.specs.declared.Refusal.TheVariants.{NoEnt, Exist, Inval, NoSp
 use Rattle.nq_base.specs.declared.Reply.{Reply}
 use Rattle.nq_base.specs.declared.Request.{Request}
 use Rattle.nq_base.specs.declared.Said.{Said}
-use Rattle.nq_base.specs.declared.Said.TheVariants.{NoEntry, Exists, NoSpace}
+use Rattle.nq_base.specs.declared.Said.TheVariants.{NoEntry, Exists, NoSpace, Range}
 use Rattle.nq_base.specs.declared.Told.{Told}
-use Rattle.nq_base.specs.declared.Told.TheVariants.{Create, Lookup, Resize}
+use Rattle.nq_base.specs.declared.Told.TheVariants.{Create, Lookup, Read, Fetch, Write, WriteSync, Resize}
 use Rattle.nq_base.specs.declared.Who.{Who}
 use Rattle.nq_model.specs.Journal.{Throughout, SpeaksOf, call_of}
 use Rattle.nq_model.specs.Kept.{File, blocks_of, blocks_in_all, find_file, find_name}
@@ -121,7 +121,8 @@ RefusalsHaveCauses =
 
 -- why a call was answered so: NOENTRY is said to `lookup` alone, and at some moment no file of its name was kept; STALE to a call that
 -- speaks of a file, and no file of its id was kept; EXISTS to `create` alone, and a file of its name was kept; NOSPACE to `create` and
--- `resize` alone, and there was no room for such a file, or for such a length of the file
+-- `resize` alone, and there was no room for such a file, or for such a length of the file; RANGE to `create` and `resize` with a length
+-- that no file can have, and to a call that reads or writes a block
 abbrev pub IsAnsweredSo : Head → List Event → Said → Option Told → Type 0
 IsAnsweredSo head events NoEntry (Some (Lookup name)) = Once (λ w. LacksName w.server.kept.files name) head events
 IsAnsweredSo head events NoEntry other = ⊥
@@ -131,6 +132,13 @@ IsAnsweredSo head events Exists other = ⊥
 IsAnsweredSo head events NoSpace (Some (Create name blocks)) = Once (λ w. HasNoRoom w.server.kept.files w.server.kept.next blocks) head events
 IsAnsweredSo head events NoSpace (Some (Resize file blocks)) = Once (λ w. CannotGrow w.server.kept.files file blocks) head events
 IsAnsweredSo head events NoSpace other = ⊥
+IsAnsweredSo head events Range (Some (Create name blocks)) = IsNoLength blocks
+IsAnsweredSo head events Range (Some (Resize file blocks)) = IsNoLength blocks
+IsAnsweredSo head events Range (Some (Read file block)) = ⊤
+IsAnsweredSo head events Range (Some (Fetch file block)) = ⊤
+IsAnsweredSo head events Range (Some (Write file block value)) = ⊤
+IsAnsweredSo head events Range (Some (WriteSync file block value)) = ⊤
+IsAnsweredSo head events Range other = ⊥
 IsAnsweredSo head events other told = ⊤
 
 -- what is asked of an A at its place
