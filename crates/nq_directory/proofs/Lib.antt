@@ -1,3 +1,4 @@
 pub mod Called
 pub mod Order
 pub mod Dots
+pub mod Fours

@@ -2,6 +2,7 @@
 //! found by halving.
 #![tactic(auto)]
 
+mod comparing;
 mod names;
 mod prefix;
 
