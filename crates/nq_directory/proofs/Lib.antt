@@ -1,4 +1,3 @@
 pub mod Called
 pub mod Order
 pub mod Dots
-pub mod Fours

@@ -1,5 +1,5 @@
 -- Files with their names, in order of the names.
-use Rattle.std.specs.Prelude.{◌≡◌, ◌+◌, ◌*◌, ℕ, Bool, false, List, [], ◌∷◌, Option, Some, None, find, if◌then◌else◌, get_or}
+use Rattle.std.specs.Prelude.{◌≡◌, ℕ, Bool, false, List, [], ◌∷◌, Option, Some, None, find, if◌then◌else◌}
 use Rattle.std.specs.Cmp.Lexicographic.{slice_cmp}
 use Rattle.std.specs.Ordering.{is_lt, nat_cmp}
 use Rattle.nq_model.specs.Profile.{same_bytes}
@@ -8,10 +8,6 @@ use Rattle.nq_directory.specs.declared.names.FileName.{FileName}
 -- whether a name stands before another: by the first byte in which they differ
 unfoldable pub name_before : List ℕ → List ℕ → Bool
 name_before a b = is_lt (slice_cmp nat_cmp a b)
-
--- the number that the first four bytes spell, the highest digit first
-abbrev pub four : List ℕ → ℕ
-four bytes = get_or bytes 0 0 * 16777216 + get_or bytes 1 0 * 65536 + get_or bytes 2 0 * 256 + get_or bytes 3 0
 
 -- whether a file's name stands before a name
 abbrev pub is_before : (name : List ℕ) → FileName → Bool

@@ -2,7 +2,6 @@
 //! found by halving.
 #![tactic(auto)]
 
-mod comparing;
 mod names;
 mod prefix;
 

@@ -4,7 +4,6 @@ ghost use Rattle.std.specs.Prelude.{◌≡◌, ◌+◌, ◌≤◌, ◌<◌, leng
 ghost use Rattle.std.specs.List.{prefix_len};
 ghost use Rattle.nq_directory.specs.Names.{AreInOrder, file_of, is_before, is_named, named, name_before, put_name, put_names};
 
-use crate::comparing::are_before;
 use nq_base::{FileId, Name};
 
 /// A file with its name.
@@ -17,10 +16,11 @@ pub struct FileName {
 }
 
 /// Whether a file's name stands before a name: by the first byte in which they differ.
+#[tactic(auto, unfolding(crate::specs::Names::name_before))]
 fn stands_before(entry: &FileName, name: &Name) -> bool
     ensures { result ≡ is_before name.now entry.now }
 {
-    are_before(entry.name.as_bytes(), name.as_bytes())
+    entry.name.as_bytes().cmp(name.as_bytes()).is_lt()
 }
 
 /// The place of a name: of its entry, or where it would stand.
