@@ -88,7 +88,7 @@ module _ (Cause : (who : Who) (q : ℕ) → Said → Type 0) (c : Client) (journ
   going (Some u) is = (known.under_way u is).tells
 
   called : (op : Call) (under : Option UnderWay) → c.call ≡ under
-      → Going (λ who q op. IsToldBy (Entry.C c.who (c.calls + 1) (told op) ∷ journal) who q op) c.who under
+      → Going (λ who q other. IsToldBy (Entry.C c.who (c.calls + 1) (told op) ∷ journal) who q other) c.who under
   called op None is = tt
   called op (Some u) is = call-told (Entry.C c.who (c.calls + 1) (told op)) journal c.who u.q (told u.call) (known.under_way u is).tells
 
