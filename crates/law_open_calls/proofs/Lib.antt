@@ -1,0 +1,6 @@
+pub mod Queue
+pub mod Hope
+pub mod Served
+pub mod ServerHopes
+pub mod ClientHopes
+pub mod CallRequests
