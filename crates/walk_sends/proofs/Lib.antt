@@ -1,0 +1,3 @@
+pub mod RowsAfter
+pub mod RowFacts
+pub mod StepSends
