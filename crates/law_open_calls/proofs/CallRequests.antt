@@ -44,8 +44,8 @@ free-asks : (c : Client) → c.ticket ≡ None → Asks c
 free-asks c none = other-asks c (λ t asks job. none-some t (sym none ∙ asks))
 
 same-asks : (c d : Client) → d.ticket ≡ c.ticket → d.call ≡ c.call → d.pause ≡ c.pause → c.now ≤ d.now → Asks c → Asks d
-same-asks c d ticket called pause later m = record {
-  about = λ t u asks job has. m.about t u (sym ticket ∙ asks) job (sym called ∙ has);
+same-asks c d ticket calls pause later m = record {
+  about = λ t u asks job has. m.about t u (sym ticket ∙ asks) job (sym calls ∙ has);
   early = λ t asks job. let e = m.early t (sym ticket ∙ asks) job in omega arith;
 }
 

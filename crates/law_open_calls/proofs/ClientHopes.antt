@@ -18,13 +18,13 @@ use Rattle.walk_server.proofs.Rows.{same-number, number-same}
 use Rattle.law_rounds.proofs.Coming.{in-map}
 use Rattle.law_open_calls.proofs.Hope.{file_of_call, access_of_call, Cancels, PutsOff, Safe, Hopeful, IsWished, by_read, by_write, Hoped, Goes, told, waits, vacated, Passes, goes, hoped, InWay, Clear, safe-rest, safe-append, safe-none, safe-fewer}
 
-pub map-in : {A B : Type 0} (f : A → B) (xs : List A) (z : B) → In (map f xs) z → (x : A) × (z ≡ f x)
+pub map-in : {A B : Type 0} (f : A → B) (xs : List A) (z : B) → In (map f xs) z → (x : A) × In xs x × (z ≡ f x)
 map-in f [] z i = absurd i
-map-in f (x ∷ xs) z (inl e) = (x, sym e)
-map-in f (x ∷ xs) z (inr i) = map-in f xs z i
+map-in f (x ∷ xs) z (inl e) = (x, inl refl, sym e)
+map-in f (x ∷ xs) z (inr i) = let m = map-in f xs z i in (m.0, inr m.1, m.2)
 
 none-puts-off : (h : ℕ) (c : Client) (t : Ticket) (h0 : ℕ) (ms : List Message) (z : Packet) → In (map (from_host h0) ms) z → PutsOff h c t z → ⊥
-none-puts-off h c t h0 ms z i o = let m = map-in (from_host h0) ms z i in not-both h0 h m.0 _ (sym m.1 ∙ o.is)
+none-puts-off h c t h0 ms z i o = let m = map-in (from_host h0) ms z i in not-both h0 h m.0 _ (sym m.2 ∙ o.is)
 
 none-cancels : (h : ℕ) (c : Client) (t : Ticket) (h0 : ℕ) (m : Message) (y : Packet) → y ≡ to_host h0 m → h ≢ h0 → Cancels h c t y → ⊥
 none-cancels h c t h0 m y is apart k = apart (told-same h h0 _ m (sym k.is ∙ is)).0
@@ -53,8 +53,8 @@ pub data Leaves (c : Client) (t : ClientStep) (f : ℕ) (row : Row) : Type 0 whe
 pub record Hearer (rows : List Row) (y : Packet) (ys : List Packet) (h : ℕ) (c : Client) (t : ClientStep) : Type 0 where
   pub who : t.client.who ≡ c.who
   pub now : t.client.now ≡ c.now
-  pub opens : (u : UnderWay) → c.call ≡ Some u → (v : UnderWay) × (t.client.call ≡ Some v × (v.call ≡ u.call))
-  pub before : (v : UnderWay) → t.client.call ≡ Some v → (u : UnderWay) × (c.call ≡ Some u × (v.call ≡ u.call))
+  pub opens : (u : UnderWay) → c.call ≡ Some u → (v : UnderWay) × (t.client.call ≡ Some v) × (v.call ≡ u.call)
+  pub before : (v : UnderWay) → t.client.call ≡ Some v → (u : UnderWay) × (c.call ≡ Some u) × (v.call ≡ u.call)
   pub pause : ((k : Ticket) → c.ticket ≡ Some k → PutsOff h c k y → ⊥) → t.client.pause ≡ c.pause
   -- what it hears is a notice, or a reply to the request under way
   pub ticket : (l : Ticket) → t.client.ticket ≡ Some l → TicketNow h c t y ys l
@@ -79,7 +79,7 @@ module _ (rows : List Row) (clients : List Client) (y : Packet) (ys : List Packe
     client = k.client;
     under = k.under;
     at = other-client h apart ∙ k.at;
-    open = k.open;
+    opened = k.opened;
     unpaused = k.unpaused;
     safe = λ t asks. safe-append h k.client t ys more (safe-rest h k.client t y ys (none-cancels h k.client t h0 m y is apart) (k.safe t asks))
         (safe-none h k.client t more (λ z i o. none-puts-off h k.client t h0 _ z i o));
@@ -102,8 +102,8 @@ module _ (rows : List Row) (clients : List Client) (y : Packet) (ys : List Packe
   own-hopes : Hopeful clients (y ∷ ys) h0 → Hopeful later (ys ++ more) h0
   own-hopes k =
       let one : k.client ≡ c = some-same k.client c (sym k.at ∙ at) in
-      let open : c.call ≡ Some k.under = ap (λ (d : Client). d.call) (sym one) ∙ k.open in
-      let v = a.opens k.under open in
+      let opened : c.call ≡ Some k.under = ap (λ (d : Client). d.call) (sym one) ∙ k.opened in
+      let v = a.opens k.under opened in
       let paused : t.client.pause ≡ c.pause = a.pause (λ l asks o. not-off one l asks o) in
       let time = a.now in
       let early : c.pause ≤ c.now = subst (λ (d : Client). d.pause ≤ d.now) one k.unpaused in
@@ -111,7 +111,7 @@ module _ (rows : List Row) (clients : List Client) (y : Packet) (ys : List Packe
         client = t.client;
         under = v.0;
         at = own-client;
-        open = v.1;
+        opened = v.1;
         unpaused = omega arith;
         safe = λ l asks. safe-append h0 t.client l ys more (own-safe k one l asks (a.ticket l asks)) (safe-none h0 t.client l more (λ z i o. none-puts-off h0 t.client l h0 _ z i o));
       }
@@ -139,13 +139,13 @@ module _ (rows : List Row) (clients : List Client) (y : Packet) (ys : List Packe
       whose : (e : Bool) → (h == h0) ≡ e → n.under.call ≡ k.under.call
       whose false e =
           let one : k.client ≡ n.client = some-same k.client n.client (sym k.at ∙ sym (other-client h (λ same. let yes : (h == h0) ≡ true = number-same h h0 same in absurd (cc))) ∙ n.at) in
-          ap (λ (v : UnderWay). v.call) (some-same n.under k.under (sym n.open ∙ ap (λ (d : Client). d.call) (sym one) ∙ k.open))
+          ap (λ (v : UnderWay). v.call) (some-same n.under k.under (sym n.opened ∙ ap (λ (d : Client). d.call) (sym one) ∙ k.opened))
       whose true e =
           let same : h ≡ h0 = same-number h h0 e in
           let old : k.client ≡ c = some-same k.client c (sym k.at ∙ subst (λ i. slice_get clients i ≡ Some c) (sym same) at) in
           let now : n.client ≡ t.client = some-same n.client t.client (sym n.at ∙ subst (λ i. slice_get later i ≡ Some t.client) (sym same) own-client) in
-          let v = a.opens k.under (ap (λ (d : Client). d.call) (sym old) ∙ k.open) in
-          ap (λ (w : UnderWay). w.call) (some-same n.under v.0 (sym n.open ∙ ap (λ (d : Client). d.call) now ∙ v.1)) ∙ v.2
+          let v = a.opens k.under (ap (λ (d : Client). d.call) (sym old) ∙ k.opened) in
+          ap (λ (w : UnderWay). w.call) (some-same n.under v.0 (sym n.opened ∙ ap (λ (d : Client). d.call) now ∙ v.1)) ∙ v.2
 
   left : (f : ℕ) (row : Row) → Leaves c t f row → Goes later (ys ++ more) f h0 row
   left f row (gives_up n i) = vacated n (in-right ys more _ (in-map (from_host h0) t.sends _ i))
@@ -171,21 +171,21 @@ module _ (rows : List Row) (clients : List Client) (y : Packet) (ys : List Packe
           (left f row (a.waits_on n f row (subst (λ i. find_row f i rows ≡ Some row) same found) (ap (λ (z : Client). notice_on f z.notices) (sym one) ∙ noted) tag))
 
   pub clear-on : (going : Bool) (host : ℕ) → Clear going rows clients (y ∷ ys) host → Clear going rows later (ys ++ more) host
-  clear-on going host before d u f there open file h row w = by (same-call (host == h0) refl)
+  clear-on going host before d u f there opened file h row w = by (same-call (host == h0) refl)
     where
-      same-call : (e : Bool) → (host == h0) ≡ e → (z : Client) × ((v : UnderWay) × (slice_get clients host ≡ Some z × (z.call ≡ Some v × (u.call ≡ v.call))))
-      same-call false e = (d, u, sym (other-client host (λ same. let yes : (host == h0) ≡ true = number-same host h0 same in absurd (cc))) ∙ there, open, refl)
+      same-call : (e : Bool) → (host == h0) ≡ e → (z : Client) × (v : UnderWay) × (slice_get clients host ≡ Some z) × (z.call ≡ Some v) × (u.call ≡ v.call)
+      same-call false e = (d, u, sym (other-client host (λ same. let yes : (host == h0) ≡ true = number-same host h0 same in absurd (cc))) ∙ there, opened, refl)
       same-call true e =
           let same : host ≡ h0 = same-number host h0 e in
           let now : d ≡ t.client = some-same d t.client (sym there ∙ subst (λ i. slice_get later i ≡ Some t.client) (sym same) own-client) in
-          let v = a.before u (ap (λ (z : Client). z.call) (sym now) ∙ open) in
+          let v = a.before u (ap (λ (z : Client). z.call) (sym now) ∙ opened) in
           (c, v.0, subst (λ i. slice_get clients i ≡ Some c) (sym same) at, v.1, v.2)
 
       passes : Passes going clients (y ∷ ys) f h row → Passes going later (ys ++ more) f h row
       passes (goes may to_go way) = goes may to_go (goes-on f h row w.found way)
       passes (hoped k) = let n = hopes-on h k.hope in hoped (record { hope = n; wished = wish-call k.hope.under n.under f row.mode (under-same h k.hope n) k.wished })
 
-      by : (z : Client) × ((v : UnderWay) × (slice_get clients host ≡ Some z × (z.call ≡ Some v × (u.call ≡ v.call)))) → Passes going later (ys ++ more) f h row
+      by : (z : Client) × (v : UnderWay) × (slice_get clients host ≡ Some z) × (z.call ≡ Some v) × (u.call ≡ v.call) → Passes going later (ys ++ more) f h row
       by s = passes (before s.0 s.1 f s.2 s.3 (ap file_of_call (sym s.4) ∙ file) h row (subst (λ z. InWay rows host f z h row) (ap access_of_call s.4) w))
 
 -- ---- a packet that is ignored
@@ -196,7 +196,7 @@ module _ (rows : List Row) (clients : List Client) (y : Packet) (ys : List Packe
     client = k.client;
     under = k.under;
     at = k.at;
-    open = k.open;
+    opened = k.opened;
     unpaused = k.unpaused;
     safe = λ l asks. safe-rest h k.client l y ys (not l) (k.safe l asks);
   }
@@ -216,7 +216,8 @@ module _ (rows : List Row) (clients : List Client) (y : Packet) (ys : List Packe
       absurd (unnamed n f row (subst (λ i. find_row f i rows ≡ Some row) (sym same) found) (e ∙ ap (λ i. to_host i (call n (Request.Evicted row.who f row.tag))) (sym same)))
 
   pub ignored-clear : (going : Bool) (host : ℕ) → Clear going rows clients (y ∷ ys) host → Clear going rows clients ys host
-  ignored-clear going host before d u f there open file h row w = by (before d u f there open file h row w)
+  unfolding ignored-hopes
+  ignored-clear going host before d u f there opened file h row w = by (before d u f there opened file h row w)
     where
       by : Passes going clients (y ∷ ys) f h row → Passes going clients ys f h row
       by (goes may to_go way) = goes may to_go (ignored-goes f h row w.found way)

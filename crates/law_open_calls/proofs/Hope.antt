@@ -72,7 +72,7 @@ pub record Hopeful (clients : List Client) (q : List Packet) (h : ℕ) : Type 0 
   pub client : Client
   pub under : UnderWay
   pub at : slice_get clients h ≡ Some client
-  pub open : client.call ≡ Some under
+  pub opened : client.call ≡ Some under
   pub unpaused : client.pause ≤ client.now
   pub safe : (t : Ticket) → client.ticket ≡ Some t → Safe h client t q
 

@@ -4,3 +4,5 @@ pub mod Served
 pub mod ServerHopes
 pub mod ClientHopes
 pub mod CallRequests
+pub mod HearerAt
+pub mod Counts

@@ -45,10 +45,10 @@ pub record IsOff (rows after : List Row) (more : List Packet) (b : ℕ) (c : Cli
   pub f : ℕ
   pub ch : ℕ
   pub clash : Row
-  pub open : c.call ≡ Some u
+  pub opened : c.call ≡ Some u
   pub file : file_of_call u.call ≡ Some f
   pub way : InWay rows b f (access_of_call u.call) ch clash
-  pub told_all : (h : ℕ) (row : Row) → InWay after b f (access_of_call u.call) h row → (row.evicting ≡ true) × ((n : ℕ) × In more (to_host h (call n (Request.Evicted row.who f row.tag))))
+  pub told_all : (h : ℕ) (row : Row) → InWay after b f (access_of_call u.call) h row → (row.evicting ≡ true) × (n : ℕ) × In more (to_host h (call n (Request.Evicted row.who f row.tag)))
   pub only : OnlyStays rows after
 
 -- who hoped hopes on; or all but the asker do, who was put off
@@ -66,7 +66,7 @@ module _ (rows after : List Row) (clients : List Client) (y : Packet) (ys more :
     client = k.client;
     under = k.under;
     at = k.at;
-    open = k.open;
+    opened = k.opened;
     unpaused = k.unpaused;
     safe = λ t asks. safe-append h k.client t ys more (safe-rest h k.client t y ys (λ n. not-told h _ n.is) (k.safe t asks)) (safe k.client t k.at asks);
   }
@@ -114,7 +114,7 @@ module _ (rows after : List Row) (clients : List Client) (y : Packet) (ys more :
   -- ---- put off for rows of others
 
   only-own : (h : ℕ) → Hopeful clients (y ∷ ys) h → h ≡ b → (c.call ≡ None) → ⊥
-  only-own h k same none = none-some k.under (sym none ∙ ap (λ (z : Client). z.call) (own-client k.client (subst (λ n. slice_get clients n ≡ Some k.client) same k.at)) ∙ k.open)
+  only-own h k same none = none-some k.under (sym none ∙ ap (λ (z : Client). z.call) (own-client k.client (subst (λ n. slice_get clients n ≡ Some k.client) same k.at)) ∙ k.opened)
 
   not-own : c.call ≡ None → (h : ℕ) → Hopeful clients (y ∷ ys) h → Hopeful clients (ys ++ more) h
   not-own none h k = whose (h == b) refl
@@ -128,16 +128,16 @@ module _ (rows after : List Row) (clients : List Client) (y : Packet) (ys more :
     where
       is-call : (t : Ticket) → c.ticket ≡ Some t → t.xid ≡ x → t.job ≡ for_call → (o : Option UnderWay) → c.call ≡ o → Fate rows after clients y ys more b c
       is-call t asks number job None none = all_on (not-own none)
-      is-call t asks number job (Some u) open =
+      is-call t asks number job (Some u) opened =
           let one : t.request ≡ r = a.same t asks number in
-          let m = a.meant t u f asks job open (ap file_of one ∙ on) in
+          let m = a.meant t u f asks job opened (ap file_of one ∙ on) in
           let access : access_by r ≡ access_of_call u.call = sym (ap access_by one) ∙ m.1 in
           off other-hopes (record {
             u = u;
             f = f;
             ch = ch;
             clash = clash;
-            open = open;
+            opened = opened;
             file = m.0;
             way = subst (λ e. InWay rows b f e ch clash) access way;
             told_all = λ h row w. each h row (subst (λ e. InWay after b f e h row) (sym access) w);
@@ -146,7 +146,7 @@ module _ (rows after : List Row) (clients : List Client) (y : Packet) (ys more :
 
       renewal : (t : Ticket) → c.ticket ≡ Some t → t.job ≡ renewing → (o : Option UnderWay) → c.call ≡ o → Fate rows after clients y ys more b c
       renewal t asks job None none = all_on (not-own none)
-      renewal t asks job (Some u) open = absurd (a.unrenewed t u asks open job)
+      renewal t asks job (Some u) opened = absurd (a.unrenewed t u asks opened job)
 
       of-job : (t : Ticket) → c.ticket ≡ Some t → t.xid ≡ x → (job : Job) → t.job ≡ job → Fate rows after clients y ys more b c
       of-job t asks number for_call job = is-call t asks number job c.call refl
@@ -202,7 +202,7 @@ module _ (rows after : List Row) (clients : List Client) (y : Packet) (ys more :
   none-hoped o f was found kind k = by k.wished
     where
       one : k.hope.under ≡ o.u
-      one = some-same k.hope.under o.u (sym k.hope.open ∙ ap (λ (z : Client). z.call) (sym (own-client k.hope.client k.hope.at)) ∙ o.open)
+      one = some-same k.hope.under o.u (sym k.hope.opened ∙ ap (λ (z : Client). z.call) (sym (own-client k.hope.client k.hope.at)) ∙ o.opened)
 
       call-is : (op : Call) → k.hope.under.call ≡ op → o.u.call ≡ op
       call-is op e = ap (λ (v : UnderWay). v.call) (sym one) ∙ e
@@ -233,11 +233,11 @@ module _ (rows after : List Row) (clients : List Client) (y : Packet) (ys more :
   passes-on going (all_on on) f h was row found kind s there (hoped k) = hoped (record { hope = on h k.hope; wished = wished-same (on h k.hope).under f was.mode row.mode s.mode (same-wish k (on h k.hope)) })
     where
       same-wish : (k : Hoped clients (y ∷ ys) f h was) (n : Hopeful clients (ys ++ more) h) → IsWished n.under f was.mode
-      same-wish k n = let one : k.hope.under ≡ n.under = some-same k.hope.under n.under (sym k.hope.open ∙ ap (λ (z : Client). z.call) (some-same k.hope.client n.client (sym k.hope.at ∙ n.at)) ∙ n.open) in subst (λ u. IsWished u f was.mode) one k.wished
+      same-wish k n = let one : k.hope.under ≡ n.under = some-same k.hope.under n.under (sym k.hope.opened ∙ ap (λ (z : Client). z.call) (some-same k.hope.client n.client (sym k.hope.at ∙ n.at)) ∙ n.opened) in subst (λ u. IsWished u f was.mode) one k.wished
   passes-on going (off others o) f h was row found kind s there (hoped k) = whose (h == b) refl
     where
       same-wish : (n : Hopeful clients (ys ++ more) h) → IsWished n.under f was.mode
-      same-wish n = let one : k.hope.under ≡ n.under = some-same k.hope.under n.under (sym k.hope.open ∙ ap (λ (z : Client). z.call) (some-same k.hope.client n.client (sym k.hope.at ∙ n.at)) ∙ n.open) in subst (λ u. IsWished u f was.mode) one k.wished
+      same-wish n = let one : k.hope.under ≡ n.under = some-same k.hope.under n.under (sym k.hope.opened ∙ ap (λ (z : Client). z.call) (some-same k.hope.client n.client (sym k.hope.at ∙ n.at)) ∙ n.opened) in subst (λ u. IsWished u f was.mode) one k.wished
 
       whose : (e : Bool) → (h == b) ≡ e → Passes going clients (ys ++ more) f h row
       whose true e =
@@ -251,11 +251,11 @@ module _ (rows after : List Row) (clients : List Client) (y : Packet) (ys more :
 
   -- who asks for a lease for its call hopes, before and after
   asker-hopes : (f : ℕ) (want : Want) → IsWant r f want → (u : UnderWay) → c.call ≡ Some u → c.pause ≤ c.now → Hopeful clients (y ∷ ys) b
-  asker-hopes f want w u open unpaused = record {
+  asker-hopes f want w u opened unpaused = record {
     client = c;
     under = u;
     at = at;
-    open = open;
+    opened = opened;
     unpaused = unpaused;
     safe = λ t asks. inr ((λ o. not-told b _ o.is), safe-none b c t ys (λ z i o. a.unreplied f want w t (Reply.Refused c.who.inc o.status) asks (subst (λ p. In ys p) o.is i) refl));
   }
@@ -270,57 +270,57 @@ module _ (rows after : List Row) (clients : List Client) (y : Packet) (ys more :
   fits-wish u f want m writes (write_fits block body e mode) = by_write block body e (writes mode)
 
   on-for-asker : (f : ℕ) (want : Want) → IsWant r f want → ((h : ℕ) → Hopeful clients (y ∷ ys) h → Hopeful clients (ys ++ more) h) → (u : UnderWay) → c.call ≡ Some u → c.pause ≤ c.now → Fits u f want → (m : Mode) → (want.mode ≡ Mode.Writing → is_writing m ≡ true) → (row : Row) → row.mode ≡ m → Hoped clients (ys ++ more) f b row
-  on-for-asker f want w on u open unpaused fit m writes row kind =
-      let n = on b (asker-hopes f want w u open unpaused) in
-      let one : u ≡ n.under = some-same u n.under (sym open ∙ ap (λ (z : Client). z.call) (own-client n.client n.at) ∙ n.open) in
+  on-for-asker f want w on u opened unpaused fit m writes row kind =
+      let n = on b (asker-hopes f want w u opened unpaused) in
+      let one : u ≡ n.under = some-same u n.under (sym opened ∙ ap (λ (z : Client). z.call) (own-client n.client n.at) ∙ n.opened) in
       record { hope = n; wished = subst (IsWished n.under f) (sym kind) (subst (λ v. IsWished v f m) one (fits-wish u f want m writes fit)) }
 
   -- ---- what is in the way
 
   module _ (going : Bool) (host : ℕ) (before : Clear going rows clients (y ∷ ys) host) where
     old : (d : Client) (u : UnderWay) (f : ℕ) → slice_get clients host ≡ Some d → d.call ≡ Some u → file_of_call u.call ≡ Some f → (h : ℕ) (was row : Row) → find_row f h rows ≡ Some was → h ≢ host → row.mode ≡ was.mode → mode_conflicts (access_of_call u.call) row.mode ≡ true → Passes going clients (y ∷ ys) f h was
-    old d u f there open file h was row found apart kind c = before d u f there open file h was (record { found = found; other = apart; conflicts = subst (λ m. mode_conflicts (access_of_call u.call) m ≡ true) kind c })
+    old d u f there opened file h was row found apart kind c = before d u f there opened file h was (record { found = found; other = apart; conflicts = subst (λ m. mode_conflicts (access_of_call u.call) m ≡ true) kind c })
 
     still : Fate rows after clients y ys more b c → (d : Client) (u : UnderWay) (f : ℕ) → slice_get clients host ≡ Some d → d.call ≡ Some u → file_of_call u.call ≡ Some f → (h : ℕ) (row : Row) → InWay after host f (access_of_call u.call) h row → (was : Row) → find_row f h rows ≡ Some was → IsStill was row → Passes going clients (ys ++ more) f h row
-    still fate d u f there open file h row w was found s =
+    still fate d u f there opened file h row w was found s =
         passes-on going fate f h was row found (conflict-caches (access_of_call u.call) was.mode (subst (λ m. mode_conflicts (access_of_call u.call) m ≡ true) s.mode w.conflicts)) s w.found
-        (old d u f there open file h was row found w.other s.mode w.conflicts)
+        (old d u f there opened file h was row found w.other s.mode w.conflicts)
 
     shared-not : (u : UnderWay) (row : Row) → mode_conflicts (access_of_call u.call) row.mode ≡ true → caches row.mode ≡ false → ⊥
     shared-not u row w e = let yes = conflict-caches (access_of_call u.call) row.mode w in cc
 
     from-all : ((h : ℕ) → Hopeful clients (y ∷ ys) h → Hopeful clients (ys ++ more) h) → ((f h : ℕ) (row : Row) → find_row f h after ≡ Some row → RowFrom rows b r f h row) → Clear going after clients (ys ++ more) host
-    from-all on from d u f there open file h row w = by (from f h row w.found)
+    from-all on from d u f there opened file h row w = by (from f h row w.found)
       where
         at-host : h ≡ b → Hoped clients (ys ++ more) f b row → Passes going clients (ys ++ more) f h row
         at-host same k = hoped (subst (λ n. Hoped clients (ys ++ more) f n row) (sym same) k)
 
         begun : (want : Want) → h ≡ b → IsWant r f want → find_row f h rows ≡ None → row.mode ≡ want.mode → Wanting rows b c f want → Passes going clients (ys ++ more) f h row
         begun want same wants none kind (by_call v called unpaused fit) = at-host same (on-for-asker f want wants on v called unpaused fit want.mode (λ e. ap is_writing e) row kind)
-        begun want same wants none kind (by_renewal idle own found stays) = none-some own (sym (subst (λ n. find_row f n rows ≡ None) same none) ∙ found)
+        begun want same wants none kind (by_renewal idle own found mode) = none-some own (sym (subst (λ n. find_row f n rows ≡ None) same none) ∙ found)
 
         renewed : (want : Want) (own : Row) → h ≡ b → IsWant r f want → find_row f h rows ≡ Some own → own.evicting ≡ false → row.mode ≡ greater_mode own.mode want.mode → Wanting rows b c f want → Passes going clients (ys ++ more) f h row
-        renewed want own same wants found stays kind (by_call v called unpaused fit) = at-host same (on-for-asker f want wants on v called unpaused fit (greater_mode own.mode want.mode) (λ e. subst (λ m. is_writing (greater_mode own.mode m) ≡ true) (sym e) (greater-writing own.mode)) row kind)
-        renewed want own same wants found stays kind (by_renewal idle that at_b mode) =
+        renewed want own same wants found quiet_row kind (by_call v called unpaused fit) = at-host same (on-for-asker f want wants on v called unpaused fit (greater_mode own.mode want.mode) (λ e. subst (λ m. is_writing (greater_mode own.mode m) ≡ true) (sym e) (greater-writing own.mode)) row kind)
+        renewed want own same wants found quiet_row kind (by_renewal idle that at_b mode) =
             let one : own ≡ that = some-same own that (sym (subst (λ n. find_row f n rows ≡ Some own) same found) ∙ at_b) in
             let kept : row.mode ≡ own.mode = kind ∙ subst (λ (z : Row). greater_mode z.mode want.mode ≡ z.mode) (sym one) mode in
-            which (old d u f there open file h own row found w.other kept w.conflicts)
+            which (old d u f there opened file h own row found w.other kept w.conflicts)
           where
             which : Passes going clients (y ∷ ys) f h own → Passes going clients (ys ++ more) f h row
             which (goes may to_go way) = absurd (cc)
             which (hoped k) = absurd (only-own h k.hope same idle)
 
         by : RowFrom rows b r f h row → Passes going clients (ys ++ more) f h row
-        by (stays was found s) = still (all_on on) d u f there open file h row w was found s
+        by (stays was found s) = still (all_on on) d u f there opened file h row w was found s
         by (shares e) = absurd (shared-not u row w.conflicts e)
         by (begins want same wants none kind) = begun want same wants none kind (a.wants f want wants)
         by (renews want own same wants found not_going kind) = renewed want own same wants found not_going kind (a.wants f want wants)
 
     from-stays : Fate rows after clients y ys more b c → OnlyStays rows after → Clear going after clients (ys ++ more) host
-    from-stays fate only d u f there open file h row w = by (only f h row w.found)
+    from-stays fated only d u f there opened file h row w = by (only f h row w.found)
       where
-        by : ((was : Row) × (find_row f h rows ≡ Some was × IsStill was row)) ⊎ (caches row.mode ≡ false) → Passes going clients (ys ++ more) f h row
-        by (inl s) = still fate d u f there open file h row w s.0 s.1 s.2
+        by : ((was : Row) × (find_row f h rows ≡ Some was) × IsStill was row) ⊎ (caches row.mode ≡ false) → Passes going clients (ys ++ more) f h row
+        by (inl s) = still fated d u f there opened file h row w s.0 s.1 s.2
         by (inr e) = absurd (shared-not u row w.conflicts e)
 
   -- what was clear stays so
@@ -338,8 +338,8 @@ module _ (rows after : List Row) (clients : List Client) (y : Packet) (ys more :
 
   -- who was put off has a clear way from then on
   pub off-clear : IsOff rows after more b c → Clear true after clients (ys ++ more) b
-  off-clear o d u f there open file h row w =
-      let one : o.u ≡ u = some-same o.u u (sym o.open ∙ ap (λ (z : Client). z.call) (own-client d there) ∙ open) in
+  off-clear o d u f there opened file h row w =
+      let one : o.u ≡ u = some-same o.u u (sym o.opened ∙ ap (λ (z : Client). z.call) (own-client d there) ∙ opened) in
       let same : o.f ≡ f = some-same o.f f (sym o.file ∙ ap (λ (v : UnderWay). file_of_call v.call) one ∙ file) in
       let at_f : InWay after b o.f (access_of_call u.call) h row = subst (λ g. InWay after b g (access_of_call u.call) h row) (sym same) w in
       let t = o.told_all h row (subst (λ (v : UnderWay). InWay after b o.f (access_of_call v.call) h row) (sym one) at_f) in
@@ -347,7 +347,7 @@ module _ (rows after : List Row) (clients : List Client) (y : Packet) (ys more :
 
   -- where no row goes, whoever holds a row in the way of one who is put off hopes on
   pub off-hope : ((h : ℕ) → h ≢ b → Hopeful clients (y ∷ ys) h → Hopeful clients (ys ++ more) h) → IsOff rows after more b c → Clear false rows clients (y ∷ ys) b → (h : ℕ) × Hopeful clients (ys ++ more) h
-  off-hope others o before = by (before c o.u o.f at o.open o.file o.ch o.clash o.way)
+  off-hope others o before = by (before c o.u o.f at o.opened o.file o.ch o.clash o.way)
     where
       by : Passes false clients (y ∷ ys) o.f o.ch o.clash → (h : ℕ) × Hopeful clients (ys ++ more) h
       by (goes may to_go way) = absurd (cc)
