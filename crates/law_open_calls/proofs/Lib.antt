@@ -6,3 +6,7 @@ pub mod ClientHopes
 pub mod CallRequests
 pub mod HearerAt
 pub mod Counts
+pub mod Delivery
+pub mod Frames
+pub mod FoundLeases
+pub mod TickRenews

@@ -28,7 +28,7 @@ queue p = packets_of p.world.packets p.fresh
 
 -- ---- numbers
 
-there-is : {A : Type 0} (xs : List A) (k : ℕ) → k < length xs → (o : Option A) → slice_get xs k ≡ o → (x : A) × (o ≡ Some x)
+pub there-is : {A : Type 0} (xs : List A) (k : ℕ) → k < length xs → (o : Option A) → slice_get xs k ≡ o → (x : A) × (o ≡ Some x)
 there-is [] k below o e = absurd (omega arith)
 there-is (x ∷ xs) zero below o e = (x, sym e)
 there-is (x ∷ xs) (suc k) below o e = there-is xs k (omega arith) o e
