@@ -1,0 +1,4 @@
+pub mod NewPackets
+pub mod StepNumbers
+pub mod InLine
+pub mod QueueRounds
