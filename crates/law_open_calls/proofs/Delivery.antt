@@ -1,6 +1,6 @@
 -- A delivery of a calm network while the server serves, packet by packet: what holds of each request under way, and what each packet leaves of
 -- hopes and of rows in the way. Or a call is answered.
-use Rattle.std.proofs.Common.{◌≡◌, ◌≢◌, ◌≤◌, ◌<◌, ◌⊎◌, ℕ, ◌+◌, ◌==◌, ◌++◌, Bool, true, false, zero, suc, List, [], ◌∷◌, Option, Some, None, is_some, nat_le, length, refl, sym, subst, ap, ◌∙◌, arith, inl, inr, append-nil}
+use Rattle.std.proofs.Common.{◌≡◌, ◌≢◌, ◌≤◌, ◌<◌, ◌⊎◌, ℕ, ◌+◌, ◌==◌, ◌++◌, Bool, true, false, not, zero, suc, List, [], ◌∷◌, Option, Some, None, is_some, nat_le, length, refl, sym, subst, ap, ◌∙◌, arith, inl, inr, append-nil}
 use Rattle.std.specs.Prelude.{map, slice_get, slice_set}
 use Rattle.std.proofs.lemmas.Bool.{and_from}
 use Rattle.nq_base.specs.declared.Call.{Call}
@@ -14,7 +14,7 @@ use Rattle.nq_base.specs.declared.Tag.{Tag}
 use Rattle.nq_base.specs.declared.Want.{Want}
 use Rattle.nq_base.specs.declared.Who.{Who}
 use Rattle.nq_model.specs.Client.{Client, ClientStep, Job, attaching, for_call, renewing, pushing, Notice, Ticket, UnderWay, begun, lease_on, notice_on}
-use Rattle.nq_model.specs.Hear.{hear, inc_of, holds_later, cancels, cancelled, evicted, goes_on}
+use Rattle.nq_model.specs.Hear.{hear, inc_of, refusal_counts, holds_later, cancels, cancelled, evicted, goes_on}
 use Rattle.nq_model.specs.Kept.{host_row}
 use Rattle.nq_model.specs.Lines.{Play, play}
 use Rattle.nq_model.specs.Message.{Message, Packet, call, reply, request, datagram_of, asker, sequence_of}
@@ -59,7 +59,7 @@ use Rattle.law_open_calls.proofs.ServerHopes.{Asker, Fate, all_on, off, fate, cl
 
 pub record InOrder (p : Play) (host : ℕ) (c : Client) : Type 0 where
   -- a request is the client's
-  pub asks : (x : ℕ) (r : Request) → Comes p (from_host host (call x r)) → (asker r ≡ Some c.who) × (datagram_of (call x r) ≡ request x r)
+  pub asks : (x : ℕ) (r : Request) → Comes p (from_host host (call x r)) → asker r ≡ Some c.who
   -- its sequence was not decided yet
   pub fresh : (x n : ℕ) (r : Request) → Comes p (from_host host (call x r)) → sequence_of r ≡ Some n → (host_row p.world.server.kept host).seq < n
   -- one that wants a lease comes before each reply to the request under way
@@ -111,6 +111,14 @@ pub data Moves (w v : World) (q q' : List Packet) : Type 0 where
       → (Clear false w.server.table.rows w.clients q b → (h : ℕ) × Hopeful v.clients q' h)
       → Moves w v q q'
 
+-- a call that is open was open, and who paused goes on to pause as before
+abbrev pub Paused : World → World → Type 0
+Paused w v =
+    (a : ℕ) (d : Client) (u : UnderWay)
+    → slice_get v.clients a ≡ Some d
+    → d.call ≡ Some u
+    → (c : Client) × (o : UnderWay) × (slice_get w.clients a ≡ Some c) × (c.call ≡ Some o) × (c.now < c.pause → (d.now ≡ c.now) × (d.pause ≡ c.pause))
+
 -- ---- what a client sends
 
 vacated-numbers : (who : Who) (first : ℕ) (ms : List Message) → VacatedFrom who first ms → (x : ℕ) (r : Request) → In ms (call x r) → (first ≤ x) × ((f : ℕ) (want : Want) → IsWant r f want → ⊥)
@@ -159,7 +167,7 @@ none-renews c m t (noticed_sends n file tag e s) before k asks job = by s
     by (only_gives g) = before k (keeps-or-cancels file c.ticket k (sym g.asking ∙ asks)).0 job
     by (then_asks given ticket vs none has sends xid after who now at last asker_is fits renews) = let bad = renews (ap (λ (z : Ticket). z.job) (some-same ticket k (sym has ∙ asks)) ∙ job) in cc
 
-serves-is : (ph : Phase) → recovers ph ≡ false → ph ≡ serving
+pub serves-is : (ph : Phase) → recovers ph ≡ false → ph ≡ serving
 serves-is serving e = refl
 serves-is (recovering until heard last) e = cc
 
@@ -169,7 +177,7 @@ module _ (most : ℕ) (head : Head) (Ordered : Play → Type 0)
     (ordered : (p : Play) → IsLawful most head p → Ordered p → (host : ℕ) (c : Client) → slice_get p.world.clients host ≡ Some c → InOrder p host c)
     (ordered-on : (p : Play) (k : ℕ) (ks : List ℕ) → IsLawful most head p → IsRising p → p.fresh ≡ k ∷ ks → ((host : ℕ) (c : Client) → slice_get p.world.clients host ≡ Some c → c.attached ≡ true) → Ordered p → Ordered (play p (Event.Deliver k)))
     (tags : (p : Play) → IsLawful most head p → (host : ℕ) (c : Client) → slice_get p.world.clients host ≡ Some c → c.attached ≡ true → TagsFit p.world host c)
-    (served : (p : Play) → IsLawful most head p → p.world.server.phase ≡ serving → (b x next : ℕ) (r : Request) (who : Who) → asker r ≡ Some who → who.host ≡ b → (host_row p.world.server.kept b).inc ≡ who.inc → ((n : ℕ) → sequence_of r ≡ Some n → (host_row p.world.server.kept b).seq < n) → (c : Client) → slice_get p.world.clients b ≡ Some c → IsServed p.world.server.table.rows (receive p.world.server b next (request x r)).server.table.rows (receive p.world.server b next (request x r)).sends b who x r)
+    (served : (p : Play) → IsLawful most head p → p.world.server.phase ≡ serving → (b x next : ℕ) (r : Request) (who : Who) → asker r ≡ Some who → who.host ≡ b → (host_row p.world.server.kept b).inc ≡ who.inc → ((n : ℕ) → sequence_of r ≡ Some n → (host_row p.world.server.kept b).seq < n) → (c : Client) → slice_get p.world.clients b ≡ Some c → IsServed p.world.server.table.rows (receive p.world.server b next (datagram_of (call x r))).server.table.rows (receive p.world.server b next (datagram_of (call x r))).sends b who x r)
     where
   pub record State (p : Play) : Type 0 where
     pub lawful : IsLawful most head p
@@ -233,6 +241,7 @@ module _ (most : ℕ) (head : Head) (Ordered : Play → Type 0)
         none_renew : NoneRenew v
         on : (host : ℕ) (c : Client) → slice_get v.clients host ≡ Some c → c.attached ≡ true
         moves : Moves p.world v (y ∷ rest) q
+        pauses : Paused p.world v
 
       -- ---- a request at the server
 
@@ -251,7 +260,7 @@ module _ (most : ℕ) (head : Head) (Ordered : Play → Type 0)
 
         asker-now : Asker p.world.server.table.rows p.world.clients rest b x r c
         asker-now = record {
-          same = λ t asks number. (mine.mail.asked x r c.who there (order.asks x r head-is).0).same refl t asks number;
+          same = λ t asks number. (mine.mail.asked x r c.who there (order.asks x r head-is)).same refl t asks number;
           meant = λ t u f asks job has on. ((run-asks head p.events b c (at-run b c at)).about t u asks job has).about f on;
           unrenewed = λ t u asks has job. st.none_renew b c t u at asks has job;
           held = λ f own found. (tags p st.lawful b c at (st.on b c at)).held f own found;
@@ -271,6 +280,7 @@ module _ (most : ℕ) (head : Head) (Ordered : Play → Type 0)
           wants = λ host z f d q want there_at i w. later host z f d q want there_at (in-append rest t.sends (from_host host (call z q)) i) w;
           none_renew = st.none_renew;
           on = st.on;
+          pauses = λ a d u here has. (d, u, here, has, λ late. (refl, refl));
           moves = by (fate p.world.server.table.rows t.server.table.rows p.world.clients y rest t.sends b x r c at is s asker-now);
         }
           where
@@ -314,9 +324,9 @@ module _ (most : ℕ) (head : Head) (Ordered : Play → Type 0)
 
         server-served : (t : ServerStep) → t ≡ receive p.world.server (sending_host y.sender) (length p.world.packets) (datagram_of y.message) → IsServed p.world.server.table.rows t.server.table.rows t.sends b c.who x r
         server-served t e =
-            let datagram : receive p.world.server (sending_host y.sender) (length p.world.packets) (datagram_of y.message) ≡ receive p.world.server b (length p.world.packets) (request x r) = ap (λ (z : Packet). receive p.world.server (sending_host z.sender) (length p.world.packets) (datagram_of z.message)) is ∙ ap (receive p.world.server b (length p.world.packets)) (order.asks x r head-is).1 in
+            let datagram : receive p.world.server (sending_host y.sender) (length p.world.packets) (datagram_of y.message) ≡ receive p.world.server b (length p.world.packets) (datagram_of (call x r)) = ap (λ (z : Packet). receive p.world.server (sending_host z.sender) (length p.world.packets) (datagram_of z.message)) is in
             subst (λ (v : ServerStep). IsServed p.world.server.table.rows v.server.table.rows v.sends b c.who x r) (sym (e ∙ datagram))
-            (served p st.lawful phase b x (length p.world.packets) r c.who (order.asks x r head-is).0 mine.here (line-inc b c at) (λ n sq. order.fresh x n r head-is sq) c at)
+            (served p st.lawful phase b x (length p.world.packets) r c.who (order.asks x r head-is) mine.here (line-inc b c at) (λ n sq. order.fresh x n r head-is sq) c at)
 
       -- ---- a client hears
 
@@ -398,7 +408,7 @@ module _ (most : ℕ) (head : Head) (Ordered : Play → Type 0)
             low : x < c.xid
             low =
                 let there : Asked p.world.packets c.who.host x r = subst (λ n. Asked p.world.packets n x r) (sym own.here) (rest-sent (from_host h0 (call x r)) i) in
-                (own.mail.asked x r c.who there ((ordered p st.lawful st.order h0 c at).asks x r (rest-later p k ks first st.rising (from_host h0 (call x r)) i).0).0).number refl
+                (own.mail.asked x r c.who there ((ordered p st.lawful st.order h0 c at).asks x r (rest-later p k ks first st.rising (from_host h0 (call x r)) i).0)).number refl
 
             least-now : (v : ℕ) (o : Request) → In (rest ++ map (from_host h0) t.sends) (from_host h0 (call v o)) → x ≤ v
             least-now v o j = from (in-append rest (map (from_host h0) t.sends) (from_host h0 (call v o)) j)
@@ -434,6 +444,7 @@ module _ (most : ℕ) (head : Head) (Ordered : Play → Type 0)
           wants = λ host x f d r want there i w. wants host x f d r want (whose-is host d there) (in-append rest (map (from_host h0) t.sends) (from_host host (call x r)) i) w;
           none_renew = λ host d l u there asks has job. renew host d l u (whose-is host d there) asks has job;
           on = λ host d there. on host d (whose-is host d there);
+          pauses = λ a d u there has. paused a d u (whose-is a d there) has;
           moves = all_move
               (client.hopes-on p.world.server.table.rows p.world.clients y rest h0 y.message c t at is now-hears)
               (client.clear-on p.world.server.table.rows p.world.clients y rest h0 y.message c t at is now-hears);
@@ -442,6 +453,22 @@ module _ (most : ℕ) (head : Head) (Ordered : Play → Type 0)
             on : (host : ℕ) (d : Client) → Whose host d → d.attached ≡ true
             on host d (another apart there) = st.on host d there
             on host d (hers same one) = subst (λ (z : Client). z.attached ≡ true) (sym one) (hear-stays h0 c p.world.packets k y.message t own mail (st.on h0 c at) hears)
+
+            -- who pauses has no request of its call under way
+            not-off : (o : UnderWay) → c.call ≡ Some o → c.now < c.pause → (l : Ticket) → c.ticket ≡ Some l → PutsOff h0 c l y → ⊥
+            not-off o has late l asks x = of-job l.job refl
+              where
+                of-job : (job : Job) → l.job ≡ job → ⊥
+                of-job for_call job = let early = (run-asks head p.events h0 c (at-run h0 c at)).early l asks job in absurd (omega arith)
+                of-job renewing job = st.none_renew h0 c l o at asks has job
+                of-job attaching job = let no : refusal_counts x.status l.request l.job ≡ false = ap (refusal_counts x.status l.request) job in let yes = x.counts in absurd (cc)
+                of-job pushing job = let no : refusal_counts x.status l.request l.job ≡ false = ap (refusal_counts x.status l.request) job ∙ ap not x.off in let yes = x.counts in absurd (cc)
+
+            paused : (a : ℕ) (d : Client) (u : UnderWay) → Whose a d → d.call ≡ Some u → (b : Client) × (o : UnderWay) × (slice_get p.world.clients a ≡ Some b) × (b.call ≡ Some o) × (b.now < b.pause → (d.now ≡ b.now) × (d.pause ≡ b.pause))
+            paused a d u (another apart there) has = (d, u, there, has, λ late. (refl, refl))
+            paused a d u (hers same one) has =
+                let o = now-hears.before u (ap (λ (z : Client). z.call) (sym one) ∙ has) in
+                (c, o.0, subst (λ n. slice_get p.world.clients n ≡ Some c) (sym same) at, o.1, λ late. (ap (λ (z : Client). z.now) one ∙ now-hears.now, ap (λ (z : Client). z.pause) one ∙ now-hears.pause (not-off o.0 o.1 late)))
 
             renew : (host : ℕ) (d : Client) (l : Ticket) (u : UnderWay) → Whose host d → d.ticket ≡ Some l → d.call ≡ Some u → l.job ≡ renewing → ⊥
             renew host d l u (another apart there) asks has job = st.none_renew host d l u there asks has job
@@ -511,6 +538,7 @@ module _ (most : ℕ) (head : Head) (Ordered : Play → Type 0)
           wants = λ host x f d r want there i w. other host x f d r want (st.wants host x f d r want there (in-rest y (from_host host (call x r)) sent i) w);
           none_renew = st.none_renew;
           on = st.on;
+          pauses = λ a d u there has. (d, u, there, has, λ late. (refl, refl));
           moves = all_move
               (client.ignored-hopes p.world.server.table.rows p.world.clients y rest h0 y.message is not-cancelled unnamed)
               (client.ignored-clear p.world.server.table.rows p.world.clients y rest h0 y.message is not-cancelled unnamed);
@@ -525,7 +553,7 @@ module _ (most : ℕ) (head : Head) (Ordered : Play → Type 0)
       -- what a delivery comes to: a call is answered, or the state goes on
       pub data Delivered : Type 0 where
         fewer : open_calls (step p.world (Event.Deliver k)).clients < open_calls p.world.clients → Delivered
-        goes_on_so : State (play p (Event.Deliver k)) → Moves p.world (step p.world (Event.Deliver k)) (queue p) (queue (play p (Event.Deliver k))) → Delivered
+        goes_on_so : State (play p (Event.Deliver k)) → Moves p.world (step p.world (Event.Deliver k)) (queue p) (queue (play p (Event.Deliver k))) → Paused p.world (step p.world (Event.Deliver k)) → Delivered
 
       lead : (v : World) (more : List Packet) (y : Packet) → slice_get p.world.packets k ≡ Some y → step p.world (Event.Deliver k) ≡ v → v.packets ≡ p.world.packets ++ more → Next v (rest ++ more) y → Delivered
       lead v more y sent to packets n =
@@ -542,6 +570,7 @@ module _ (most : ℕ) (head : Head) (Ordered : Play → Type 0)
           (subst (λ (w : World). Moves p.world w (queue p) (queue (play p (Event.Deliver k)))) (sym to)
           (subst (λ z. Moves p.world v (queue p) z) (sym q)
           (subst (λ z. Moves p.world v z (rest ++ more)) (sym (queue-is y sent)) n.moves)))
+          (subst (λ (w : World). Paused p.world w) (sym to) n.pauses)
 
       to-host-is : (y : Packet) (h : ℕ) → slice_get p.world.packets k ≡ Some y → y.to ≡ Party.Client h → y ≡ to_host h y.message
       to-host-is y h sent to = by (holds.sent y (in-get p.world.packets k y sent))

@@ -10,7 +10,7 @@ use Rattle.nq_base.specs.declared.Who.{Who}
 use Rattle.nq_model.specs.Client.{Client, UnderWay, notice_on}
 use Rattle.nq_model.specs.Kept.{host_row}
 use Rattle.nq_model.specs.Lines.{Play, play, play_flow, flow_first}
-use Rattle.nq_model.specs.Message.{Packet, call, reply, request, asker, sequence_of}
+use Rattle.nq_model.specs.Message.{Packet, call, reply, datagram_of, asker, sequence_of}
 use Rattle.nq_model.specs.Server.{serving}
 use Rattle.nq_model.specs.ServerStep.{receive}
 use Rattle.nq_model.specs.Table.{find_row}
@@ -22,7 +22,7 @@ use Rattle.law_rounds.specs.RoundsEndQuiet.{IsQuiet}
 use Rattle.walk_client.proofs.ClientMoves.{some-same, none-some}
 use Rattle.walk_server.proofs.Rows.{same-number, number-same}
 use Rattle.law_open_calls.proofs.Counts.{open_calls, first-less, flow-less}
-use Rattle.law_open_calls.proofs.Delivery.{InOrder, TagsFit, Moves, all_move, all_but, State, Delivered, fewer, goes_on_so, delivers}
+use Rattle.law_open_calls.proofs.Delivery.{InOrder, TagsFit, Moves, all_move, all_but, Paused, State, Delivered, fewer, goes_on_so, delivers}
 use Rattle.law_open_calls.proofs.Hope.{file_of_call, access_of_call, Hopeful, Hoped, Goes, told, waits, vacated, Passes, goes, hoped, InWay, Clear}
 use Rattle.law_open_calls.proofs.Queue.{packets_of, queue}
 use Rattle.law_open_calls.proofs.Served.{IsServed}
@@ -103,9 +103,9 @@ module _ (most : ℕ) (head : Head) (Ordered : Play → Type 0)
     (ordered : (p : Play) → IsLawful most head p → Ordered p → (host : ℕ) (c : Client) → slice_get p.world.clients host ≡ Some c → InOrder p host c)
     (ordered-on : (p : Play) (k : ℕ) (ks : List ℕ) → IsLawful most head p → IsRising p → p.fresh ≡ k ∷ ks → ((host : ℕ) (c : Client) → slice_get p.world.clients host ≡ Some c → c.attached ≡ true) → Ordered p → Ordered (play p (Event.Deliver k)))
     (tags : (p : Play) → IsLawful most head p → (host : ℕ) (c : Client) → slice_get p.world.clients host ≡ Some c → c.attached ≡ true → TagsFit p.world host c)
-    (served : (p : Play) → IsLawful most head p → p.world.server.phase ≡ serving → (b x next : ℕ) (r : Request) (who : Who) → asker r ≡ Some who → who.host ≡ b → (host_row p.world.server.kept b).inc ≡ who.inc → ((n : ℕ) → sequence_of r ≡ Some n → (host_row p.world.server.kept b).seq < n) → (c : Client) → slice_get p.world.clients b ≡ Some c → IsServed p.world.server.table.rows (receive p.world.server b next (request x r)).server.table.rows (receive p.world.server b next (request x r)).sends b who x r)
+    (served : (p : Play) → IsLawful most head p → p.world.server.phase ≡ serving → (b x next : ℕ) (r : Request) (who : Who) → asker r ≡ Some who → who.host ≡ b → (host_row p.world.server.kept b).inc ≡ who.inc → ((n : ℕ) → sequence_of r ≡ Some n → (host_row p.world.server.kept b).seq < n) → (c : Client) → slice_get p.world.clients b ≡ Some c → IsServed p.world.server.table.rows (receive p.world.server b next (datagram_of (call x r))).server.table.rows (receive p.world.server b next (datagram_of (call x r))).sends b who x r)
     (F : World → List Packet → Type 0)
-    (moves : (w v : World) (q q' : List Packet) → Moves w v q q' → F w q → F v q')
+    (moves : (w v : World) (q q' : List Packet) → Moves w v q q' → Paused w v → F w q → F v q')
     where
   -- either a call is answered, or the frame stands
   pub data Ends (p : Play) (count : ℕ) : Type 0 where
@@ -122,10 +122,10 @@ module _ (most : ℕ) (head : Head) (Ordered : Play → Type 0)
           let one : flow_first p.fresh p ≡ play p (Event.Deliver k) = ap (λ fs. flow_first fs p) e in
           let later = flow-less most head n (play p (Event.Deliver k)) (subst (λ (q : Play). IsLawful most head q) one l) in
           answered (omega arith)
-      again k ks e rec (goes_on_so next m) =
+      again k ks e rec (goes_on_so next m s) =
           let l = flows most head 0 p st.lawful in
           let one : open_calls (play p (Event.Deliver k)).world.clients ≤ open_calls p.world.clients = first-less most head (k ∷ ks) p l in
-          widen one (rec (play p (Event.Deliver k)) next (moves p.world (play p (Event.Deliver k)).world (queue p) (queue (play p (Event.Deliver k))) m f))
+          widen one (rec (play p (Event.Deliver k)) next (moves p.world (play p (Event.Deliver k)).world (queue p) (queue (play p (Event.Deliver k))) m s f))
         where
           widen : {q : Play} → open_calls (play p (Event.Deliver k)).world.clients ≤ open_calls p.world.clients → Ends q (open_calls (play p (Event.Deliver k)).world.clients) → Ends q (open_calls p.world.clients)
           widen less (answered a) = answered (omega arith)

@@ -10,3 +10,4 @@ pub mod Delivery
 pub mod Frames
 pub mod FoundLeases
 pub mod TickRenews
+pub mod Begin

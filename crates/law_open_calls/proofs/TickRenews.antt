@@ -22,7 +22,7 @@ use Rattle.walk_client.proofs.SettleWalk.{settle-keeps}
 use Rattle.walk_client.proofs.StepCases.{tick-cases}
 use Rattle.walk_run.proofs.Packets.{In}
 use Rattle.law_open_calls.proofs.FoundLeases.{AreFound, FoundIn, found-closed}
-use Rattle.walk_sends.proofs.StepSends.{NextSends, nothing, asks, next-sends}
+use Rattle.walk_sends.proofs.StepSends.{NextSends, nothing as nothing_sent, asks as then_asked, next-sends}
 use Rattle.walk_server.proofs.Tests.{is-at-most, is-not-at-most, is-below}
 
 -- ---- what a tick renews
@@ -37,8 +37,11 @@ pub record Renews (c : Client) (k : Ticket) : Type 0 where
   pub live : c.now < lease.expiry
   pub asks : k.request ≡ Request.GetLease c.who file (want_of c lease.mode)
 
+record Only (c : Client) : Type 0 where
+  only : (k : Ticket) → c.ticket ≡ Some k → k.job ≡ renewing → Renews c k
+
 abbrev RenewsOnly : ClientStep → Type 0
-RenewsOnly v = (k : Ticket) → v.client.ticket ≡ Some k → k.job ≡ renewing → Renews v.client k
+RenewsOnly v = Only v.client
 
 -- the file of the leases that pass a test is the file of one of them
 least-passes-in : (p : Lease → Bool) (leases : List Lease) (file : ℕ) → least (map file_of_lease (filter p leases)) ≡ Some file → (l : Lease) × In leases l × (l.file ≡ file) × (p l ≡ true)
@@ -56,8 +59,8 @@ least-passes-in p (l ∷ leases) file h = by (p l) refl h (least-passes-in p lea
         which (inr less) = more (again less)
     by false e g again = more (again g)
 
-not-for : (t v : ClientStep) (k : Ticket) → v.client.ticket ≡ Some k → (k.job ≡ renewing → ⊥) → RenewsOnly v
-not-for t v k has other l asks job = absurd (other (ap (λ (z : Ticket). z.job) (some-same k l (sym has ∙ asks)) ∙ job))
+not-for : (c : Client) (k : Ticket) → c.ticket ≡ Some k → (k.job ≡ renewing → ⊥) → Only c
+not-for c k has other = record { only = λ l asks job. absurd (other (ap (λ (z : Ticket). z.job) (some-same k l (sym has ∙ asks)) ∙ job)) }
 
 renews-not : (t : ClientStep) → is_asking (send_next false t) ≡ true → send_next true t ≡ send_next false t
 renews-not t e = rw e refl
@@ -68,19 +71,19 @@ module _ (t : ClientStep) (alone : Alone t.client) (settled : Settled t) (none :
   unfolding sends_request after_seq after_number takes_push gives_up
   by-cases idle = send-cases true t RenewsOnly (record {
     stays_asking = λ ticket asks. absurd (none-some ticket (sym none ∙ asks));
-    stays = λ free nothing_due l asks job. none-some l (sym free ∙ asks);
-    pushing = λ file p free first of. not-for t _ _ refl (λ e. cc);
-    creating = λ u name blocks free is. not-for t _ _ refl (λ e. cc);
-    looking_up = λ u name free is. not-for t _ _ refl (λ e. cc);
-    getting_attributes = λ u file free is. not-for t _ _ refl (λ e. cc);
-    reading = λ u file block free is. not-for t _ _ refl (λ e. cc);
-    fetching = λ u file block free is. not-for t _ _ refl (λ e. cc);
-    writing = λ u file block body free is through. not-for t _ _ refl (λ e. cc);
-    leasing = λ u file block body free is no alone_now. not-for t _ _ refl (λ e. cc);
-    putting = λ u file block body free is first. not-for t _ _ refl (λ e. cc);
-    resizing = λ u file blocks free is clean. not-for t _ _ refl (λ e. cc);
-    removing = λ u file free is clean. not-for t _ _ refl (λ e. cc);
-    renewing = λ file lease tick free nothing_due unpaused renewed held of clean quiet k asks job.
+    stays = λ free nothing_due. record { only = λ l asks job. none-some l (sym free ∙ asks) };
+    pushing = λ file p free first of. not-for _ _ refl (λ e. cc);
+    creating = λ u name blocks free is. not-for _ _ refl (λ e. cc);
+    looking_up = λ u name free is. not-for _ _ refl (λ e. cc);
+    getting_attributes = λ u file free is. not-for _ _ refl (λ e. cc);
+    reading = λ u file block free is. not-for _ _ refl (λ e. cc);
+    fetching = λ u file block free is. not-for _ _ refl (λ e. cc);
+    writing = λ u file block body free is through. not-for _ _ refl (λ e. cc);
+    leasing = λ u file block body free is no alone_now. not-for _ _ refl (λ e. cc);
+    putting = λ u file block body free is first. not-for _ _ refl (λ e. cc);
+    resizing = λ u file blocks free is clean. not-for _ _ refl (λ e. cc);
+    removing = λ u file free is clean. not-for _ _ refl (λ e. cc);
+    renewing = λ file lease tick free nothing_due unpaused renewed held of clean quiet. record { only = λ k asks job.
         let m = least-passes-in (is_to_renew t.client) t.client.leases file renewed in
         let one : m.0 ≡ lease = some-same m.0 lease (sym (found m.0 m.1) ∙ ap (λ n. lease_on n t.client.leases) m.2 ∙ held) in
         let due : is_to_renew t.client lease ≡ true = subst (λ (z : Lease). is_to_renew t.client z ≡ true) one m.3 in
@@ -95,7 +98,7 @@ module _ (t : ClientStep) (alone : Alone t.client) (settled : Settled t) (none :
           caching = c.0;
           live = is-below _ _ c.1;
           asks = ap (λ (z : Ticket). z.request) (sym (some-same _ k asks)) ∙ ap (λ f. Request.GetLease t.client.who f (want_of t.client lease.mode)) of;
-        };
+        } };
   })
 
   renews-only : RenewsOnly (send_next true t)
@@ -107,8 +110,8 @@ module _ (t : ClientStep) (alone : Alone t.client) (settled : Settled t) (none :
           subst RenewsOnly (sym (renews-not t asking)) (next (send_next false t) (next-sends false t))
         where
           next : (v : ClientStep) → NextSends false t v → RenewsOnly v
-          next v (nothing same) k asks job = none-some k (sym none ∙ ap (λ (z : ClientStep). z.client.ticket) (sym same) ∙ asks)
-          next v (asks ticket free has sends xid after who now first last by_who fits renews) k has2 job = let bad = renews (ap (λ (z : Ticket). z.job) (some-same ticket k (sym has ∙ has2)) ∙ job) in absurd (cc)
+          next v (nothing_sent same) = record { only = λ k asks job. none-some k (sym none ∙ ap (λ (z : ClientStep). z.client.ticket) (sym same) ∙ asks) }
+          next v (then_asked ticket free has sends xid after who now first last by_who fits renews) = record { only = λ k has2 job. let bad = renews (ap (λ (z : Ticket). z.job) (some-same ticket k (sym has ∙ has2)) ∙ job) in absurd (cc) }
 
       by : (o : Option UnderWay) → t.client.call ≡ o → RenewsOnly (send_next true t)
       by None idle = by-cases (λ unpaused. idle)
@@ -153,11 +156,11 @@ unfolding at_time
 settled-free c none = same-ticket (begun (at_time c (c.now + 1))) ∙ none
 
 pub tick-renews : (c : Client) → Alone c → AreFound c.leases → c.ticket ≡ None → (k : Ticket) → (client_tick c (c.now + 1)).client.ticket ≡ Some k → k.job ≡ renewing → Renews (client_tick c (c.now + 1)).client k
-tick-renews c alone all none = tick-cases c (c.now + 1) RenewsOnly (record {
+tick-renews c alone all none = (tick-cases c (c.now + 1) RenewsOnly (record {
   again = λ ticket asks late. absurd (none-some ticket (sym none ∙ asks));
   quiet = λ ticket asks soon. absurd (none-some ticket (sym none ∙ asks));
   free = λ free.
       let t = settle (begun (at_time c (c.now + 1))) in
       let b = settle-keeps (found-closed no-notice no-grant) (begun (at_time c (c.now + 1))) (timed c alone all) in
       renews-only t b.alone (settle-settles (begun (at_time c (c.now + 1)))) (settled-free c free) b.core;
-})
+})).only
