@@ -13,3 +13,4 @@ pub mod TickRenews
 pub mod Begin
 pub mod Ticks
 pub mod Rounds
+pub mod AllAnswered
