@@ -1,5 +1,5 @@
 -- Every call is answered once the network is calm.
-use Rattle.std.proofs.Common.{◌≡◌, ◌≤◌, ◌<◌, ◌⊎◌, ℕ, ◌+◌, ◌*◌, zero, suc, List, [], ◌∷◌, Option, Some, None, length, refl, sym, subst, ap, ◌∙◌, arith, inl, inr}
+use Rattle.std.proofs.Common.{◌≡◌, ◌≤◌, ◌<◌, ◌⊎◌, ℕ, ◌+◌, ◌*◌, true, false, zero, suc, List, [], ◌∷◌, Option, Some, None, length, refl, sym, subst, ap, ◌∙◌, arith, inl, inr}
 use Rattle.std.specs.Prelude.{All, slice_get}
 use Rattle.nq_base.specs.declared.Event.{Event}
 use Rattle.nq_model.specs.Client.{Client}
@@ -36,7 +36,7 @@ use Rattle.law_open_calls.proofs.Served.{IsServed}
 use Rattle.law_open_calls.proofs.Rounds.{Round, blocks, attached-next}
 
 left-over : (m k : ℕ) → k ≤ m → (r : ℕ) × (k + r ≡ m)
-left-over m zero below = (m, refl)
+left-over m zero below = (m, omega arith)
 left-over zero (suc k) below = absurd (omega arith)
 left-over (suc m) (suc k) below = let z = left-over m k (omega arith) in (z.0, let e = z.1 in omega arith)
 

@@ -14,3 +14,4 @@ pub mod Begin
 pub mod Ticks
 pub mod Rounds
 pub mod AllAnswered
+pub mod InTime

@@ -1,1 +1,2 @@
 pub mod CallsAnswered
+pub mod StoredInTime
