@@ -15,15 +15,7 @@ use Rattle.walk_client.proofs.ClientMoves.{some-same, none-some}
 use Rattle.walk_run.proofs.Worlds.{Holds, run-holds}
 use Rattle.law_answered.proofs.Calling.{StillOpen, Keeps, hear-keeps}
 use Rattle.law_answered.proofs.LookTickets.{tick-opens}
-
--- 1 for an open call
-abbrev pub one_if_open : Option UnderWay → ℕ
-one_if_open None = 0
-one_if_open (Some u) = 1
-
-abbrev pub open_calls : List Client → ℕ
-open_calls [] = 0
-open_calls (c ∷ clients) = one_if_open c.call + open_calls clients
+pub use Rattle.law_open_calls.specs.CallsAnswered.{one_if_open, open_calls}
 
 pub one-set : (clients : List Client) (h : ℕ) (c d : Client) → slice_get clients h ≡ Some c → open_calls (slice_set clients h d) + one_if_open c.call ≡ open_calls clients + one_if_open d.call
 one-set [] h c d is = none-some c is

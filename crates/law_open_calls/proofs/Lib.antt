@@ -15,3 +15,4 @@ pub mod Ticks
 pub mod Rounds
 pub mod AllAnswered
 pub mod InTime
+pub mod SomeCalls

@@ -387,7 +387,7 @@ module _ (most : ℕ) (head : Head) (Ordered : Play → Type 0)
   -- ---- any number of rounds
 
   module _ where
-    rounds-less : (n : ℕ) (r : Play) → IsLawful most head r → open_calls (calm_rounds n r).world.clients ≤ open_calls r.world.clients
+    pub rounds-less : (n : ℕ) (r : Play) → IsLawful most head r → open_calls (calm_rounds n r).world.clients ≤ open_calls r.world.clients
     unfolding calm_round
     rounds-less zero r l = omega arith
     rounds-less (suc n) r l =

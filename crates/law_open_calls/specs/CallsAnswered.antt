@@ -1,7 +1,8 @@
 -- Once the network is calm every call is answered, and every client is attached: after as many rounds as a formula tells, in every run.
-use Rattle.std.specs.Prelude.{ℕ, ◌+◌, ◌*◌, List, All, length}
+use Rattle.std.specs.Prelude.{ℕ, ◌+◌, ◌*◌, List, [], ◌∷◌, Option, Some, None, All, length}
 use Rattle.nq_base.specs.declared.Event.{Event}
 use Rattle.nq_promises.specs.Bounds.{KeepsBounds}
+use Rattle.nq_model.specs.Client.{Client, UnderWay}
 use Rattle.nq_model.specs.Profile.{skew, write_slack}
 use Rattle.nq_model.specs.Skew.{IsWithinSkew}
 use Rattle.nq_model.specs.World.{Head, run}
@@ -10,13 +11,22 @@ use Rattle.law_progress.specs.CallsAreAnswered.{IsAnswered}
 use Rattle.law_progress.specs.CalmRound.{calm_rounds}
 use Rattle.law_rounds.specs.RoundsEndQuiet.{IsSmall}
 
--- rounds in which all calls of so many hosts are answered, where no term is longer than this: a recovery ends first, with skew and write slack;
--- then at most four rounds pass until the next call is answered, and each host has one call at most
-abbrev pub rounds_for : (most hosts : ℕ) → ℕ
-rounds_for most hosts = most + (skew + write_slack) + (4 * hosts + 1)
+-- how many calls are open
+abbrev pub one_if_open : Option UnderWay → ℕ
+one_if_open None = 0
+one_if_open (Some u) = 1
 
--- after every schedule within skew, whatever is under way: so it is with all clients after so many calm rounds, and after any number more, where
--- the schedule with its calm rounds is no longer than a schedule may be
+abbrev pub open_calls : List Client → ℕ
+open_calls [] = 0
+open_calls (c ∷ clients) = one_if_open c.call + open_calls clients
+
+-- rounds in which so many open calls are answered, where no term is longer than this: a recovery ends first, with skew and write slack; then at most
+-- four rounds pass until the next call is answered
+abbrev pub rounds_for : (most calls : ℕ) → ℕ
+rounds_for most calls = most + (skew + write_slack) + (4 * calls + 1)
+
+-- after every schedule within skew, whatever is under way: all clients are attached and no call is open after as many calm rounds as this tells of
+-- the calls that were open, and after any number more, where the schedule with its calm rounds is no longer than a schedule may be
 abbrev pub CallsAnswered : Type 0
 CallsAnswered =
     (most : ℕ) (head : Head) (events : List Event)
@@ -24,5 +34,5 @@ CallsAnswered =
     → IsWithinSkew head.hosts most events
     → (under_way : List ℕ) (more : ℕ)
     → AreUnderWay (length (run head events).packets) under_way
-    → IsSmall (calm_rounds (rounds_for most head.hosts + more) (calmed head events under_way))
-    → All IsAnswered (calm_rounds (rounds_for most head.hosts + more) (calmed head events under_way)).world.clients
+    → IsSmall (calm_rounds (rounds_for most (open_calls (run head events).clients) + more) (calmed head events under_way))
+    → All IsAnswered (calm_rounds (rounds_for most (open_calls (run head events).clients) + more) (calmed head events under_way)).world.clients
