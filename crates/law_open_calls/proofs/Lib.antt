@@ -1,0 +1,13 @@
+pub mod Queue
+pub mod Hope
+pub mod Served
+pub mod ServerHopes
+pub mod ClientHopes
+pub mod CallRequests
+pub mod HearerAt
+pub mod Counts
+pub mod Delivery
+pub mod Frames
+pub mod FoundLeases
+pub mod TickRenews
+pub mod Begin
