@@ -36,7 +36,7 @@ use Rattle.law_answered.proofs.Hosts.{At, ticked}
 use Rattle.law_answered.proofs.LookReplies.{comes-from}
 use Rattle.law_open_calls.proofs.CallRequests.{run-asks}
 use Rattle.law_open_calls.proofs.ClientHopes.{map-in}
-use Rattle.law_open_calls.proofs.Delivery.{Wants, NoneRenew, WantedNow, of_call, of_row, serves-is}
+use Rattle.law_open_calls.proofs.UnderWay.{Wants, NoneRenew, WantedNow, of_call, of_row, serves-is}
 use Rattle.law_open_calls.proofs.FoundLeases.{run-found}
 use Rattle.law_open_calls.proofs.Queue.{queue, in-comes}
 use Rattle.law_open_calls.proofs.Served.{IsWant, by_read, by_lease, Fits, read_fits, write_fits}

@@ -22,7 +22,8 @@ use Rattle.law_rounds.specs.RoundsEndQuiet.{IsQuiet}
 use Rattle.walk_client.proofs.ClientMoves.{some-same, none-some}
 use Rattle.walk_server.proofs.Rows.{same-number, number-same}
 use Rattle.law_open_calls.proofs.Counts.{open_calls, first-less, flow-less}
-use Rattle.law_open_calls.proofs.Delivery.{InOrder, TagsFit, Moves, all_move, all_but, Paused, State, Delivered, fewer, goes_on_so, delivers}
+use Rattle.law_open_calls.proofs.Delivery.{State, Delivered, fewer, goes_on_so, delivers}
+use Rattle.law_open_calls.proofs.UnderWay.{InOrder, TagsFit, Moves, all_move, all_but, Paused}
 use Rattle.law_open_calls.proofs.Hope.{file_of_call, access_of_call, Hopeful, Hoped, Goes, told, waits, vacated, Passes, goes, hoped, InWay, Clear}
 use Rattle.law_open_calls.proofs.Queue.{packets_of, queue}
 use Rattle.law_open_calls.proofs.Served.{IsServed}
@@ -106,34 +107,34 @@ module _ (most : ℕ) (head : Head) (Ordered : Play → Type 0)
     (served : (p : Play) → IsLawful most head p → p.world.server.phase ≡ serving → (b x next : ℕ) (r : Request) (who : Who) → asker r ≡ Some who → who.host ≡ b → (host_row p.world.server.kept b).inc ≡ who.inc → ((n : ℕ) → sequence_of r ≡ Some n → (host_row p.world.server.kept b).seq < n) → (c : Client) → slice_get p.world.clients b ≡ Some c → IsServed p.world.server.table.rows (receive p.world.server b next (datagram_of (call x r))).server.table.rows (receive p.world.server b next (datagram_of (call x r))).sends b who x r)
     (F : World → List Packet → Type 0)
     (moves : (w v : World) (q q' : List Packet) → Moves w v q q' → Paused w v → F w q → F v q')
-    where
-  -- either a call is answered, or the frame stands
-  pub data Ends (p : Play) (count : ℕ) : Type 0 where
-    answered : open_calls p.world.clients < count → Ends p count
-    stands : State most head Ordered ordered ordered-on tags served p → F p.world (queue p) → Ends p count
+  where
+    -- either a call is answered, or the frame stands
+    pub data Ends (p : Play) (count : ℕ) : Type 0 where
+      answered : open_calls p.world.clients < count → Ends p count
+      stands : State most head Ordered ordered ordered-on tags served p → F p.world (queue p) → Ends p count
 
-  ends-flow : (n : ℕ) (p : Play) → State most head Ordered ordered ordered-on tags served p → F p.world (queue p) → Ends (play_flow n p) (open_calls p.world.clients)
-  ends-flow zero p st f = stands st f
-  ends-flow (suc n) p st f = first p.fresh refl (ends-flow n)
-    where
-      again : (k : ℕ) (ks : List ℕ) → (e : p.fresh ≡ k ∷ ks) → ((q : Play) → State most head Ordered ordered ordered-on tags served q → F q.world (queue q) → Ends (play_flow n q) (open_calls q.world.clients)) → Delivered most head Ordered ordered ordered-on tags served p st k ks e → Ends (play_flow n (play p (Event.Deliver k))) (open_calls p.world.clients)
-      again k ks e rec (fewer less) =
-          let l = flows most head 1 p st.lawful in
-          let one : flow_first p.fresh p ≡ play p (Event.Deliver k) = ap (λ fs. flow_first fs p) e in
-          let later = flow-less most head n (play p (Event.Deliver k)) (subst (λ (q : Play). IsLawful most head q) one l) in
-          answered (omega arith)
-      again k ks e rec (goes_on_so next m s) =
-          let l = flows most head 0 p st.lawful in
-          let one : open_calls (play p (Event.Deliver k)).world.clients ≤ open_calls p.world.clients = first-less most head (k ∷ ks) p l in
-          widen one (rec (play p (Event.Deliver k)) next (moves p.world (play p (Event.Deliver k)).world (queue p) (queue (play p (Event.Deliver k))) m s f))
-        where
-          widen : {q : Play} → open_calls (play p (Event.Deliver k)).world.clients ≤ open_calls p.world.clients → Ends q (open_calls (play p (Event.Deliver k)).world.clients) → Ends q (open_calls p.world.clients)
-          widen less (answered a) = answered (omega arith)
-          widen less (stands s g) = stands s g
+    ends-flow : (n : ℕ) (p : Play) → State most head Ordered ordered ordered-on tags served p → F p.world (queue p) → Ends (play_flow n p) (open_calls p.world.clients)
+    ends-flow zero p st f = stands st f
+    ends-flow (suc n) p st f = first p.fresh refl (ends-flow n)
+      where
+        again : (k : ℕ) (ks : List ℕ) → (e : p.fresh ≡ k ∷ ks) → ((q : Play) → State most head Ordered ordered ordered-on tags served q → F q.world (queue q) → Ends (play_flow n q) (open_calls q.world.clients)) → Delivered most head Ordered ordered ordered-on tags served p st k ks e → Ends (play_flow n (play p (Event.Deliver k))) (open_calls p.world.clients)
+        again k ks e rec (fewer less) =
+            let l = flows most head 1 p st.lawful in
+            let one : flow_first p.fresh p ≡ play p (Event.Deliver k) = ap (λ fs. flow_first fs p) e in
+            let later = flow-less most head n (play p (Event.Deliver k)) (subst (λ (q : Play). IsLawful most head q) one l) in
+            answered (omega arith)
+        again k ks e rec (goes_on_so next m s) =
+            let l = flows most head 0 p st.lawful in
+            let one : open_calls (play p (Event.Deliver k)).world.clients ≤ open_calls p.world.clients = first-less most head (k ∷ ks) p l in
+            widen one (rec (play p (Event.Deliver k)) next (moves p.world (play p (Event.Deliver k)).world (queue p) (queue (play p (Event.Deliver k))) m s f))
+          where
+            widen : {q : Play} → open_calls (play p (Event.Deliver k)).world.clients ≤ open_calls p.world.clients → Ends q (open_calls (play p (Event.Deliver k)).world.clients) → Ends q (open_calls p.world.clients)
+            widen less (answered a) = answered (omega arith)
+            widen less (stands s g) = stands s g
 
-      first : (fs : List ℕ) → p.fresh ≡ fs → ((q : Play) → State most head Ordered ordered ordered-on tags served q → F q.world (queue q) → Ends (play_flow n q) (open_calls q.world.clients)) → Ends (play_flow n (flow_first fs p)) (open_calls p.world.clients)
-      first [] e rec = rec p st f
-      first (k ∷ ks) e rec = again k ks e rec (delivers most head Ordered ordered ordered-on tags served p st k ks e)
+        first : (fs : List ℕ) → p.fresh ≡ fs → ((q : Play) → State most head Ordered ordered ordered-on tags served q → F q.world (queue q) → Ends (play_flow n q) (open_calls q.world.clients)) → Ends (play_flow n (flow_first fs p)) (open_calls p.world.clients)
+        first [] e rec = rec p st f
+        first (k ∷ ks) e rec = again k ks e rec (delivers most head Ordered ordered ordered-on tags served p st k ks e)
 
-  pub flow-ends : (n : ℕ) (p : Play) → State most head Ordered ordered ordered-on tags served p → F p.world (queue p) → Ends (play_flow n p) (open_calls p.world.clients)
-  flow-ends = ends-flow
+    pub flow-ends : (n : ℕ) (p : Play) → State most head Ordered ordered ordered-on tags served p → F p.world (queue p) → Ends (play_flow n p) (open_calls p.world.clients)
+    flow-ends = ends-flow

@@ -6,6 +6,7 @@ pub mod ClientHopes
 pub mod CallRequests
 pub mod HearerAt
 pub mod Counts
+pub mod UnderWay
 pub mod Delivery
 pub mod Frames
 pub mod FoundLeases

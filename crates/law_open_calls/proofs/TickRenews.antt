@@ -83,22 +83,24 @@ module _ (t : ClientStep) (alone : Alone t.client) (settled : Settled t) (none :
     putting = λ u file block body free is first. not-for _ _ refl (λ e. cc);
     resizing = λ u file blocks free is clean. not-for _ _ refl (λ e. cc);
     removing = λ u file free is clean. not-for _ _ refl (λ e. cc);
-    renewing = λ file lease tick free nothing_due unpaused renewed held of clean quiet. record { only = λ k asks job.
-        let m = least-passes-in (is_to_renew t.client) t.client.leases file renewed in
-        let one : m.0 ≡ lease = some-same m.0 lease (sym (found m.0 m.1) ∙ ap (λ n. lease_on n t.client.leases) m.2 ∙ held) in
-        let due : is_to_renew t.client lease ≡ true = subst (λ (z : Lease). is_to_renew t.client z ≡ true) one m.3 in
-        let a = and_parts _ _ (and_parts _ _ due).0 in
-        let b = and_parts _ _ (and_parts _ _ a.0).0 in
-        let c = and_parts _ _ b.0 in
-        record {
-          idle = idle unpaused;
-          lease = lease;
-          file = file;
-          holds = held;
-          caching = c.0;
-          live = is-below _ _ c.1;
-          asks = ap (λ (z : Ticket). z.request) (sym (some-same _ k asks)) ∙ ap (λ f. Request.GetLease t.client.who f (want_of t.client lease.mode)) of;
-        } };
+    renewing = λ file lease tick free nothing_due unpaused renewed held of clean quiet. record {
+      only = λ k asks job.
+          let m = least-passes-in (is_to_renew t.client) t.client.leases file renewed in
+          let one : m.0 ≡ lease = some-same m.0 lease (sym (found m.0 m.1) ∙ ap (λ n. lease_on n t.client.leases) m.2 ∙ held) in
+          let due : is_to_renew t.client lease ≡ true = subst (λ (z : Lease). is_to_renew t.client z ≡ true) one m.3 in
+          let a = and_parts _ _ (and_parts _ _ due).0 in
+          let b = and_parts _ _ (and_parts _ _ a.0).0 in
+          let c = and_parts _ _ b.0 in
+          record {
+            idle = idle unpaused;
+            lease = lease;
+            file = file;
+            holds = held;
+            caching = c.0;
+            live = is-below _ _ c.1;
+            asks = ap (λ (z : Ticket). z.request) (sym (some-same _ k asks)) ∙ ap (λ f. Request.GetLease t.client.who f (want_of t.client lease.mode)) of;
+          };
+    };
   })
 
   renews-only : RenewsOnly (send_next true t)

@@ -26,7 +26,7 @@ use Rattle.walk_tables.proofs.ServerTables.{StandingFits}
 use Rattle.law_answered.proofs.Calling.{Keeps, settles, sends}
 use Rattle.law_answered.proofs.Hosts.{ticked}
 use Rattle.law_answered.proofs.LookTickets.{tick-opens}
-use Rattle.law_open_calls.proofs.Delivery.{serves-is}
+use Rattle.law_open_calls.proofs.UnderWay.{serves-is}
 use Rattle.law_open_calls.proofs.Frames.{NoWay}
 use Rattle.law_open_calls.proofs.Hope.{file_of_call, access_of_call, InWay}
 
