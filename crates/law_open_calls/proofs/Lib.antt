@@ -11,3 +11,5 @@ pub mod Frames
 pub mod FoundLeases
 pub mod TickRenews
 pub mod Begin
+pub mod ServedBy
+pub mod Given
