@@ -17,3 +17,6 @@ pub mod Rounds
 pub mod AllAnswered
 pub mod InTime
 pub mod SomeCalls
+pub mod ServedBy
+pub mod Given
+pub mod Theorem

@@ -192,7 +192,7 @@ module _ (most : ℕ) (head : Head) (host : ℕ) where
   -- ---- ticks
 
   -- the host's client is attached and has no request under way
-  pub Rests : Client → Type 0
+  abbrev pub Rests : Client → Type 0
   Rests c = (c.attached ≡ true) × (c.ticket ≡ None)
 
   abbrev pub At : (Client → Type 0) → Play → Type 0
@@ -202,7 +202,7 @@ module _ (most : ℕ) (head : Head) (host : ℕ) where
   tick-is p h c at = ap (at_client p.world h (λ d. client_tick d (d.now + 1))) at
 
   own-tick : (p : Play) → IsLawful most head p → IsRising p → InLine host p → At Rests p → InLine host (play p (Event.ClientTick host)) × At (λ c. c.attached ≡ true) (play p (Event.ClientTick host))
-  unfolding Rests after_client
+  unfolding after_client
   own-tick p l rises line all = by (slice_get p.world.clients host) refl
     where
       by : (o : Option Client) → slice_get p.world.clients host ≡ o → InLine host (play p (Event.ClientTick host)) × At (λ c. c.attached ≡ true) (play p (Event.ClientTick host))
