@@ -1,18 +1,17 @@
 -- Every call is answered once the network is calm.
-use Rattle.std.proofs.Common.{◌≡◌, ◌≤◌, ◌<◌, ◌⊎◌, ℕ, ◌+◌, ◌*◌, true, false, zero, suc, List, [], ◌∷◌, Option, Some, None, length, refl, sym, subst, ap, ◌∙◌, arith, inl, inr}
+use Rattle.std.proofs.Common.{◌≡◌, ◌≤◌, ◌<◌, ◌⊎◌, ℕ, ◌+◌, ◌*◌, true, false, zero, suc, List, [], ◌∷◌, Some, None, length, refl, sym, subst, ap, ◌∙◌, arith, inl, inr}
 use Rattle.std.specs.Prelude.{All, slice_get}
 use Rattle.nq_base.specs.declared.Event.{Event}
 use Rattle.nq_model.specs.Client.{Client}
 use Rattle.nq_model.specs.ServerStep.{receive}
-use Rattle.nq_model.specs.Server.{serving, to_host}
-use Rattle.nq_model.specs.Message.{Packet, call, reply, datagram_of, asker, sequence_of}
+use Rattle.nq_model.specs.Server.{serving}
+use Rattle.nq_model.specs.Message.{call, datagram_of, asker, sequence_of}
 use Rattle.nq_model.specs.Kept.{host_row}
 use Rattle.nq_base.specs.declared.Who.{Who}
 use Rattle.nq_base.specs.declared.Request.{Request}
-use Rattle.nq_base.specs.declared.Reply.{Reply}
 use Rattle.nq_model.specs.Lines.{Play, play, play_rounds}
 use Rattle.nq_model.specs.Profile.{skew, write_slack}
-use Rattle.nq_model.specs.World.{Head, World, run}
+use Rattle.nq_model.specs.World.{Head, run}
 use Rattle.nq_model.specs.Skew.{IsWithinSkew}
 use Rattle.nq_promises.specs.Bounds.{KeepsBounds}
 use Rattle.law_deliveries.specs.DeliveryEnds.{AreUnderWay, calmed}

@@ -1,12 +1,12 @@
 -- A delivery begins, after the ticks of a round: what is under way are the requests of clients, each just sent.
-use Rattle.std.proofs.Common.{◌≡◌, ◌≢◌, ◌≤◌, ◌<◌, ◌⊎◌, ℕ, ◌+◌, ◌-◌, ◌==◌, ◌++◌, Bool, true, false, zero, suc, List, [], ◌∷◌, Option, Some, None, is_some, length, refl, sym, subst, ap, ◌∙◌, arith, inl, inr, append-nil}
-use Rattle.std.specs.Prelude.{map, slice_get, slice_set}
+use Rattle.std.proofs.Common.{◌≡◌, ◌≤◌, ◌<◌, ◌⊎◌, ℕ, ◌+◌, ◌-◌, ◌++◌, true, false, zero, suc, [], Option, Some, None, is_some, length, refl, sym, subst, ap, ◌∙◌, arith, inl, inr, append-nil}
+use Rattle.std.specs.Prelude.{map, slice_get}
 use Rattle.nq_base.specs.declared.Event.{Event}
 use Rattle.nq_base.specs.declared.Mode.{Mode}
 use Rattle.nq_base.specs.declared.Request.{Request}
 use Rattle.nq_base.specs.declared.Row.{Row}
 use Rattle.nq_base.specs.declared.Want.{Want}
-use Rattle.nq_model.specs.Client.{Client, ClientStep, Job, attaching, for_call, renewing, pushing, Lease, Ticket, UnderWay, lease_on}
+use Rattle.nq_model.specs.Client.{Client, Job, attaching, for_call, renewing, pushing, Lease, Ticket, UnderWay, lease_on}
 use Rattle.nq_model.specs.ClientStep.{client_tick}
 use Rattle.nq_model.specs.LeaseInterval.{HasFitting, IsCovered, claim_of, cover_end, is_at_least}
 use Rattle.nq_model.specs.Lines.{Play, play, play_hosts, play_rounds}
@@ -28,11 +28,10 @@ use Rattle.law_progress.proofs.CalmIsLawful.{round}
 use Rattle.walk_client.proofs.ClientFacts.{fits_job, Alone}
 use Rattle.walk_client.proofs.ClientMoves.{some-same, none-some}
 use Rattle.walk_run.proofs.Packets.{In, message-same, call-same}
-use Rattle.walk_run.proofs.Worlds.{get-set-same, get-set-other, set-there, run-holds}
+use Rattle.walk_run.proofs.Worlds.{get-set-other, set-there, run-holds}
 use Rattle.walk_sends.proofs.StepSends.{TickSends, rests, again, asks_now, tick-sends}
-use Rattle.walk_server.proofs.Rows.{same-number, number-same}
 use Rattle.walk_server.proofs.ServerCases.{server-ticks}
-use Rattle.law_answered.proofs.Hosts.{At, ticked}
+use Rattle.law_answered.proofs.Hosts.{ticked}
 use Rattle.law_answered.proofs.LookReplies.{comes-from}
 use Rattle.law_open_calls.proofs.CallRequests.{run-asks}
 use Rattle.law_open_calls.proofs.ClientHopes.{map-in}

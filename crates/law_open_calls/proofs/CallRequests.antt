@@ -1,18 +1,16 @@
 -- In every run a request for a call is about the file of the call, and its client does not pause.
-use Rattle.std.proofs.Common.{◌≡◌, ◌≢◌, ◌≤◌, ℕ, ◌+◌, ◌==◌, Bool, true, false, List, [], ◌∷◌, Option, Some, None, is_some, refl, sym, ap, subst, ◌∙◌, arith}
+use Rattle.std.proofs.Common.{◌≡◌, ◌≢◌, ◌≤◌, ℕ, ◌+◌, ◌==◌, Bool, true, false, List, [], ◌∷◌, Some, None, is_some, refl, sym, ap, subst, ◌∙◌, arith}
 use Rattle.std.specs.Prelude.{slice_get, slice_set}
 use Rattle.nq_base.specs.declared.Access.{Access}
 use Rattle.nq_base.specs.declared.Call.{Call}
 use Rattle.nq_base.specs.declared.Event.{Event}
-use Rattle.nq_base.specs.declared.Mode.{Mode}
 use Rattle.nq_base.specs.declared.Request.{Request}
 use Rattle.nq_base.specs.declared.Tag.{Tag}
-use Rattle.nq_base.specs.declared.Want.{Want}
 use Rattle.nq_model.specs.Client.{Client, ClientStep, begun, for_call, Ticket, UnderWay, lease_on}
 use Rattle.nq_model.specs.ClientStep.{begins_call, is_called, says_busy, client_call, at_time, sends_again, client_tick, attached_client, starts, fresh_client, restart}
 use Rattle.nq_model.specs.Hear.{hear, replied, cancels, vacates_lease, notes_notice, evicted}
 use Rattle.nq_model.specs.Message.{Message}
-use Rattle.nq_model.specs.Send.{sends_request, after_seq, after_number, takes_push, gives_up, want_of, read_want, shares_live, send_next}
+use Rattle.nq_model.specs.Send.{sends_request, after_seq, after_number, takes_push, gives_up, read_want, shares_live, send_next}
 use Rattle.nq_model.specs.ServerStep.{access_of}
 use Rattle.nq_model.specs.Settle.{answers, after_read, reads_cached, after_write, marks_written, is_for_call, ticket_is_for_call, settle}
 use Rattle.nq_model.specs.World.{Head, World, after_server, after_client, start, run}

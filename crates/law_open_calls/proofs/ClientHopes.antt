@@ -1,5 +1,5 @@
 -- What a client that hears a packet leaves of hopes, and of the rows in the way of calls; and what one leaves that ignores it.
-use Rattle.std.proofs.Common.{◌≡◌, ◌≢◌, ◌≤◌, ◌⊎◌, ℕ, ◌==◌, ◌++◌, Bool, true, false, List, [], ◌∷◌, Option, Some, None, refl, sym, subst, ap, ◌∙◌, arith, inl, inr}
+use Rattle.std.proofs.Common.{◌≡◌, ◌≢◌, ◌≤◌, ◌⊎◌, ℕ, ◌==◌, ◌++◌, Bool, true, false, List, [], ◌∷◌, Some, refl, sym, subst, ap, ◌∙◌, arith, inl, inr}
 use Rattle.std.specs.Prelude.{map, slice_get, slice_set}
 use Rattle.nq_base.specs.declared.Mode.{Mode}
 use Rattle.nq_base.specs.declared.Request.{Request}
@@ -11,12 +11,12 @@ use Rattle.nq_model.specs.Message.{Message, Packet, call}
 use Rattle.nq_model.specs.Server.{to_host}
 use Rattle.nq_model.specs.Table.{find_row}
 use Rattle.nq_model.specs.World.{from_host}
-use Rattle.walk_client.proofs.ClientMoves.{some-same, none-some}
+use Rattle.walk_client.proofs.ClientMoves.{some-same}
 use Rattle.walk_run.proofs.Packets.{In, in-left, in-right, told-same, not-both}
-use Rattle.walk_run.proofs.Worlds.{set-there, get-set-same, get-set-other}
+use Rattle.walk_run.proofs.Worlds.{set-there, get-set-other}
 use Rattle.walk_server.proofs.Rows.{same-number, number-same}
 use Rattle.law_rounds.proofs.Coming.{in-map}
-use Rattle.law_open_calls.proofs.Hope.{file_of_call, access_of_call, Cancels, PutsOff, Safe, Hopeful, IsWished, by_read, by_write, Hoped, Goes, told, waits, vacated, Passes, goes, hoped, InWay, Clear, safe-rest, safe-append, safe-none, safe-fewer}
+use Rattle.law_open_calls.proofs.Hope.{file_of_call, access_of_call, Cancels, PutsOff, Safe, Hopeful, IsWished, by_read, by_write, Goes, told, waits, vacated, Passes, goes, hoped, InWay, Clear, safe-rest, safe-append, safe-none, safe-fewer}
 
 pub map-in : {A B : Type 0} (f : A → B) (xs : List A) (z : B) → In (map f xs) z → (x : A) × In xs x × (z ≡ f x)
 map-in f [] z i = absurd i

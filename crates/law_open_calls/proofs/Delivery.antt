@@ -1,9 +1,8 @@
 -- A delivery of a calm network while the server serves, packet by packet: what holds of each request under way, and what each packet leaves of
 -- hopes and of rows in the way. Or a call is answered.
-use Rattle.std.proofs.Common.{◌≡◌, ◌≢◌, ◌≤◌, ◌<◌, ◌⊎◌, ℕ, ◌+◌, ◌==◌, ◌++◌, Bool, true, false, not, zero, suc, List, [], ◌∷◌, Option, Some, None, is_some, nat_le, length, refl, sym, subst, ap, ◌∙◌, arith, inl, inr, append-nil}
+use Rattle.std.proofs.Common.{◌≡◌, ◌≢◌, ◌≤◌, ◌<◌, ◌⊎◌, ℕ, ◌==◌, ◌++◌, Bool, true, false, not, List, [], ◌∷◌, Option, Some, None, is_some, nat_le, length, refl, sym, subst, ap, ◌∙◌, arith, inl, inr, append-nil}
 use Rattle.std.specs.Prelude.{map, slice_get, slice_set}
 use Rattle.std.proofs.lemmas.Bool.{and_from}
-use Rattle.nq_base.specs.declared.Call.{Call}
 use Rattle.nq_base.specs.declared.Event.{Event}
 use Rattle.nq_base.specs.declared.Mode.{Mode}
 use Rattle.nq_base.specs.declared.Party.{Party}
@@ -13,14 +12,14 @@ use Rattle.nq_base.specs.declared.Row.{Row}
 use Rattle.nq_base.specs.declared.Tag.{Tag}
 use Rattle.nq_base.specs.declared.Want.{Want}
 use Rattle.nq_base.specs.declared.Who.{Who}
-use Rattle.nq_model.specs.Client.{Client, ClientStep, Job, attaching, for_call, renewing, pushing, Notice, Ticket, UnderWay, begun, lease_on, notice_on}
-use Rattle.nq_model.specs.Hear.{hear, inc_of, refusal_counts, holds_later, cancels, cancelled, evicted, goes_on}
+use Rattle.nq_model.specs.Client.{Client, ClientStep, Job, attaching, for_call, renewing, pushing, Ticket, UnderWay, begun, lease_on}
+use Rattle.nq_model.specs.Hear.{hear, refusal_counts, holds_later, cancels, evicted, goes_on}
 use Rattle.nq_model.specs.Kept.{host_row}
 use Rattle.nq_model.specs.Lines.{Play, play}
-use Rattle.nq_model.specs.Message.{Message, Packet, call, reply, request, datagram_of, asker, sequence_of}
-use Rattle.nq_model.specs.Server.{Phase, serving, recovering, Server, ServerStep, to_host}
+use Rattle.nq_model.specs.Message.{Message, Packet, call, reply, datagram_of, asker, sequence_of}
+use Rattle.nq_model.specs.Server.{serving, ServerStep, to_host}
 use Rattle.nq_model.specs.ServerStep.{receive}
-use Rattle.nq_model.specs.Table.{caches, greater_mode, same_who, tag_below, find_row}
+use Rattle.nq_model.specs.Table.{caches, greater_mode, same_who, find_row}
 use Rattle.nq_model.specs.World.{Head, World, from_host, after_client, after_server, sending_host, step, run}
 use Rattle.nq_promises.specs.RowsStandApart.{WritesAlone}
 use Rattle.law_calm.specs.RequestsAreMeant.{wanted, IsMeant}
@@ -37,12 +36,12 @@ use Rattle.law_progress.proofs.CalmEnds.{IsRising, played-rising}
 use Rattle.law_progress.proofs.CalmIsLawful.{played-quiet}
 use Rattle.law_progress.proofs.QuietFlows.{delivered-phase}
 use Rattle.law_requests.proofs.WorldSequences.{run-draws}
-use Rattle.law_rounds.proofs.Coming.{in-map, Delivery, no_packet, at_server, at_host, ignored, no_client, delivery}
-use Rattle.walk_client.proofs.ClientFacts.{fits_job, fits_attach, push_in, Alone}
-use Rattle.walk_client.proofs.ClientMoves.{some-same, none-some, keeps-or-cancels}
-use Rattle.walk_run.proofs.Packets.{In, in-left, in-right, in-append, in-get, Asked, Told, message-same, not-both, told-same, call-same}
+use Rattle.law_rounds.proofs.Coming.{Delivery, no_packet, at_server, at_host, ignored, no_client, delivery}
+use Rattle.walk_client.proofs.ClientFacts.{fits_job}
+use Rattle.walk_client.proofs.ClientMoves.{some-same, none-some}
+use Rattle.walk_run.proofs.Packets.{In, in-append, in-get, Asked, Told, message-same, not-both}
 use Rattle.walk_run.proofs.Worlds.{IsAt, Holds, IsSent, by_host, by_server, get-set-same, get-set-other, set-there, to-told, run-holds}
-use Rattle.walk_sends.proofs.StepSends.{VacatedFrom, StepSends, only_gives, then_asks, HearSends, told as told_sends, noticed as noticed_sends, hear-sends}
+use Rattle.walk_sends.proofs.StepSends.{HearSends, hear-sends}
 use Rattle.walk_server.proofs.Rows.{same-number, number-same, found-row}
 use Rattle.walk_server.proofs.Tests.{is-at-most, is-not-at-most}
 use Rattle.law_open_calls.proofs.CallRequests.{run-asks}
@@ -50,9 +49,9 @@ use Rattle.law_open_calls.proofs.ClientHopes.{Hearer}
 use Rattle.law_open_calls.proofs.ClientHopes as client
 use Rattle.law_open_calls.proofs.Counts.{open_calls, ended-fewer}
 use Rattle.law_open_calls.proofs.HearerAt.{hearer}
-use Rattle.law_open_calls.proofs.Hope.{Cancels, PutsOff, Hopeful, Clear}
-use Rattle.law_open_calls.proofs.Queue.{packets_of, queue, in-comes, comes-in, queue-head, queue-next, head-packet, head-comes, rest-later, there-is}
-use Rattle.law_open_calls.proofs.Served.{IsStill, IsWant, by_read, by_lease, IsServed, Fits, read_fits, write_fits, Wanting, by_call, by_renewal}
+use Rattle.law_open_calls.proofs.Hope.{Cancels, PutsOff, Clear}
+use Rattle.law_open_calls.proofs.Queue.{packets_of, queue, queue-head, queue-next, head-packet, head-comes, rest-later, there-is}
+use Rattle.law_open_calls.proofs.Served.{IsWant, by_read, by_lease, IsServed, Fits, read_fits, write_fits, Wanting, by_call, by_renewal}
 use Rattle.law_open_calls.proofs.ServerHopes.{Asker, Fate, all_on, off, fate, clear-on, off-clear, off-hope}
 use Rattle.law_open_calls.proofs.UnderWay.{InOrder, TagsFit, WantedNow, of_call, of_row, Wants, NoneRenew, Moves, all_move, all_but, Paused, hear-sent, none-renews, serves-is}
 

@@ -1,22 +1,19 @@
 -- In every run each lease of a client is the one that is found for its file: there is one for each file.
-use Rattle.std.proofs.Common.{◌≡◌, ◌≢◌, ◌≤◌, ◌⊎◌, ℕ, ◌+◌, ◌==◌, Bool, true, false, not, nat_lt, if◌then◌else◌, List, [], ◌∷◌, Option, Some, None, refl, sym, subst, ap, ◌∙◌, inl, inr, arith}
+use Rattle.std.proofs.Common.{◌≡◌, ◌≢◌, ◌⊎◌, ℕ, ◌+◌, ◌==◌, Bool, true, false, not, nat_lt, if◌then◌else◌, List, [], ◌∷◌, Some, refl, sym, subst, ap, ◌∙◌, inl, inr, arith}
 use Rattle.std.specs.Prelude.{slice_get, slice_set}
 use Rattle.std.specs.Option.{option_map}
 use Rattle.nq_base.specs.declared.Event.{Event}
 use Rattle.nq_base.specs.declared.Grant.{Grant}
-use Rattle.nq_base.specs.declared.Reply.{Reply}
 use Rattle.nq_base.specs.declared.Tag.{Tag}
 use Rattle.nq_model.proofs.ClientLists.{used-lease-found, other-lease-dropped, put-lease-found, other-lease-put}
 use Rattle.nq_model.specs.ByFile.{insert_by}
-use Rattle.nq_model.specs.Client.{Client, ClientStep, Lease, Ticket, begun, file_of_lease, lease_on, drop_lease, put_lease, used_lease, marked_used}
-use Rattle.nq_model.specs.ClientStep.{client_call, client_tick, at_time, restart, starts, fresh_client, attached_client}
-use Rattle.nq_model.specs.Hear.{hear, granted_lease, replied, goes_on, cancels, evicted}
-use Rattle.nq_model.specs.LeaseInterval.{grant_in, requested_file}
-use Rattle.nq_model.specs.Message.{Message, call, reply}
+use Rattle.nq_model.specs.Client.{Client, ClientStep, Lease, file_of_lease, lease_on, drop_lease, put_lease, used_lease, marked_used}
+use Rattle.nq_model.specs.ClientStep.{client_tick, at_time, starts, fresh_client, attached_client}
+use Rattle.nq_model.specs.Hear.{hear, granted_lease}
+use Rattle.nq_model.specs.Message.{Message, reply}
 use Rattle.nq_model.specs.World.{Head, World, after_client, after_server, start, run}
-use Rattle.walk_client.proofs.ClientCases.{Core, core_of, Closed, Both}
+use Rattle.walk_client.proofs.ClientCases.{Core, Closed}
 use Rattle.walk_client.proofs.ClientFacts.{Alone}
-use Rattle.walk_client.proofs.ClientMoves.{some-same, none-some}
 use Rattle.walk_client.proofs.ClientWalk.{reply-keeps, notice-keeps, call-keeps, tick-keeps}
 use Rattle.walk_client.proofs.StepCases.{heard-cases}
 use Rattle.walk_run.proofs.Members.{in-filter}

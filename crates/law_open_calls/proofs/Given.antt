@@ -1,31 +1,27 @@
 -- What the frames of a delivery rest on: the queues of all hosts are in line, no tag is later than its row's, and what a request does at the server.
-use Rattle.std.proofs.Common.{◌≡◌, ◌≤◌, ◌<◌, ◌⊎◌, ℕ, ◌+◌, Bool, true, false, List, [], ◌∷◌, Option, Some, None, length, refl, sym, subst, ap, ◌∙◌, arith, inl, inr}
+use Rattle.std.proofs.Common.{◌≡◌, ◌<◌, ℕ, true, false, List, [], ◌∷◌, Option, Some, None, length, refl, sym, subst, ap, ◌∙◌, arith}
 use Rattle.std.specs.Prelude.{slice_get}
 use Rattle.nq_base.specs.declared.Event.{Event}
-use Rattle.nq_base.specs.declared.Reply.{Reply}
 use Rattle.nq_base.specs.declared.Request.{Request}
 use Rattle.nq_base.specs.declared.Row.{Row}
-use Rattle.nq_base.specs.declared.Tag.{Tag}
 use Rattle.nq_base.specs.declared.Want.{Want}
 use Rattle.nq_base.specs.declared.Who.{Who}
-use Rattle.nq_model.specs.Client.{Client, Lease, Notice, Ticket, lease_on, notice_on}
+use Rattle.nq_model.specs.Client.{Client, Lease, lease_on}
 use Rattle.nq_model.specs.Hear.{holds_later}
 use Rattle.nq_model.specs.Kept.{host_row}
 use Rattle.nq_model.specs.Lines.{Play, play, play_rounds}
 use Rattle.nq_model.specs.Message.{call, asker, sequence_of, datagram_of}
-use Rattle.nq_model.specs.Profile.{most_hosts}
-use Rattle.nq_model.specs.Server.{serving, Server}
+use Rattle.nq_model.specs.Server.{serving}
 use Rattle.nq_model.specs.ServerStep.{receive}
-use Rattle.nq_model.specs.Table.{tag_below, find_row}
-use Rattle.nq_model.specs.World.{Head, World, run}
+use Rattle.nq_model.specs.Table.{find_row}
+use Rattle.nq_model.specs.World.{Head, World}
 use Rattle.law_calm.proofs.ClientCount.{client-count}
 use Rattle.law_calm.proofs.HostsBelow.{get-below}
 use Rattle.law_progress.specs.CalmRoundsAreLawful.{IsLawful}
 use Rattle.law_progress.proofs.CalmEnds.{IsRising}
-use Rattle.walk_run.proofs.Packets.{Told}
 use Rattle.walk_server.proofs.RowChanges.{HasUniqueKeys}
 use Rattle.law_queues.proofs.InLine.{InLine, not-answered-yet}
-use Rattle.law_queues.proofs.QueueRounds.{Queue, delivered-queue, Rests, round-queue}
+use Rattle.law_queues.proofs.QueueRounds.{delivered-queue, round-queue}
 use Rattle.law_queues.proofs.StepNumbers.{NoVacated}
 use Rattle.law_queues.proofs.TagRuns.{TagsAreNoLater, run-no-later, keys-unique}
 use Rattle.law_open_calls.proofs.UnderWay.{InOrder, TagsFit}

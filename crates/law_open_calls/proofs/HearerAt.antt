@@ -1,5 +1,5 @@
 -- A client that hears a packet, while its call stays open: what it leaves of its request, its leases, and the notices that it knows.
-use Rattle.std.proofs.Common.{◌≡◌, ◌≢◌, ◌≤◌, ◌<◌, ◌⊎◌, ℕ, ◌+◌, ◌==◌, ◌++◌, Bool, true, false, nat_lt, ◌||◌, ◌&&◌, List, [], ◌∷◌, Option, Some, None, refl, sym, subst, ap, ◌∙◌, arith, inl, inr, length}
+use Rattle.std.proofs.Common.{◌≡◌, ◌≢◌, ◌≤◌, ◌⊎◌, ℕ, ◌+◌, ◌==◌, ◌++◌, Bool, true, false, List, [], ◌∷◌, Option, Some, None, refl, sym, subst, ap, ◌∙◌, arith, inl, inr, length}
 use Rattle.std.proofs.lemmas.Bool.Decides.{nat_tests}
 use Rattle.nq_base.specs.declared.Grant.{Grant}
 use Rattle.nq_base.specs.declared.Refusal.{Refusal}
@@ -8,22 +8,22 @@ use Rattle.nq_base.specs.declared.Request.{Request}
 use Rattle.nq_base.specs.declared.Row.{Row}
 use Rattle.nq_base.specs.declared.Tag.{Tag}
 use Rattle.nq_base.specs.declared.Who.{Who}
-use Rattle.nq_model.specs.Client.{Client, ClientStep, Lease, Notice, Ticket, UnderWay, begun, lease_on, notice_on, drop_lease, drop_notice, put_notice, used_lease, is_clean}
-use Rattle.nq_model.specs.Hear.{hear, inc_of, is_put_off, reply_counts, wants_of, holds_later, noticed_tag, replied, cancels, cancelled, vacates_lease, notes_notice, evicted, goes_on, with_notice}
+use Rattle.nq_model.specs.Client.{Client, ClientStep, Lease, Notice, Ticket, UnderWay, begun, lease_on, notice_on, drop_lease, drop_notice, used_lease, is_clean}
+use Rattle.nq_model.specs.Hear.{hear, inc_of, is_put_off, reply_counts, wants_of, holds_later, noticed_tag, replied, cancels, cancelled, vacates_lease, notes_notice, evicted, goes_on}
 use Rattle.nq_model.specs.LeaseInterval.{grant_in, requested_file}
 use Rattle.nq_model.specs.Message.{Message, Packet, call, reply}
 use Rattle.nq_model.specs.Send.{sends_request, after_seq, after_number, takes_push, gives_up, send_next}
 use Rattle.nq_model.specs.Server.{to_host}
 use Rattle.nq_model.specs.Settle.{answers, after_read, reads_cached, after_write, marks_written, settle}
 use Rattle.nq_model.specs.Table.{tag_below, later_tag, find_row}
-use Rattle.walk_client.proofs.ClientCases.{Core, core_of, Closed, Both}
+use Rattle.walk_client.proofs.ClientCases.{Core, core_of, Closed}
 use Rattle.walk_client.proofs.ClientFacts.{Alone}
 use Rattle.walk_client.proofs.ClientMoves.{some-same, none-some, keeps-or-cancels}
-use Rattle.walk_client.proofs.ClientWalk.{Replying, reply-keeps, notice-keeps}
+use Rattle.walk_client.proofs.ClientWalk.{reply-keeps, notice-keeps}
 use Rattle.walk_client.proofs.SendCases.{send-cases}
 use Rattle.walk_client.proofs.SettleCases.{settle-cases}
 use Rattle.walk_client.proofs.StepCases.{evicted-cases, heard-cases}
-use Rattle.walk_run.proofs.Packets.{In, in-left, in-right, in-last, Told, told-same, reply-same}
+use Rattle.walk_run.proofs.Packets.{In, in-left, in-right, Told, told-same, reply-same}
 use Rattle.walk_run.proofs.TagFacts.{used-from, dropped-from}
 use Rattle.walk_run.proofs.Worlds.{IsAt, given-by}
 use Rattle.walk_server.proofs.Rows.{same-number, number-same}

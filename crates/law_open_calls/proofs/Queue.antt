@@ -1,16 +1,14 @@
 -- What is under way in a play, in order; and what a delivery makes of it.
-use Rattle.std.proofs.Common.{◌≡◌, ◌≤◌, ◌<◌, ◌⊎◌, ℕ, ◌+◌, ◌-◌, ◌++◌, zero, suc, List, [], ◌∷◌, Option, Some, None, length, refl, sym, subst, ap, ◌∙◌, arith, inl, inr}
+use Rattle.std.proofs.Common.{◌≡◌, ◌≤◌, ◌<◌, ℕ, ◌+◌, ◌-◌, ◌++◌, zero, suc, List, [], ◌∷◌, Option, Some, None, length, refl, sym, subst, ap, ◌∙◌, arith, inl, inr}
 use Rattle.std.specs.Prelude.{slice_get}
 use Rattle.std.proofs.lemmas.List.{length-append}
 use Rattle.nq_base.specs.declared.Event.{Event}
 use Rattle.nq_model.specs.Lines.{Play, play, without, numbers_from, added}
 use Rattle.nq_model.specs.Message.{Packet}
-use Rattle.nq_model.specs.World.{World, step}
-use Rattle.law_calm.proofs.HostsBelow.{get-below}
+use Rattle.nq_model.specs.World.{step}
 use Rattle.law_deliveries.proofs.Items.{Rise, without-first}
 use Rattle.law_progress.proofs.CalmEnds.{IsRising}
 use Rattle.law_progress.proofs.PacketsCome.{Comes, get-kept}
-use Rattle.walk_client.proofs.ClientMoves.{some-same, none-some}
 use Rattle.walk_run.proofs.Packets.{In}
 
 -- the packets of some numbers, in order

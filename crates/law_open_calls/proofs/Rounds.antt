@@ -1,19 +1,18 @@
 -- Four rounds while the server serves: a call is answered, or none is open.
-use Rattle.std.proofs.Common.{◌≡◌, ◌≢◌, ◌≤◌, ◌<◌, ◌⊎◌, ℕ, ◌+◌, ◌*◌, ◌==◌, Bool, true, false, nat_le, zero, suc, List, [], ◌∷◌, Option, Some, None, length, refl, sym, subst, ap, ◌∙◌, arith, inl, inr}
+use Rattle.std.proofs.Common.{◌≡◌, ◌≤◌, ◌<◌, ◌⊎◌, ℕ, ◌+◌, ◌*◌, Bool, true, false, nat_le, zero, suc, List, [], ◌∷◌, Option, Some, None, length, refl, sym, subst, ap, ◌∙◌, arith, inl, inr}
 use Rattle.std.specs.Prelude.{slice_get}
 use Rattle.nq_base.specs.declared.Event.{Event}
-use Rattle.nq_base.specs.declared.Reply.{Reply}
 use Rattle.nq_base.specs.declared.Request.{Request}
 use Rattle.nq_base.specs.declared.Who.{Who}
 use Rattle.nq_model.specs.Client.{Client, UnderWay, Ticket}
 use Rattle.nq_model.specs.ClientStep.{client_tick}
 use Rattle.nq_model.specs.Kept.{host_row}
 use Rattle.nq_model.specs.Lines.{Play, play, play_flow, flow_first, play_hosts, play_rounds}
-use Rattle.nq_model.specs.Message.{Packet, call, reply, datagram_of, asker, sequence_of}
+use Rattle.nq_model.specs.Message.{Packet, call, datagram_of, asker, sequence_of}
 use Rattle.nq_model.specs.Profile.{patience}
-use Rattle.nq_model.specs.Server.{serving, to_host}
+use Rattle.nq_model.specs.Server.{serving}
 use Rattle.nq_model.specs.ServerStep.{receive}
-use Rattle.nq_model.specs.World.{Head, World, from_host, step, run}
+use Rattle.nq_model.specs.World.{Head, World}
 use Rattle.law_calm.proofs.ClientCount.{client-count}
 use Rattle.law_calm.proofs.HostsBelow.{get-below}
 use Rattle.law_deliveries.specs.DeliveryEnds.{enough_deliveries}
@@ -31,7 +30,7 @@ use Rattle.walk_client.proofs.ClientMoves.{some-same, none-some}
 use Rattle.walk_run.proofs.Packets.{In, not-both}
 use Rattle.walk_run.proofs.Worlds.{run-holds}
 use Rattle.walk_server.proofs.Tests.{is-at-most, is-not-at-most}
-use Rattle.law_answered.proofs.Hosts.{At, ticked}
+use Rattle.law_answered.proofs.Hosts.{ticked}
 use Rattle.law_answered.proofs.LookTickets.{tick-opens}
 use Rattle.law_open_calls.proofs.Begin.{round-tickets, round-wants, none-renew}
 use Rattle.law_open_calls.proofs.Counts.{open_calls, flow-less, ticks-less, some-open}

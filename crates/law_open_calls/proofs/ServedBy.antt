@@ -1,8 +1,7 @@
 -- What a request of an attached client does at a server that serves, where its sequence was not decided yet.
-use Rattle.std.proofs.Common.{◌≡◌, ◌≢◌, ◌≤◌, ◌<◌, ◌⊎◌, ℕ, ◌+◌, ◌==◌, ◌&&◌, ◌%◌, ◌++◌, Bool, true, false, not, List, [], ◌∷◌, Option, Some, None, if◌then◌else◌, refl, sym, subst, ap, ◌∙◌, arith, inl, inr}
+use Rattle.std.proofs.Common.{◌≡◌, ◌≢◌, ◌<◌, ◌⊎◌, ℕ, ◌+◌, ◌==◌, ◌%◌, ◌++◌, Bool, true, false, not, List, [], ◌∷◌, Some, None, refl, sym, subst, ap, ◌∙◌, arith, inl, inr}
 use Rattle.std.specs.Prelude.{find}
 use Rattle.nq_base.specs.declared.Access.{Access}
-use Rattle.nq_base.specs.declared.Mode.{Mode}
 use Rattle.nq_base.specs.declared.Refusal.{Refusal}
 use Rattle.nq_base.specs.declared.Reply.{Reply}
 use Rattle.nq_base.specs.declared.Request.{Request}
@@ -14,22 +13,19 @@ use Rattle.nq_base.specs.declared.Who.{Who}
 use Rattle.nq_model.specs.Ask.{conflicts, marked, mode_conflicts, term_of, sharing_row, caching_row, shared_again, renewed_row}
 use Rattle.nq_model.specs.Decide.{in_the_way, verdict_reply, done_reply, decides, creates, writes_through, stores, stores_recovering, wrote, resizes, removes, puts_off, commits}
 use Rattle.nq_model.specs.Hear.{is_put_off, wants_of}
-use Rattle.nq_model.specs.Kept.{File}
 use Rattle.nq_model.specs.LeaseInterval.{requested_file}
 use Rattle.nq_model.specs.Message.{Message, Packet, call, reply, Datagram, request, datagram_of, asker, sequence_of}
 use Rattle.nq_model.specs.Profile.{most_hosts, xid_end}
 use Rattle.nq_model.specs.Server.{serving, recovering, Server, ServerStep, to_host, notices, after_notices, keeping, keeping_with, with_table, quiet as rests, drops, says}
 use Rattle.nq_model.specs.ServerStep.{access_of, to_read, attaches, vacates, tells_later, serves, leases, receive}
-use Rattle.nq_model.specs.Table.{caches, greater_mode, find_row, is_row_of, put_row, with_rows, after_draw}
+use Rattle.nq_model.specs.Table.{caches, find_row, is_row_of, put_row, with_rows, after_draw}
 use Rattle.walk_client.proofs.ClientMoves.{some-same, none-some}
 use Rattle.walk_run.proofs.Packets.{In, in-left, in-last, told-same, reply-same}
-use Rattle.walk_run.proofs.ServerSays.{notices-no-reply}
-use Rattle.walk_server.proofs.AskCases.{IsGranted, shares_again, begins_sharing, begins_caching, renews_row, clash_in, own_in}
-use Rattle.walk_server.proofs.RowChanges.{HasUniqueKeys, of-key, mark, mark-is, found-marked, found-put, found-any, is-clash, no-clash}
+use Rattle.walk_server.proofs.AskCases.{shares_again, begins_sharing, begins_caching, renews_row}
+use Rattle.walk_server.proofs.RowChanges.{HasUniqueKeys, of-key, mark-is, found-marked, found-put, found-any, is-clash, no-clash}
 use Rattle.walk_server.proofs.Rows.{found-row, find-passes, number-same, same-number}
 use Rattle.walk_server.proofs.ServerCases.{server-hears}
 use Rattle.walk_server.proofs.ServerOutcomes.{error-no-reply, line_of, wanted_by, file_changed_by, IsRecovering, IsPlain, unattached, attached_again, not_yet, no_entry, entry, no_attributes, attributes, no_file, no_block, decided_again, is_old, IsDeclined, bad_length, name_taken, no_room, not_kept, outside, no_row, not_under, not_over, not_while_recovering, bad_size, no_room_to_grow}
-use Rattle.walk_server.proofs.Tests.{is-other}
 use Rattle.walk_sends.proofs.Replies.{replies-are}
 use Rattle.walk_sends.proofs.RowFacts.{vacated-takes, in-the-way, holder-told}
 use Rattle.walk_sends.proofs.RowsAfter.{GoesOn, RowIs, goes_on, waits, granted, rows-are, rows-go, RowGoes, stays as stands_on, vacated, attached, removed}

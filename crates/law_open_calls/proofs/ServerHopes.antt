@@ -1,7 +1,6 @@
 -- What a request at a server that serves leaves of hopes, and of the rows in the way of calls.
 use Rattle.std.proofs.Common.{◌≡◌, ◌≢◌, ◌≤◌, ◌⊎◌, ℕ, ◌==◌, ◌++◌, Bool, true, false, not, List, [], ◌∷◌, Option, Some, None, refl, sym, subst, ap, ◌∙◌, inl, inr}
 use Rattle.std.specs.Prelude.{slice_get}
-use Rattle.nq_base.specs.declared.Access.{Access}
 use Rattle.nq_base.specs.declared.Call.{Call}
 use Rattle.nq_base.specs.declared.Mode.{Mode}
 use Rattle.nq_base.specs.declared.Refusal.{Refusal}
@@ -11,17 +10,17 @@ use Rattle.nq_base.specs.declared.Row.{Row}
 use Rattle.nq_base.specs.declared.Want.{Want}
 use Rattle.nq_promises.specs.RowsStandApart.{WritesAlone}
 use Rattle.nq_model.specs.Ask.{mode_conflicts}
-use Rattle.nq_model.specs.Client.{Client, Notice, Job, attaching, for_call, renewing, pushing, Ticket, UnderWay, lease_on}
+use Rattle.nq_model.specs.Client.{Client, Job, attaching, for_call, renewing, pushing, Ticket, UnderWay, lease_on}
 use Rattle.nq_model.specs.Hear.{holds_later, inc_of, is_put_off, refusal_counts, wants_of}
 use Rattle.nq_model.specs.Message.{Packet, call, reply}
 use Rattle.nq_model.specs.Server.{to_host}
 use Rattle.nq_model.specs.Table.{caches, is_writing, greater_mode, find_row}
 use Rattle.nq_model.specs.World.{from_host}
 use Rattle.walk_client.proofs.ClientMoves.{some-same, none-some}
-use Rattle.walk_run.proofs.Packets.{In, in-left, in-right, message-same, told-same, not-both, call-same, reply-same}
+use Rattle.walk_run.proofs.Packets.{In, in-left, in-right, message-same, not-both, call-same}
 use Rattle.walk_server.proofs.Rows.{same-number, number-same}
 use Rattle.law_answered.specs.PutOff.{file_of, access_by}
-use Rattle.law_open_calls.proofs.Hope.{file_of_call, access_of_call, conflict-caches, Cancels, PutsOff, Safe, Hopeful, IsWished, by_read, by_write, Hoped, Goes, told, waits, vacated, Passes, goes, hoped, InWay, Clear, safe-rest, safe-append, safe-none}
+use Rattle.law_open_calls.proofs.Hope.{file_of_call, access_of_call, conflict-caches, Safe, Hopeful, IsWished, by_read, by_write, Hoped, Goes, told, waits, vacated, Passes, goes, hoped, InWay, Clear, safe-rest, safe-append, safe-none}
 use Rattle.law_open_calls.proofs.Served.{IsStill, IsWant, RowFrom, stays, shares, begins, renews, OnlyStays, AreTold, Outcome, quiet, by_own, by_others, IsServed, Fits, read_fits, write_fits, Wanting, by_call, by_renewal}
 
 -- what is known of the host that asked, and of the rows

@@ -1,5 +1,5 @@
 -- A schedule that meets the premises, and needs more than half of the rounds.
-use Rattle.std.proofs.Common.{◌≡◌, ◌≤◌, ℕ, true, nat_le, [], length, refl, sym, subst, arith}
+use Rattle.std.proofs.Common.{◌≡◌, true, nat_le, [], length, refl, sym, subst, arith}
 use Rattle.nq_base.specs.Block.{filled, zeros}
 use Rattle.nq_model.specs.Lines.{Play}
 use Rattle.nq_model.specs.Stepped.{most_events, most_sent}
@@ -10,7 +10,7 @@ use Rattle.law_progress.proofs.SoonRounds.{soon_rounds, soon_ends, all-soon, lat
 use Rattle.law_rounds.specs.RoundsEndQuiet.{IsSmall}
 use Rattle.walk_run.proofs.GivenRuns.{given-run}
 use Rattle.walk_server.proofs.Tests.{is-at-most}
-use Rattle.law_open_calls.specs.CallsAnswered.{open_calls, rounds_for}
+use Rattle.law_open_calls.specs.CallsAnswered.{open_calls}
 use Rattle.law_open_calls.specs.Met.{OpenCallsAreMet}
 
 three-calls : open_calls (run late_head late_events).clients ≡ 3

@@ -1,18 +1,17 @@
 -- A tick renews a lease only where no call is open; and the lease lets its holder cache, and runs.
-use Rattle.std.proofs.Common.{◌≡◌, ◌≤◌, ◌<◌, ◌⊎◌, ℕ, ◌+◌, ◌==◌, ◌&&◌, Bool, true, false, not, nat_le, nat_lt, if◌then◌else◌, List, [], ◌∷◌, Option, Some, None, is_some, refl, sym, subst, ap, ◌∙◌, arith, inl, inr}
+use Rattle.std.proofs.Common.{◌≡◌, ◌≤◌, ◌<◌, ◌⊎◌, ℕ, ◌+◌, Bool, true, false, nat_le, if◌then◌else◌, List, [], ◌∷◌, Option, Some, None, refl, sym, subst, ap, ◌∙◌, arith, inl, inr}
 use Rattle.std.proofs.lemmas.Bool.{and_parts}
 use Rattle.nq_base.specs.declared.Grant.{Grant}
 use Rattle.std.specs.Prelude.{map, filter}
-use Rattle.nq_base.specs.declared.Mode.{Mode}
 use Rattle.nq_base.specs.declared.Request.{Request}
 use Rattle.nq_base.specs.declared.Tag.{Tag}
-use Rattle.nq_model.specs.Client.{Client, ClientStep, Job, for_call, renewing, pushing, Lease, Ticket, UnderWay, begun, file_of_lease, lease_on}
-use Rattle.nq_model.specs.ClientStep.{client_tick, at_time, sends_again}
+use Rattle.nq_model.specs.Client.{Client, ClientStep, renewing, Lease, Ticket, UnderWay, begun, file_of_lease, lease_on}
+use Rattle.nq_model.specs.ClientStep.{client_tick, at_time}
 use Rattle.nq_model.specs.Send.{want_of, is_asking, is_to_renew, sends_request, after_seq, after_number, takes_push, gives_up, send_next, least}
 use Rattle.nq_model.specs.Settle.{answers, after_read, reads_cached, after_write, marks_written, settle}
 use Rattle.nq_model.specs.Table.{caches}
 use Rattle.law_calm.proofs.Busy.{asks-next}
-use Rattle.walk_client.proofs.ClientCases.{Core, core_of, Closed, Both}
+use Rattle.walk_client.proofs.ClientCases.{Both}
 use Rattle.walk_client.proofs.ClientFacts.{Alone}
 use Rattle.walk_client.proofs.ClientMoves as move
 use Rattle.walk_client.proofs.ClientMoves.{some-same, none-some}

@@ -1,16 +1,16 @@
 -- The ticks of a round put no row in anybody's way, and open no call.
-use Rattle.std.proofs.Common.{◌≡◌, ◌≢◌, ◌≤◌, ◌<◌, ◌⊎◌, ℕ, ◌+◌, ◌==◌, Bool, true, false, zero, suc, List, [], ◌∷◌, Option, Some, None, length, refl, sym, subst, ap, ◌∙◌, arith, inl, inr}
+use Rattle.std.proofs.Common.{◌≡◌, ℕ, ◌+◌, true, false, zero, suc, List, Option, Some, None, length, refl, sym, subst, ap, ◌∙◌, arith}
 use Rattle.std.specs.Prelude.{not, slice_get}
 use Rattle.nq_base.specs.declared.Event.{Event}
 use Rattle.nq_base.specs.declared.Row.{Row}
-use Rattle.nq_model.specs.Client.{Client, ClientStep, UnderWay, begun}
+use Rattle.nq_model.specs.Client.{Client, UnderWay, begun}
 use Rattle.nq_model.specs.ClientStep.{client_tick, sends_again, at_time as at_client_time}
 use Rattle.nq_model.specs.Lines.{Play, play, play_hosts, play_rounds}
 use Rattle.nq_model.specs.Server.{serving, recovering, Server, ServerStep, quiet, keeping_with, with_table}
 use Rattle.nq_model.specs.ServerStep.{tick, at_time, opens, ends_writing, end_reading, is_over}
 use Rattle.nq_model.specs.Settle.{settle}
 use Rattle.nq_model.specs.Table.{find_row, is_row_of, with_rows}
-use Rattle.nq_model.specs.World.{Head, World, after_client, after_server, at_client, step, run}
+use Rattle.nq_model.specs.World.{Head, World, after_client, after_server, at_client, run}
 use Rattle.nq_model.specs.Skew.{IsWithinSkew}
 use Rattle.nq_promises.specs.Bounds.{KeepsBounds}
 use Rattle.law_calm.proofs.ClientCount.{client-count}

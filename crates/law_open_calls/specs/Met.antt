@@ -1,5 +1,5 @@
 -- That these laws speak of something: a schedule keeps to all their bounds, and needs more than half of the rounds.
-use Rattle.std.specs.Prelude.{◌≡◌, ◌≤◌, ℕ, ◌*◌, true, [], slice_get}
+use Rattle.std.specs.Prelude.{◌≡◌, ◌≤◌, ◌*◌, true, [], slice_get}
 use Rattle.nq_model.specs.World.{run}
 use Rattle.law_deliveries.specs.DeliveryEnds.{calmed}
 use Rattle.law_progress.specs.CalmRound.{calm_rounds}
