@@ -21,11 +21,11 @@ use Rattle.nq_promises.specs.AnswersTellWhatWas.{HasNamed, HasLength, ToldSo}
 use Rattle.nq_promises.specs.RepliesTellWhatWas.{Once, KeepsNamed}
 use Rattle.law_calm.specs.RequestsAreMeant.{IsWriteTo}
 use Rattle.law_synchronized.proofs.OkFacts.{IsFor}
-use Rattle.law_told.specs.RefusalsHaveCauses.{LacksName, HasName, LacksFile, IsAnsweredSo}
+use Rattle.law_told.specs.RefusalsHaveCauses.{LacksName, HasName, LacksFile, HasNoRoom, CannotGrow, IsNoLength, IsAnsweredSo}
 use Rattle.law_told.proofs.RunTells.{once-map, HadSo}
 use Rattle.walk_client.proofs.RepliedCases.{IsNamed, looked_up, created, attributes}
 use Rattle.walk_client.proofs.SettleCases.{IsRead}
-use Rattle.walk_entries.proofs.ClientEntries.{IsTelling, names, refuses}
+use Rattle.walk_entries.proofs.ClientEntries.{IsOfBlock, IsTelling, names, refuses}
 
 -- what an answer to this call says was so
 abbrev pub Says : Head → List Event → Said → Option Told → Type 0
@@ -54,7 +54,25 @@ later-says head event earlier Said.NoEntry other so = absurd so
 later-says head event earlier Said.Stale o so = (so.0, so.1, inr so.2)
 later-says head event earlier Said.Exists (Some (Told.Create name blocks)) so = inr so
 later-says head event earlier Said.Exists other so = absurd so
+later-says head event earlier Said.NoSpace (Some (Told.Create name blocks)) so = inr so
+later-says head event earlier Said.NoSpace (Some (Told.Resize file blocks)) so = inr so
+later-says head event earlier Said.NoSpace other so = absurd so
+later-says head event earlier Said.Range (Some (Told.Create name blocks)) so = so
+later-says head event earlier Said.Range (Some (Told.Resize file blocks)) so = so
+later-says head event earlier Said.Range (Some (Told.Read file block)) so = tt
+later-says head event earlier Said.Range (Some (Told.Fetch file block)) so = tt
+later-says head event earlier Said.Range (Some (Told.Write file block value)) so = tt
+later-says head event earlier Said.Range (Some (Told.WriteSync file block value)) so = tt
+later-says head event earlier Said.Range other so = absurd so
 later-says head event earlier answer o so = tt
+
+-- `range` is said to any call that reads or writes a block
+pub range-of-block : (head : Head) (events : List Event) (op : Call) → IsOfBlock op → Says head events Said.Range (Some (told op))
+range-of-block head events (Call.Read file block) of_block = tt
+range-of-block head events (Call.Fetch file block) of_block = tt
+range-of-block head events (Call.Write file block body) of_block = tt
+range-of-block head events (Call.WriteSync file block body) of_block = tt
+range-of-block head events other of_block = absurd of_block
 
 -- ---- the refusal that is answered with
 
@@ -62,6 +80,12 @@ never : (head : Head) (events : List Event) → Once (λ w. ⊥) head events →
 never head [] bad = bad
 never head (event ∷ earlier) (inl bad) = bad
 never head (event ∷ earlier) (inr before) = never head earlier before
+
+-- what is of no moment
+at-no-moment : (X : Type 0) (head : Head) (events : List Event) → Once (λ w. X) head events → X
+at-no-moment X head [] so = so
+at-no-moment X head (event ∷ earlier) (inl so) = so
+at-no-moment X head (event ∷ earlier) (inr before) = at-no-moment X head earlier before
 
 module _ (head : Head) (events : List Event) (host xid inc : ℕ) (u : UnderWay) (dirty : List Push) (push : Option Push) where
   -- when this request had been sent, the cause of its refusal stood
@@ -88,6 +112,39 @@ module _ (head : Head) (events : List Event) (host xid inc : ℕ) (u : UnderWay)
       (once-map (HadSo host xid (Reply.Refused inc Refusal.Exist) (Request.Create who seq name blocks)) (λ w. HasName w.server.kept.files name) head
       events (λ w so. so.1.1) had)
   exists r is had = absurd (causeless Refusal.Exist r (λ w so. so.1.1) had)
+
+  no-space : (r : Request) → IsFor u dirty push r → Had Refusal.NoSpc r → Answered Refusal.NoSpc
+  no-space (Request.Create who seq name blocks) is had =
+      subst (λ k. Says head events Said.NoSpace (Some (told k))) (sym is)
+      (once-map (HadSo host xid (Reply.Refused inc Refusal.NoSpc) (Request.Create who seq name blocks)) (λ w. HasNoRoom w.server.kept.files w.server.kept.next blocks) head
+      events (λ w so. so.1.1) had)
+  no-space (Request.Resize who seq q file blocks) is had =
+      subst (λ k. Says head events Said.NoSpace (Some (told k))) (sym is.0)
+      (once-map (HadSo host xid (Reply.Refused inc Refusal.NoSpc) (Request.Resize who seq q file blocks))
+      (λ w. CannotGrow w.server.kept.files file blocks) head events (λ w so. so.1.1) had)
+  no-space r is had = absurd (causeless Refusal.NoSpc r (λ w so. so.1.1) had)
+
+  no-length : (r : Request) (blocks : ℕ) → ((w : World) → HadSo host xid (Reply.Refused inc Refusal.Inval) r w → IsNoLength blocks) → Had Refusal.Inval r
+      → IsNoLength blocks
+  no-length r blocks f had =
+      at-no-moment (IsNoLength blocks) head events
+      (once-map (HadSo host xid (Reply.Refused inc Refusal.Inval) r) (λ w. IsNoLength blocks) head events f had)
+
+  of-block : (op : Call) → u.call ≡ op → IsOfBlock op → Answered Refusal.Inval
+  of-block op is block = range-of-block head events u.call (subst IsOfBlock (sym is) block)
+
+  out-of-range : (r : Request) → IsFor u dirty push r → Had Refusal.Inval r → Answered Refusal.Inval
+  out-of-range (Request.Create who seq name blocks) is had =
+      subst (λ k. Says head events Said.Range (Some (told k))) (sym is)
+      (no-length (Request.Create who seq name blocks) blocks (λ w so. so.1.1) had)
+  out-of-range (Request.Resize who seq q file blocks) is had =
+      subst (λ k. Says head events Said.Range (Some (told k))) (sym is.0)
+      (no-length (Request.Resize who seq q file blocks) blocks (λ w so. so.1.1) had)
+  out-of-range (Request.Read who q file block want) (inl is) had = of-block (Call.Read file block) is tt
+  out-of-range (Request.Read who q file block want) (inr is) had = of-block (Call.Fetch file block) is tt
+  out-of-range (Request.Write who seq file block first last base body) (inl is) had = of-block (Call.Write file block body) is tt
+  out-of-range (Request.Write who seq file block first last base body) (inr is) had = of-block (Call.WriteSync file block body) is tt
+  out-of-range r is had = absurd (causeless Refusal.Inval r (λ w so. so.1.1) had)
 
   -- ---- what a reply names
 
@@ -157,6 +214,8 @@ module _ (head : Head) (events : List Event) (host xid inc : ℕ) (u : UnderWay)
   refused-says Refusal.NoEnt r is leases had = no-entry r is had
   refused-says Refusal.Exist r is leases had = exists r is had
   refused-says Refusal.Stale r is leases had = stale r is leases had
+  refused-says Refusal.NoSpc r is leases had = no-space r is had
+  refused-says Refusal.Inval r is leases had = out-of-range r is had
   refused-says other r is leases had = tt
 
   -- an answer says what the reply to the call's request says

@@ -26,6 +26,7 @@ use Rattle.nq_model.specs.World.{Head, World, after_server, after_client, at_cli
 use Rattle.nq_promises.specs.AnswersTellWhatWas.{ToldSo, TellsSoAt, AnswersTellWhatWas}
 use Rattle.nq_promises.specs.Bounds.{KeepsBounds, InEveryRun}
 use Rattle.nq_promises.specs.RepliesTellWhatWas.{Once}
+use Rattle.walk_calls.proofs.CallFacts.{CallsAt}
 use Rattle.walk_calls.proofs.Placed.{Placed, call-told, call-later}
 use Rattle.walk_entries.proofs.ClientEntries.{IsTelling}
 use Rattle.walk_run.proofs.Clocks.{within-before}
@@ -38,8 +39,8 @@ use Rattle.law_calls.proofs.RunCalls.{calls-known}
 use Rattle.law_synchronized.proofs.OkFacts.{KeepsOf}
 use Rattle.law_synchronized.proofs.Standings.{oks-in-every-run}
 use Rattle.law_told.specs.RefusalsHaveCauses.{HasCauseAt, AnswersHaveCauses}
-use Rattle.law_told.proofs.AnswerCauses.{Says, SaysAt, Leases, later-says, telling-says}
-use Rattle.law_told.proofs.ClientRests.{IsCachedNext, Rests, AllRest, call-rests, tick-rests, hear-rests, restart-rests}
+use Rattle.law_told.proofs.AnswerCauses.{Says, SaysAt, Leases, later-says, range-of-block, telling-says}
+use Rattle.law_told.proofs.ClientRests.{IsCachedNext, IsOutside, Rests, AllRest, call-rests, tick-rests, hear-rests, restart-rests}
 use Rattle.law_told.proofs.RunTells.{HadSo, IsTrue, all-true}
 use Rattle.law_told.proofs.ServerEntries.{IsNoAnswer, NoneAnswers, receive-answers-none, tick-answers-none, crash-answers-none}
 
@@ -102,16 +103,23 @@ caused-so : (head : Head) (events : List Event) (who : Who) (q : ℕ) (answer : 
 caused-so head events who q answer entries journal cause =
     subst (Says head events answer) (sym (call-later entries journal who q cause.asks cause.call)) cause.so
 
-rests-so : (head : Head) (events : List Event) (e : Entry) (entries journal : List Entry) → Rests (TellsOf head events journal) e entries
+outside-so : (head : Head) (events : List Event) (who : Who) (q : ℕ) (journal : List Entry) → IsOutside who q journal
+    → Says head events Said.Range (call_of journal who q)
+outside-so head events who q journal out = subst (Says head events Said.Range) (sym out.tells) (range-of-block head events out.op out.of_block)
+
+rests-so : (head : Head) (events : List Event) (e : Entry) (entries journal : List Entry) → Rests (TellsOf head events journal) journal e entries
     → Throughout Placed (entries ++ journal) → SaysAt head events e (entries ++ journal)
 rests-so head events (Entry.A who q (Said.OkValue value)) entries journal (inl next) placed = cached-so head events who q value entries journal next placed
 rests-so head events (Entry.A who q (Said.OkValue value)) entries journal (inr cause) placed = caused-so head events who q (Said.OkValue value) entries journal cause
 rests-so head events (Entry.A who q Said.NoEntry) entries journal rests placed = caused-so head events who q Said.NoEntry entries journal (rests refl)
 rests-so head events (Entry.A who q Said.Stale) entries journal rests placed = caused-so head events who q Said.Stale entries journal (rests refl)
 rests-so head events (Entry.A who q Said.Exists) entries journal rests placed = caused-so head events who q Said.Exists entries journal (rests refl)
+rests-so head events (Entry.A who q Said.NoSpace) entries journal rests placed = caused-so head events who q Said.NoSpace entries journal (rests refl)
+rests-so head events (Entry.A who q Said.Range) entries journal (inl out) placed = outside-so head events who q (entries ++ journal) out
+rests-so head events (Entry.A who q Said.Range) entries journal (inr cause) placed = caused-so head events who q Said.Range entries journal cause
 rests-so head events other entries journal rests placed = tt
 
-client-so : (head : Head) (events : List Event) (entries journal : List Entry) → AllRest (TellsOf head events journal) entries
+client-so : (head : Head) (events : List Event) (entries journal : List Entry) → AllRest (TellsOf head events journal) journal entries
     → Throughout Placed (entries ++ journal) → Throughout (SaysAt head events) journal → Throughout (SaysAt head events) (entries ++ journal)
 client-so head events [] journal rest placed all = all
 client-so head events (e ∷ entries) journal rest placed all =
@@ -133,7 +141,7 @@ module _ (most : ℕ) (head : Head) (event : Event) (earlier : List Event) (boun
 
   -- a step of a client
   stepped : (host : ℕ) (t : ClientStep) → run head (event ∷ earlier) ≡ after_client w host t
-      → AllRest (TellsOf head (event ∷ earlier) w.journal) t.entries → Throughout (SaysAt head (event ∷ earlier)) (run head (event ∷ earlier)).journal
+      → AllRest (TellsOf head (event ∷ earlier) w.journal) w.journal t.entries → Throughout (SaysAt head (event ∷ earlier)) (run head (event ∷ earlier)).journal
   unfolding after_client
   stepped host t is rest =
       subst (λ v. Throughout (SaysAt head (event ∷ earlier)) v.journal) (sym is)
@@ -183,11 +191,15 @@ module _ (most : ℕ) (head : Head) (event : Event) (earlier : List Event) (boun
 
   -- ---- each event
 
-  at-host : (host : ℕ) (f : Client → ClientStep) → ((c : Client) → AllRest (TellsOf head (event ∷ earlier) w.journal) (f c).entries)
-      → (o : Option Client) → run head (event ∷ earlier) ≡ at_client w host f o
+  called-at : (host : ℕ) (c : Client) → client_at head earlier host ≡ Some c → CallsAt c.who c.calls c.number c.call w.journal
+  called-at host c there = ((calls-known most head earlier bounds within).clients host c there).calls_fit
+
+  at-host : (host : ℕ) (f : Client → ClientStep)
+      → ((c : Client) → CallsAt c.who c.calls c.number c.call w.journal → AllRest (TellsOf head (event ∷ earlier) w.journal) w.journal (f c).entries)
+      → (o : Option Client) → client_at head earlier host ≡ o → run head (event ∷ earlier) ≡ at_client w host f o
       → Throughout (SaysAt head (event ∷ earlier)) (run head (event ∷ earlier)).journal
-  at-host host f rest None is = unmoved is
-  at-host host f rest (Some c) is = stepped host (f c) is (rest c)
+  at-host host f rest None there is = unmoved is
+  at-host host f rest (Some c) there is = stepped host (f c) is (rest c (called-at host c there))
 
   hearing : (k : ℕ) (p : Packet) (host : ℕ) (c : Client) → In w.packets p → p.to ≡ Party.Client host → client_at head earlier host ≡ Some c
       → (o : Option ClientStep) → hear c k p.message ≡ o → run head (event ∷ earlier) ≡ after_hearing w host o
@@ -197,7 +209,7 @@ module _ (most : ℕ) (head : Head) (event : Event) (earlier : List Event) (boun
       let held : Holds w = run-holds head earlier in
       let sent : ToldTo w.packets host p.message = to-told w.packets p host (held.sent p i) to i in
       stepped host t is
-      (hear-rests (TellsOf head (event ∷ earlier) w.journal) c k p.message t hears
+      (hear-rests (TellsOf head (event ∷ earlier) w.journal) c w.journal (called-at host c there) k p.message t hears
       (λ ticket has. ((held.clients host c there).alone.asking.ticketed ticket has).fits)
       (λ xid r ticket u answer m has same inc call job telling. told-so host c there xid r ticket u answer
       (subst (ToldTo w.packets host) m sent) has same inc call job telling))
@@ -225,7 +237,8 @@ by-event : (most : ℕ) (head : Head) (event : Event) (earlier : List Event) →
     → Throughout (SaysAt head (event ∷ earlier)) (run head (event ∷ earlier)).journal
 by-event most head (Event.Call host op) earlier bounds within placed all =
     at-host most head (Event.Call host op) earlier bounds within placed all host (λ c. client_call c op)
-    (λ c. call-rests (TellsOf head (Event.Call host op ∷ earlier) (run head earlier).journal) c op) (slice_get (run head earlier).clients host) refl
+    (λ c known. call-rests (TellsOf head (Event.Call host op ∷ earlier) (run head earlier).journal) c (run head earlier).journal known op)
+    (slice_get (run head earlier).clients host) refl refl
 by-event most head (Event.Deliver k) earlier bounds within placed all =
     delivered most head (Event.Deliver k) earlier bounds within placed all k (slice_get (run head earlier).packets k) refl refl
 by-event most head Event.ServerTick earlier bounds within placed all =
@@ -233,11 +246,12 @@ by-event most head Event.ServerTick earlier bounds within placed all =
     (tick-answers-none (run head earlier).server ((run head earlier).server.now + 1))
 by-event most head (Event.ClientTick host) earlier bounds within placed all =
     at-host most head (Event.ClientTick host) earlier bounds within placed all host (λ c. client_tick c (c.now + 1))
-    (λ c. tick-rests (TellsOf head (Event.ClientTick host ∷ earlier) (run head earlier).journal) c (c.now + 1))
-    (slice_get (run head earlier).clients host) refl
+    (λ c known. tick-rests (TellsOf head (Event.ClientTick host ∷ earlier) (run head earlier).journal) c (run head earlier).journal known (c.now + 1))
+    (slice_get (run head earlier).clients host) refl refl
 by-event most head (Event.Restart host) earlier bounds within placed all =
     at-host most head (Event.Restart host) earlier bounds within placed all host restart
-    (λ c. restart-rests (TellsOf head (Event.Restart host ∷ earlier) (run head earlier).journal) c) (slice_get (run head earlier).clients host) refl
+    (λ c known. restart-rests (TellsOf head (Event.Restart host ∷ earlier) (run head earlier).journal) c (run head earlier).journal)
+    (slice_get (run head earlier).clients host) refl refl
 by-event most head (Event.Crash longest) earlier bounds within placed all =
     served most head (Event.Crash longest) earlier bounds within placed all (crash (run head earlier).server longest) refl
     (crash-answers-none (run head earlier).server longest)

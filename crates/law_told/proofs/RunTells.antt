@@ -47,7 +47,7 @@ once-map P Q head (event ∷ earlier) f (inr before) = inr (once-map P Q head ea
 
 -- the request had been sent, what the reply tells was so, and a refusal had its cause
 abbrev pub HadSo : (host xid : ℕ) → Reply → Request → World → Type 0
-HadSo host xid a r w = Asked w.packets host xid r × IsTold w.server.kept.files a r
+HadSo host xid a r w = Asked w.packets host xid r × IsTold w.server.kept.files w.server.kept.next a r
 
 pub record IsTrue (head : Head) (events : List Event) (host xid : ℕ) (a : Reply) : Type 0 where
   pub asks : Request
@@ -243,12 +243,12 @@ module _ (head : Head) (event : Event) (earlier : List Event) (p : Packet) (i : 
     unfolding after_server
     asked-later host xid r asked = subst (λ v. Asked v.packets host xid r) (sym is) (in-left w.packets step_of.sends (from_host host (call xid r)) asked)
 
-    so-later : (a : Reply) (r : Request) → IsTold step_of.server.kept.files a r → IsTold (run head (event ∷ earlier)).server.kept.files a r
+    so-later : (a : Reply) (r : Request) → IsTold step_of.server.kept.files step_of.server.kept.next a r → IsTold (run head (event ∷ earlier)).server.kept.files (run head (event ∷ earlier)).server.kept.next a r
     unfolding after_server
-    so-later a r so = subst (λ v. IsTold v.server.kept.files a r) (sym is) so
+    so-later a r so = subst (λ v. IsTold v.server.kept.files v.server.kept.next a r) (sym is) so
 
     why-true : (host xid : ℕ) (a : Reply) (r : Request) (who : Who) → Asked w.packets host xid r → host ≡ who.host → asker r ≡ Some who
-        → Reason w.server step_of.server.kept.files who r a → Once (HadSo host xid a r) head (event ∷ earlier)
+        → Reason w.server step_of.server.kept.files step_of.server.kept.next who r a → Once (HadSo host xid a r) head (event ∷ earlier)
     why-true host xid a r who asked home by (so_before so) = inr (once-now (HadSo host xid a r) head earlier (asked, so))
     why-true host xid a r who asked home by (so_after so) = inl (asked-later host xid r asked, so-later a r so)
     why-true host xid a r who asked home by (again seq sq inc same e) =
@@ -259,7 +259,7 @@ module _ (head : Head) (event : Event) (earlier : List Event) (p : Packet) (i : 
         line : HostRow
         line = host_row w.server.kept who.host
 
-    new-reply : (host xid : ℕ) (a : Reply) → Tells w.server step_of.server.kept.files (datagram_of p.message) (sending_host p.sender) host xid a
+    new-reply : (host xid : ℕ) (a : Reply) → Tells w.server step_of.server.kept.files step_of.server.kept.next (datagram_of p.message) (sending_host p.sender) host xid a
         → IsTrue head (event ∷ earlier) host xid a
     new-reply host xid a k =
         let asked : Asked w.packets host xid k.asks = subst (λ h. Asked w.packets h xid k.asks) (sym k.to) (asked-of xid k.asks k.is) in
@@ -273,7 +273,7 @@ module _ (head : Head) (event : Event) (earlier : List Event) (p : Packet) (i : 
               k.who asked k.home k.by k.why;
         }
 
-    row-true : (k : ℕ) (line : HostRow) → RowMove w.server step_of.server.kept.files (datagram_of p.message) (sending_host p.sender) k line
+    row-true : (k : ℕ) (line : HostRow) → RowMove w.server step_of.server.kept.files step_of.server.kept.next (datagram_of p.message) (sending_host p.sender) k line
         → RowTrue head (event ∷ earlier) k line
     row-true k line (row_stays same) one =
         subst (IsDeed head (event ∷ earlier) k) (sym same)
@@ -309,7 +309,7 @@ module _ (head : Head) (event : Event) (earlier : List Event) (p : Packet) (i : 
       where
         by : (host xid : ℕ) (a : Reply)
             → ((h x : ℕ) (b : Reply) → In step_of.sends (to_host h (reply x b))
-            → Tells w.server step_of.server.kept.files (datagram_of p.message) (sending_host p.sender) h x b)
+            → Tells w.server step_of.server.kept.files step_of.server.kept.next (datagram_of p.message) (sending_host p.sender) h x b)
             → In w.packets (to_host host (reply xid a)) ⊎ In step_of.sends (to_host host (reply xid a)) → IsTrue head (event ∷ earlier) host xid a
         by host xid a tells (inl old) = later-true head event earlier host xid a asked-later (t.replies host xid a old)
         by host xid a tells (inr new) = new-reply host xid a (tells host xid a new)

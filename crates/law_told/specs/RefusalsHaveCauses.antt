@@ -1,22 +1,22 @@
 -- Each refusal has its cause: what a refusal says stood at the server, in every run. Refusals that put a request off, or that fence a
--- push, speak of leases, and those for want of room of all files together: they are left out here.
-use Rattle.std.specs.Prelude.{◌≡◌, ◌⊎◌, ◌<◌, ◌≤◌, ℕ, List, Option, Some, None, slice_get, ⊤}
+-- push, speak of leases: they are left out here.
+use Rattle.std.specs.Prelude.{◌≡◌, ◌⊎◌, ◌<◌, ◌≤◌, ◌+◌, ◌-◌, ℕ, List, Option, Some, None, length, slice_get, ⊤}
 use Rattle.nq_base.specs.declared.Entry.{Entry}
 use Rattle.nq_base.specs.declared.Entry.TheVariants.{A}
 use Rattle.nq_base.specs.declared.Event.{Event}
 use Rattle.nq_base.specs.declared.Refusal.{Refusal}
-use Rattle.nq_base.specs.declared.Refusal.TheVariants.{NoEnt, Exist, Inval, Stale}
+use Rattle.nq_base.specs.declared.Refusal.TheVariants.{NoEnt, Exist, Inval, NoSpc, Stale}
 use Rattle.nq_base.specs.declared.Reply.{Reply}
 use Rattle.nq_base.specs.declared.Request.{Request}
 use Rattle.nq_base.specs.declared.Said.{Said}
-use Rattle.nq_base.specs.declared.Said.TheVariants.{NoEntry, Exists}
+use Rattle.nq_base.specs.declared.Said.TheVariants.{NoEntry, Exists, NoSpace, Range}
 use Rattle.nq_base.specs.declared.Told.{Told}
-use Rattle.nq_base.specs.declared.Told.TheVariants.{Create, Lookup}
+use Rattle.nq_base.specs.declared.Told.TheVariants.{Create, Lookup, Read, Fetch, Write, WriteSync, Resize}
 use Rattle.nq_base.specs.declared.Who.{Who}
 use Rattle.nq_model.specs.Journal.{Throughout, SpeaksOf, call_of}
-use Rattle.nq_model.specs.Kept.{File, blocks_of, find_file, find_name}
+use Rattle.nq_model.specs.Kept.{File, blocks_of, blocks_in_all, find_file, find_name}
 use Rattle.nq_model.specs.Message.{call, reply, asker}
-use Rattle.nq_model.specs.Profile.{most_blocks_of_file}
+use Rattle.nq_model.specs.Profile.{most_blocks, most_blocks_of_file, most_files, most_ids}
 use Rattle.nq_model.specs.Server.{to_host}
 use Rattle.nq_model.specs.World.{Head, World, from_host, run}
 use Rattle.nq_promises.specs.Bounds.{InEveryRun}
@@ -47,6 +47,17 @@ pub record LacksBlock (files : List File) (id block : ℕ) : Type 0 where
 abbrev pub IsNoLength : (blocks : ℕ) → Type 0
 IsNoLength blocks = (blocks ≡ 0) ⊎ (most_blocks_of_file < blocks)
 
+-- beside these files none of so many blocks can be kept: there are as many as can be, or there would be too many blocks in all, or the
+-- next id is none that is given
+abbrev pub HasNoRoom : List File → (next blocks : ℕ) → Type 0
+HasNoRoom files next blocks = (most_files ≤ length files) ⊎ ((most_blocks < blocks_in_all files + blocks) ⊎ (most_ids ≤ next))
+
+-- a file of this id is kept, and with so many blocks in it there would be too many in all
+pub record CannotGrow (files : List File) (id blocks : ℕ) : Type 0 where
+  pub file : File
+  pub found : find_file id files ≡ Some file
+  pub above : most_blocks < (blocks_in_all files - blocks_of file) + blocks
+
 -- the file that a request names by its id
 abbrev pub file_named : Request → Option ℕ
 file_named (Request.GetAttr who file) = Some file
@@ -62,21 +73,25 @@ abbrev pub LacksNamed : List File → Option ℕ → Type 0
 LacksNamed files None = ⊥
 LacksNamed files (Some id) = LacksFile files id
 
--- why a request was refused, where these files are kept: NOENT is said to LOOKUP alone, and no file of its name is kept; STALE to a
--- request that names a file by its id, and no file of that id is kept; EXIST to CREATE alone, and a file of its name is kept; INVAL
--- to READ and WRITE of a block that their file has not, and to CREATE and RESIZE with a length that no file can have
-abbrev pub IsCause : List File → Refusal → Request → Type 0
-IsCause files NoEnt (Request.Lookup who name) = LacksName files name
-IsCause files NoEnt other = ⊥
-IsCause files Stale r = LacksNamed files (file_named r)
-IsCause files Exist (Request.Create who seq name blocks) = HasName files name
-IsCause files Exist other = ⊥
-IsCause files Inval (Request.Read who q file block want) = LacksBlock files file block
-IsCause files Inval (Request.Write who seq file block first last push body) = LacksBlock files file block
-IsCause files Inval (Request.Create who seq name blocks) = IsNoLength blocks
-IsCause files Inval (Request.Resize who seq q file blocks) = IsNoLength blocks
-IsCause files Inval other = ⊥
-IsCause files other r = ⊤
+-- why a request was refused, where these files are kept: NOENT is said to LOOKUP alone, and no file of its name is kept; STALE to a request that
+-- names a file by its id, and no file of that id is kept; EXIST to CREATE alone, and a file of its name is kept; INVAL to READ and WRITE
+-- of a block that their file has not, and to CREATE and RESIZE with a length that no file can have; NOSPC to CREATE and RESIZE alone, and
+-- there is no room for such a file, or for such a length of the file
+abbrev pub IsCause : List File → (next : ℕ) → Refusal → Request → Type 0
+IsCause files next NoEnt (Request.Lookup who name) = LacksName files name
+IsCause files next NoEnt other = ⊥
+IsCause files next Stale r = LacksNamed files (file_named r)
+IsCause files next Exist (Request.Create who seq name blocks) = HasName files name
+IsCause files next Exist other = ⊥
+IsCause files next Inval (Request.Read who q file block want) = LacksBlock files file block
+IsCause files next Inval (Request.Write who seq file block first last push body) = LacksBlock files file block
+IsCause files next Inval (Request.Create who seq name blocks) = IsNoLength blocks
+IsCause files next Inval (Request.Resize who seq q file blocks) = IsNoLength blocks
+IsCause files next Inval other = ⊥
+IsCause files next NoSpc (Request.Create who seq name blocks) = HasNoRoom files next blocks
+IsCause files next NoSpc (Request.Resize who seq q file blocks) = CannotGrow files file blocks
+IsCause files next NoSpc other = ⊥
+IsCause files next other r = ⊤
 
 -- ---- replies
 
@@ -84,7 +99,7 @@ IsCause files other r = ⊤
 pub record HadCause (w : World) (host xid : ℕ) (status : Refusal) (r : Request) : Type 0 where
   pub place : ℕ
   pub sent : slice_get w.packets place ≡ Some (from_host host (call xid r))
-  pub cause : IsCause w.server.kept.files status r
+  pub cause : IsCause w.server.kept.files w.server.kept.next status r
 
 -- a refusal answers a request of its number, of the host to which it goes and of the incarnation that it names. At some moment, when
 -- that request had been sent, its cause stood at the server
@@ -105,13 +120,25 @@ RefusalsHaveCauses =
 -- ---- answers
 
 -- why a call was answered so: NOENTRY is said to `lookup` alone, and at some moment no file of its name was kept; STALE to a call that
--- speaks of a file, and no file of its id was kept; EXISTS to `create` alone, and a file of its name was kept
+-- speaks of a file, and no file of its id was kept; EXISTS to `create` alone, and a file of its name was kept; NOSPACE to `create` and
+-- `resize` alone, and there was no room for such a file, or for such a length of the file; RANGE to `create` and `resize` with a length
+-- that no file can have, and to a call that reads or writes a block
 abbrev pub IsAnsweredSo : Head → List Event → Said → Option Told → Type 0
 IsAnsweredSo head events NoEntry (Some (Lookup name)) = Once (λ w. LacksName w.server.kept.files name) head events
 IsAnsweredSo head events NoEntry other = ⊥
 IsAnsweredSo head events Said.Stale told = (file : ℕ) × SpeaksOf file told × Once (λ w. LacksFile w.server.kept.files file) head events
 IsAnsweredSo head events Exists (Some (Create name blocks)) = Once (λ w. HasName w.server.kept.files name) head events
 IsAnsweredSo head events Exists other = ⊥
+IsAnsweredSo head events NoSpace (Some (Create name blocks)) = Once (λ w. HasNoRoom w.server.kept.files w.server.kept.next blocks) head events
+IsAnsweredSo head events NoSpace (Some (Resize file blocks)) = Once (λ w. CannotGrow w.server.kept.files file blocks) head events
+IsAnsweredSo head events NoSpace other = ⊥
+IsAnsweredSo head events Range (Some (Create name blocks)) = IsNoLength blocks
+IsAnsweredSo head events Range (Some (Resize file blocks)) = IsNoLength blocks
+IsAnsweredSo head events Range (Some (Read file block)) = ⊤
+IsAnsweredSo head events Range (Some (Fetch file block)) = ⊤
+IsAnsweredSo head events Range (Some (Write file block value)) = ⊤
+IsAnsweredSo head events Range (Some (WriteSync file block value)) = ⊤
+IsAnsweredSo head events Range other = ⊥
 IsAnsweredSo head events other told = ⊤
 
 -- what is asked of an A at its place

@@ -20,14 +20,16 @@ pub fn answers_tell_what_was()
 {}
 
 /// After every schedule, what a refusal says stood at the server at some moment when the request had been sent: NOENT that no file of
-/// that name was kept, STALE that no file of that id was, EXIST that one of that name was, and INVAL that the file had no such block,
-/// or that no file can have such a length.
+/// that name was kept, STALE that no file of that id was, EXIST that one of that name was, INVAL that the file had no such block,
+/// or that no file can have such a length, and NOSPC that there was no room: too many files, blocks or ids.
 pub fn refusals_have_causes()
     ensures { RefusalsHaveCauses }
 {}
 
 /// After every schedule within skew, what an answer that refuses says stood at the server at some moment, and that not after the answer:
-/// `noentry` that no file of the name was kept, `stale` that no file of the id was, and `exists` that one of the name was.
+/// `noentry` that no file of the name was kept, `stale` that no file of the id was, `exists` that one of the name was, and `nospace` that
+/// there was no room. `range` is said to a call that reads or writes a block, and to `create` and `resize` with a length that no file can
+/// have.
 pub fn answers_have_causes()
     ensures { AnswersHaveCauses }
 {}

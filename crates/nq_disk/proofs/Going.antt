@@ -2,7 +2,7 @@
 use Rattle.std.proofs.Common.{◌≡◌, ◌+◌, ◌≤◌, ℕ, zero, suc, drop, Bool, true, false, List, [], ◌∷◌, ◌++◌, refl, sym, ap, ◌∙◌, subst, arith, length}
 use Rattle.std.specs.Prelude.{if◌then◌else◌, nat_le, Ok}
 use Rattle.nq_disk.specs.MemLaws.{reads-image}
-use Rattle.nq_disk.specs.MemDisk.{Event, wrote, tore, synced, Image, StoredDisk, GoesOn, Left, after_refusal, after_syncing, after_writing, bytes_of}
+use Rattle.nq_disk.specs.MemDisk.{Event, wrote, tore, synced, Image, StoredDisk, GoesOn, Left, after_refusal, after_syncing, after_writing}
 
 event-or-none : (b : Bool) (event : Event) (events : List Event) → (if b then events else event ∷ events) ≡ (if b then [] else event ∷ []) ++ events
 event-or-none true event events = refl

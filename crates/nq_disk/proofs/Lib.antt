@@ -1,3 +1,3 @@
 mod Going
 mod Overwriting
-mod Taping
+mod Walks

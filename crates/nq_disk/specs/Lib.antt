@@ -2,6 +2,6 @@ pub mod Bytes
 pub mod BytesLaws
 pub mod Calling
 pub mod FileLaws
+pub mod History
 pub mod MemDisk
 pub mod MemLaws
-pub mod Tape

@@ -7,8 +7,8 @@
 mod copying;
 mod disk;
 mod file_disk;
+mod history;
 mod mem_disk;
-mod tape;
 
 pub use disk::{Disk, DiskFault};
 pub use file_disk::FileDisk;

@@ -10,10 +10,11 @@ ghost use Rattle.nq_disk.specs.MemDisk.{GoesOn, Image, Left, after_call, after_f
 ghost use Rattle.nq_disk.specs.MemLaws.{goes-on-itself, goes-on-further, never-silent, reads-may-stay, left-now, left-ends, left-parts, left-joins};
 
 use crate::copying::copy_in;
-use crate::tape::Tape;
+use crate::history::{Deed, History};
 use crate::{Disk, DiskFault, NoMemory};
 use std::alloc::Global;
 use std::marker::Model;
+use std::snapshot::Snapshot;
 
 /// How much a disk in memory takes: the most bytes that it has, the most calls, and the most bytes written in all.
 #[derive(Clone, Copy, Debug, PartialEq, Eq)]
@@ -24,13 +25,14 @@ pub struct Room {
 }
 
 /// A disk in memory, which tells its bytes. It fails exactly the calls whose numbers are listed, counted from 0, every call
-/// from the number of its stop on, and a call that would pass its room. A call that fails changes no byte. It keeps the bytes
-/// that it had at first and what was done since, so that a contract can say what a stop at each moment leaves.
+/// from the number of its stop on, and a call that would pass its room. A call that fails changes no byte. Contracts see the
+/// bytes that it had at first and what was done since, so that they can say what a stop at each moment leaves. Neither takes memory.
 #[derive(Drop)]
 pub struct MemDisk {
-    first: Vec<u8>,
+    first: Snapshot<Vec<u8>>,
+    history: History,
     bytes: Vec<u8>,
-    tape: Tape,
+    written: u64,
     room: Room,
     made: u32,
     failing: Vec<u32>,
@@ -40,13 +42,13 @@ pub struct MemDisk {
 
 impl Model for MemDisk {
     ghost use Rattle.std.specs.Prelude.{◌≡◌, ◌≤◌, length, vec_capacity};
-    ghost use Rattle.nq_disk.specs.MemDisk.{StoredDisk, bytes_of};
+    ghost use Rattle.nq_disk.specs.MemDisk.{StoredDisk, bytes_of, all_written};
 
     ghost Value = { StoredDisk };
 
-    ghost view = { λ d. record { first = d.first.items; events = d.tape.events; room = d.room; made = d.made; failing = d.failing.items; stop = d.stop; faults = d.faults } };
+    ghost view = { λ d. record { first = d.first.value.items; events = d.history.events; room = d.room; made = d.made; failing = d.failing.items; stop = d.stop; faults = d.faults } };
 
-    ghost invariant = { λ d. record { reads : d.bytes.items ≡ bytes_of d.first.items d.tape.events; fits : length d.bytes.items ≤ d.room.size; space : d.room.size ≤ vec_capacity d.bytes; few : length d.tape.events ≤ d.made; events : d.tape.most_events ≡ d.room.calls; written : d.tape.most_written ≡ d.room.written } };
+    ghost invariant = { λ d. record { reads : d.bytes.items ≡ bytes_of d.first.value.items d.history.events; fits : length d.bytes.items ≤ d.room.size; space : d.room.size ≤ vec_capacity d.bytes; all : d.written ≡ all_written d.history.events; short : d.written ≤ d.room.written } };
 }
 
 /// Adds zeros up to a length.
@@ -118,11 +120,11 @@ impl MemDisk {
     {
         let mut held = Vec::with_capacity(alloc, room.size as usize)?;
         held.extend_from_slice(&bytes)?;
-        let tape = Tape::new(alloc, room.calls as usize, room.written as usize)?;
         Ok(MemDisk {
-            first: bytes,
+            first: Snapshot::of(&bytes),
+            history: History::new(),
             bytes: held,
-            tape,
+            written: 0,
             room,
             made: 0,
             failing,
@@ -166,10 +168,10 @@ impl MemDisk {
     fn passes_room(&self, place: u64, count: usize) -> bool
         ensures { result ≡ passes_room self.now place count }
     {
-        let (count, written) = (count as u64, self.tape.written() as u64);
+        let count = count as u64;
         self.room.size < place
             || self.room.size - place < count
-            || self.room.written - written < count
+            || self.room.written - self.written < count
     }
 
     /// Writes, and notes and counts it.
@@ -179,7 +181,8 @@ impl MemDisk {
         ensures { self.new ≡ after_writing (Ok tt) place bytes.now self.old }
     {
         write_over(&mut self.bytes, place as usize, bytes);
-        self.tape.note_write(place, bytes);
+        self.history = self.history.with(&Deed::Wrote { place, bytes });
+        self.written += bytes.len() as u64;
         self.made += 1;
     }
 
@@ -189,7 +192,7 @@ impl MemDisk {
         ensures rose { Rose self.old.faults self.new.faults }
     {
         if self.made < self.room.calls {
-            self.tape.note_tear(place, count);
+            self.history = self.history.with(&Deed::Tore { place, count });
         }
         self.made = self.made.saturating_add(1);
         self.faults = self.faults.saturating_add(1);
@@ -201,7 +204,7 @@ impl MemDisk {
         requires { IsFalse (is_refused self.old) }
         ensures { self.new ≡ after_syncing (Ok tt) self.old }
     {
-        self.tape.note_sync();
+        self.history = self.history.with(&Deed::Synced);
         self.made += 1;
     }
 

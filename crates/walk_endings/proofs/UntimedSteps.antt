@@ -7,31 +7,31 @@ use Rattle.nq_model.specs.ClientStep.{client_call, client_tick, restart}
 use Rattle.nq_model.specs.Hear.{hear}
 use Rattle.nq_model.specs.Message.{Message}
 use Rattle.walk_client.proofs.ClientFacts.{fits_job}
-use Rattle.walk_entries.proofs.ClientEntries.{OfClient, call-keeps, tick-keeps, hear-keeps, restart-keeps}
+use Rattle.walk_entries.proofs.ClientEntries.{AnyCall, OfClient, any-going, call-keeps, tick-keeps, hear-keeps, restart-keeps}
 use Rattle.walk_tables.proofs.LogMoves.{timed}
 
 abbrev pub AreUntimed : List Entry → Type 0
 AreUntimed entries = timed entries ≡ []
 
-untimed : OfClient AreUntimed
+untimed : OfClient AnyCall AreUntimed
 untimed = record {
-  nothing = refl;
   answered = λ who q said before plain h. h;
+  outside = λ who q op before of_block goes h. h;
   read = λ who q file block value before h. h;
   delayed = λ who file block number value before h. h;
   lost = λ who file block first last before h. h;
-  started = λ who. refl;
 }
 
 pub call-untimed : (c : Client) (op : Call) → AreUntimed (client_call c op).entries
-call-untimed c op = call-keeps AreUntimed untimed c op (λ q. refl)
+call-untimed c op = call-keeps AnyCall AreUntimed untimed c op refl (any-going c.who c.call) tt
 
 pub tick-untimed : (c : Client) (now : ℕ) → AreUntimed (client_tick c now).entries
-tick-untimed c now = tick-keeps AreUntimed untimed c now
+tick-untimed c now = tick-keeps AnyCall AreUntimed untimed c now refl (any-going c.who c.call)
 
 pub hear-untimed : (c : Client) (number : ℕ) (m : Message) (t : ClientStep) → hear c number m ≡ Some t
     → ((ticket : Ticket) → c.ticket ≡ Some ticket → fits_job ticket.job ticket.request ≡ true) → AreUntimed t.entries
-hear-untimed c number m t hears fits = hear-keeps AreUntimed untimed c number m t hears fits (λ xid r ticket u answer is asked same inc called job named. refl)
+hear-untimed c number m t hears fits =
+    hear-keeps AnyCall AreUntimed untimed c number m t hears fits refl (any-going c.who c.call) (λ xid r ticket u answer is asked same inc called job named. refl)
 
 pub restart-untimed : (c : Client) → AreUntimed (restart c).entries
-restart-untimed c = restart-keeps AreUntimed untimed c
+restart-untimed c = restart-keeps AnyCall AreUntimed untimed c refl

@@ -1,5 +1,6 @@
 -- What a journal keeps when an entry of a client comes behind it, it keeps in each step of a client.
-use Rattle.std.proofs.Common.{◌≡◌, ℕ, ◌+◌, Bool, true, false, List, [], ◌∷◌, Option, Some, None, refl, sym, ◌∙◌}
+use Rattle.std.proofs.Common.{◌≡◌, ◌⊎◌, ℕ, ◌+◌, Bool, true, false, List, [], ◌∷◌, Option, Some, None, refl, sym, subst, ◌∙◌, inl, inr}
+use Rattle.std.specs.Prelude.{⊤}
 use Rattle.nq_base.specs.Block.{value_of}
 use Rattle.nq_base.specs.declared.Answer.{Answer}
 use Rattle.nq_base.specs.declared.Call.{Call}
@@ -16,15 +17,15 @@ use Rattle.nq_base.specs.declared.Who.{Who}
 use Rattle.nq_model.specs.Client.{Client, ClientStep, Job, for_call, Notice, Ticket, UnderWay, begun, losses_of, loss_list, notice_on}
 use Rattle.nq_model.specs.ClientStep.{begins_call, is_called, says_busy, client_call, at_time, sends_again, client_tick, starts, fresh_client, next_incarnation, restart}
 use Rattle.nq_base.specs.Calls.{told}
-use Rattle.nq_model.specs.Hear.{vacates_lease, vacates_noticed, loses, reports, without_lease, push_refused, breaks_chain, if_broken, holds, takes_grant, takes_optional, answers_call, caches_block, then_caches, purges, knows_revision, read_done, lease_done, marks_through, caches_write, write_done, ends_push, caches_push, push_done, spends, attached, pauses, counts_for_call, cancels, notes_notice, evicted, replied, reply_counts, answer_of, goes_on, hear, inc_of, all_dirty}
+use Rattle.nq_model.specs.Hear.{vacates_lease, vacates_noticed, loses, reports, with_through, without_lease, push_refused, breaks_chain, if_broken, holds, takes_grant, takes_optional, answers_call, caches_block, then_caches, purges, knows_revision, read_done, lease_done, marks_through, caches_write, write_done, ends_push, caches_push, push_done, spends, attached, pauses, counts_for_call, cancels, notes_notice, evicted, replied, reply_counts, answer_of, goes_on, hear, inc_of, all_dirty}
 use Rattle.nq_model.specs.Message.{Message, reply}
 use Rattle.nq_model.specs.Send.{sends_request, after_seq, after_number, takes_push, sends_write, gives_up, send_next}
-use Rattle.nq_model.specs.Settle.{said, answers, reads_cached, after_read, delays, marks_written, names_losses, settle}
+use Rattle.nq_model.specs.Settle.{said, answers, reads_cached, after_read, after_write, delays, marks_written, names_losses, settle}
 use Rattle.walk_client.proofs.ClientFacts.{fits_job}
 use Rattle.walk_client.proofs.PartCases.{answers-call-cases, vacates-noticed-cases, reports-cases, if-broken-cases, takes-optional-cases, lease-done-cases, then-caches-cases, caches-write-cases, caches-push-cases, vacates-if-clean-cases}
 use Rattle.walk_client.proofs.RepliedCases.{IsNamed, RepliedCases, replied-cases}
 use Rattle.walk_client.proofs.SendCases.{send-moves, pushed}
-use Rattle.walk_client.proofs.SettleCases.{settle-cases}
+use Rattle.walk_client.proofs.SettleCases.{IsRead, IsWrite, settle-cases}
 use Rattle.walk_client.proofs.StepCases.{call-cases, unless-cached-cases, tick-cases, evicted-cases, heard-cases}
 use Rattle.walk_entries.proofs.Losses.{fold-losses}
 
@@ -36,6 +37,7 @@ needs_reply Said.Stale = true
 needs_reply Said.NoEntry = true
 needs_reply Said.Exists = true
 needs_reply Said.NoSpace = true
+needs_reply Said.Range = true
 needs_reply other = false
 
 -- the reply to a call's request, and what it answers the call with: it tells a file's id or length, or refuses
@@ -43,56 +45,99 @@ pub data IsTelling (request : Request) (r : Reply) : Answer → Type 0 where
   names : (answer : Answer) → IsNamed request r answer → IsTelling request r answer
   refuses : (inc : ℕ) (status : Refusal) → r ≡ Reply.Refused inc status → counts_for_call status request ≡ true → IsTelling request r (answer_of status)
 
--- what a list of entries keeps behind each entry that a client makes
-pub record OfClient (P : List Entry → Type 0) : Type 0 where
-  pub nothing : P []
+-- a call reads or writes a block
+abbrev pub IsOfBlock : Call → Type 0
+IsOfBlock (Call.Read file block) = ⊤
+IsOfBlock (Call.Fetch file block) = ⊤
+IsOfBlock (Call.Write file block body) = ⊤
+IsOfBlock (Call.WriteSync file block body) = ⊤
+IsOfBlock other = ⊥
+
+read-of-block : (op : Call) (file block : ℕ) → IsRead op file block → IsOfBlock op
+read-of-block op file block (inl is) = subst IsOfBlock (sym is) tt
+read-of-block op file block (inr is) = subst IsOfBlock (sym is) tt
+
+write-of-block : (u : UnderWay) (sync : Bool) (file block : ℕ) (body : List ℕ) → IsWrite u sync file block body → IsOfBlock u.call
+write-of-block u false file block body is = subst IsOfBlock (sym is) tt
+write-of-block u true file block body is = subst IsOfBlock (sym is.0) tt
+
+-- the call under way of an incarnation, if there is one, has a number and an operation of which this is so
+abbrev pub Going : (Who → ℕ → Call → Type 0) → Who → Option UnderWay → Type 0
+Going Goes who None = ⊤
+Going Goes who (Some u) = Goes who u.q u.call
+
+-- of no call more is asked
+abbrev pub AnyCall : Who → ℕ → Call → Type 0
+AnyCall who q op = ⊤
+
+pub any-going : (who : Who) (under : Option UnderWay) → Going AnyCall who under
+any-going who None = tt
+any-going who (Some u) = tt
+
+through-going : (Goes : Who → ℕ → Call → Type 0) (who : Who) (on : Bool) (under : Option UnderWay) → Going Goes who under
+    → Going Goes who (with_through on under)
+through-going Goes who on None h = tt
+through-going Goes who on (Some u) h = h
+
+-- what a list of entries keeps behind each entry that a client makes in a step, where the calls under way are so
+pub record OfClient (Goes : Who → ℕ → Call → Type 0) (P : List Entry → Type 0) : Type 0 where
   pub answered : (who : Who) (q : ℕ) (answer : Said) (before : List Entry) → needs_reply answer ≡ false → P before → P (Entry.A who q answer ∷ before)
+  -- a read or a write past the end of its file
+  pub outside : (who : Who) (q : ℕ) (op : Call) (before : List Entry) → IsOfBlock op → Goes who q op → P before → P (Entry.A who q Said.Range ∷ before)
   -- a cached read, and the answer that brings its value
   pub read : (who : Who) (q file block value : ℕ) (before : List Entry) → P before
       → P (Entry.A who q (Said.OkValue value) ∷ Entry.R who q file block value None ∷ before)
   pub delayed : (who : Who) (file block number value : ℕ) (before : List Entry) → P before → P (Entry.W who file block number value false ∷ before)
   pub lost : (who : Who) (file block first last : ℕ) (before : List Entry) → P before → P (Entry.L who file block first last ∷ before)
-  -- a restart
-  pub started : (who : Who) → P (Entry.B who ∷ [])
 
-module _ (P : List Entry → Type 0) (o : OfClient P) where
+module _ (Goes : Who → ℕ → Call → Type 0) (P : List Entry → Type 0) (o : OfClient Goes P) where
   abbrev Keeps : ClientStep → Type 0
-  Keeps t = P t.entries
+  Keeps t = P t.entries × Going Goes t.client.who t.client.call
 
   -- ---- settling
 
   answered : (t : ClientStep) (q : ℕ) (a : Answer) (by : Option ℕ) → needs_reply (said a by) ≡ false → Keeps t → Keeps (answers t q a by)
   unfolding answers
-  answered t q a by plain h = o.answered t.client.who q (said a by) t.entries plain h
+  answered t q a by plain h = (o.answered t.client.who q (said a by) t.entries plain h.0, tt)
+
+  past-end : (t : ClientStep) (u : UnderWay) → t.client.call ≡ Some u → IsOfBlock u.call → Keeps t → Keeps (answers t u.q Answer.Range None)
+  unfolding answers
+  past-end t u is of_block h = (o.outside t.client.who u.q u.call t.entries of_block (subst (Going Goes t.client.who) is h.1) h.0, tt)
 
   named : (t : ClientStep) (q file : ℕ) → Keeps t → Keeps (names_losses t q file)
   unfolding answers
-  named t q file h = o.answered t.client.who q (said (Answer.Lost (loss_list (losses_of file t.client.losses))) None) t.entries refl h
+  named t q file h = (o.answered t.client.who q (said (Answer.Lost (loss_list (losses_of file t.client.losses))) None) t.entries refl h.0, tt)
 
   cached : (t : ClientStep) (u : UnderWay) (file block : ℕ) (body : List ℕ) → Keeps t → Keeps (reads_cached t u file block body)
   unfolding reads_cached answers after_read
-  cached t u file block body h = o.read t.client.who u.q file block (value_of body) t.entries h
+  cached t u file block body h = (o.read t.client.who u.q file block (value_of body) t.entries h.0, tt)
 
   delayed : (t : ClientStep) (file block : ℕ) (body : List ℕ) → Keeps t → Keeps (delays t file block body)
-  delayed t file block body h = o.delayed t.client.who file block t.client.number (value_of body) t.entries h
+  unfolding after_write
+  delayed t file block body h = (o.delayed t.client.who file block t.client.number (value_of body) t.entries h.0, h.1)
 
-  marked : (t : ClientStep) (u : UnderWay) → Keeps t → Keeps (marks_written t u)
+  delayed-call : (t : ClientStep) (file block : ℕ) (body : List ℕ) → (delays t file block body).client.call ≡ t.client.call
+  unfolding after_write
+  delayed-call t file block body = refl
+
+  marked : (t : ClientStep) (u : UnderWay) → t.client.call ≡ Some u → Keeps t → Keeps (marks_written t u)
   unfolding marks_written
-  marked t u h = h
+  marked t u is h = (h.0, subst (Going Goes t.client.who) is h.1)
 
   settled : (t : ClientStep) → Keeps t → Keeps (settle t)
   settled t h = settle-cases t Keeps (record {
     idle = λ none. h;
     asking = λ u is own. h;
-    read_out = λ u file block lease is read can out. answered t u.q Answer.Range None refl h;
+    read_out = λ u file block lease is read can out. past-end t u is.called (read-of-block u.call file block read) h;
     reading = λ u file block lease body is read can within has. cached t u file block body h;
     read_waits = λ u file block is read waits. h;
-    write_out = λ u sync file block body lease is write can out. answered t u.q Answer.Range None refl h;
+    write_out = λ u sync file block body lease is write can out. past-end t u is.called (write-of-block u sync file block body write) h;
     write_full = λ u sync file block body lease is write can within full. answered t u.q Answer.DirtyFull None refl h;
     writing =
         λ u file block body lease is write can within room. answered (delays t file block body) u.q (Answer.Ok Value.Nothing) None refl
         (delayed t file block body h);
-    putting = λ u file block body lease is write unwritten can within room. marked (delays t file block body) u (delayed t file block body h);
+    putting = λ u file block body lease is write unwritten can within room. marked (delays t file block body) u
+        (delayed-call t file block body ∙ is.called) (delayed t file block body h);
     write_waits = λ u sync file block body is write waits. h;
     syncing = λ u file is sync clean. answered t u.q (Answer.Ok Value.Nothing) None refl h;
     sync_waits = λ u file is sync dirty. h;
@@ -160,11 +205,11 @@ module _ (P : List Entry → Type 0) (o : OfClient P) where
 
   marked-through : (on : Bool) (t : ClientStep) → Keeps t → Keeps (marks_through on t)
   unfolding marks_through
-  marked-through on t h = h
+  marked-through on t h = (h.0, through-going Goes t.client.who on t.client.call h.1)
 
   paused : (t : ClientStep) → Keeps t → Keeps (pauses t)
   unfolding pauses marks_through
-  paused t h = h
+  paused t h = (h.0, through-going Goes t.client.who false t.client.call h.1)
 
   is-attached : (t : ClientStep) → Keeps t → Keeps (attached t)
   unfolding attached
@@ -176,7 +221,10 @@ module _ (P : List Entry → Type 0) (o : OfClient P) where
 
   lost : (t : ClientStep) (file : ℕ) → Keeps t → Keeps (loses t file)
   unfolding loses
-  lost t file h = fold-losses P t.client.who (all_dirty t.client file) t.entries (λ p more there k. o.lost t.client.who p.file p.block p.first p.last more k) h
+  lost t file h = (
+    fold-losses P t.client.who (all_dirty t.client file) t.entries (λ p more there k. o.lost t.client.who p.file p.block p.first p.last more k) h.0,
+    h.1,
+  )
 
   without : (t : ClientStep) (file : ℕ) → Keeps t → Keeps (without_lease t file)
   unfolding without_lease
@@ -203,13 +251,13 @@ module _ (P : List Entry → Type 0) (o : OfClient P) where
   optional : (t : ClientStep) (file : ℕ) (g : Option Grant) (sent : ℕ) → Keeps t → Keeps (takes_optional t file g sent)
   optional t file g sent h = takes-optional-cases t file g sent Keeps (λ none. h) (λ given is. taken t file given sent h)
 
-  module _ (c : Client) (number : ℕ) (ticket : Ticket) (r : Reply)
+  module _ (c : Client) (number : ℕ) (ticket : Ticket) (r : Reply) (nothing : P []) (going : Going Goes c.who c.call)
       -- the answer that the reply to the call's request gives
       (told-answer : (u : UnderWay) (answer : Answer) → c.call ≡ Some u → ticket.job ≡ for_call → IsTelling ticket.request r answer
       → P (Entry.A c.who u.q (said answer None) ∷ [])) where
     spent : Keeps (spends (begun c))
     unfolding spends
-    spent = o.nothing
+    spent = (nothing, going)
 
     spent-call : (spends (begun c)).client.call ≡ c.call
     unfolding spends
@@ -218,7 +266,7 @@ module _ (P : List Entry → Type 0) (o : OfClient P) where
     by-call : (u : UnderWay) (answer : Answer) → c.call ≡ Some u → ticket.job ≡ for_call → IsTelling ticket.request r answer
         → Keeps (answers (spends (begun c)) u.q answer None)
     unfolding spends answers
-    by-call u answer is job told = told-answer u answer is job told
+    by-call u answer is job told = (told-answer u answer is job told, tt)
 
     by-reply : (answer : Answer) → ticket.job ≡ for_call → IsTelling ticket.request r answer → Keeps (answers_call (spends (begun c)) answer None)
     by-reply answer job is = answers-call-cases (spends (begun c)) answer None Keeps (λ none. spent) (λ u here. by-call u answer (sym spent-call ∙ here) job is)
@@ -272,70 +320,79 @@ module _ (P : List Entry → Type 0) (o : OfClient P) where
     reply-keeps : fits_job ticket.job ticket.request ≡ true → reply_counts r ticket ≡ true → Keeps (replied (begun c) number ticket r)
     reply-keeps fits counts = replied-cases c number ticket r Keeps fits counts cases
 
-  cancelled-none : (c : Client) (file : ℕ) → Keeps (cancels (begun c) file)
+  cancelled-none : (c : Client) (file : ℕ) → P [] → Going Goes c.who c.call → Keeps (cancels (begun c) file)
   unfolding cancels
-  cancelled-none c file = o.nothing
+  cancelled-none c file nothing going = (nothing, going)
 
   noted : (t : ClientStep) (file : ℕ) (tag : Tag) → Keeps t → Keeps (notes_notice t file tag)
   unfolding notes_notice
   noted t file tag h = h
 
-  notice-keeps : (c : Client) (file : ℕ) (tag : Tag) → Keeps (evicted (cancels (begun c) file) file tag)
-  notice-keeps c file tag = evicted-cases (cancels (begun c) file) file tag Keeps (record {
-    clean = λ clean. vacated (cancels (begun c) file) file tag (cancelled-none c file);
-    waiting = λ dirty. noted (cancels (begun c) file) file tag (cancelled-none c file);
+  notice-keeps : (c : Client) (file : ℕ) (tag : Tag) → P [] → Going Goes c.who c.call → Keeps (evicted (cancels (begun c) file) file tag)
+  notice-keeps c file tag nothing going = evicted-cases (cancels (begun c) file) file tag Keeps (record {
+    clean = λ clean. vacated (cancels (begun c) file) file tag (cancelled-none c file nothing going);
+    waiting = λ dirty. noted (cancels (begun c) file) file tag (cancelled-none c file nothing going);
   })
 
   -- ---- each step
 
-  begins : (c : Client) (op : Call) → ((q : ℕ) → P (Entry.C c.who q (told op) ∷ [])) → Keeps (begins_call c op)
+  begins : (c : Client) (op : Call) → P (Entry.C c.who (c.calls + 1) (told op) ∷ []) → Going Goes c.who c.call → Keeps (begins_call c op)
   unfolding begins_call
-  begins c op call = call (c.calls + 1)
+  begins c op call going = (call, going)
 
-  called : (t : ClientStep) (op : Call) → Keeps t → Keeps (is_called t op)
-  unfolding is_called
-  called t op h = h
+  called : (c : Client) (op : Call) → P (Entry.C c.who (c.calls + 1) (told op) ∷ []) → Goes c.who (c.calls + 1) op → Keeps (is_called (begins_call c op) op)
+  unfolding is_called begins_call
+  called c op call goes = (call, goes)
 
   busy : (t : ClientStep) → Keeps t → Keeps (says_busy t)
   unfolding says_busy
-  busy t h = o.answered t.client.who t.client.calls Said.Busy t.entries refl h
+  busy t h = (o.answered t.client.who t.client.calls Said.Busy t.entries refl h.0, h.1)
 
-  pub call-keeps : (c : Client) (op : Call) → ((q : ℕ) → P (Entry.C c.who q (told op) ∷ [])) → Keeps (client_call c op)
-  call-keeps c op call = call-cases c op Keeps (record {
-    busy = λ why. busy (begins_call c op) (begins c op call);
-    telling = λ file loss losses none on changes has. named (begins_call c op) (begins_call c op).client.calls file (begins c op call);
+  call-does : (c : Client) (op : Call) → P (Entry.C c.who (c.calls + 1) (told op) ∷ []) → Going Goes c.who c.call → Goes c.who (c.calls + 1) op → Keeps (client_call c op)
+  call-does c op call going goes = call-cases c op Keeps (record {
+    busy = λ why. busy (begins_call c op) (begins c op call going);
+    telling = λ file loss losses none on changes has. named (begins_call c op) (begins_call c op).client.calls file (begins c op call going);
     going =
         λ none on no_loss. let t : ClientStep = settle (is_called (begins_call c op) op) in
-        let k : Keeps t = settled (is_called (begins_call c op) op) (called (begins_call c op) op (begins c op call)) in
+        let k : Keeps t = settled (is_called (begins_call c op) op) (called c op call goes) in
         unless-cached-cases t Keeps (λ from_cache. k) (λ other. sent-next false t k);
   })
+
+  -- where the call under way is so, and the one that is made
+  pub call-keeps : (c : Client) (op : Call) → P (Entry.C c.who (c.calls + 1) (told op) ∷ []) → Going Goes c.who c.call → Goes c.who (c.calls + 1) op
+      → P (client_call c op).entries
+  call-keeps c op call going goes = (call-does c op call going goes).0
 
   again : (t : ClientStep) (ticket : Ticket) → Keeps t → Keeps (sends_again t ticket)
   unfolding sends_again
   again t ticket h = h
 
-  pub tick-keeps : (c : Client) (now : ℕ) → Keeps (client_tick c now)
-  tick-keeps c now = tick-cases c now Keeps (record {
-    again = λ ticket is due. again (begun (at_time c now)) ticket o.nothing;
-    quiet = λ ticket is soon. o.nothing;
-    free = λ none. sent-next true (settle (begun (at_time c now))) (settled (begun (at_time c now)) o.nothing);
-  })
+  timed : (c : Client) (now : ℕ) → P [] → Going Goes c.who c.call → Keeps (begun (at_time c now))
+  unfolding at_time
+  timed c now nothing going = (nothing, going)
+
+  pub tick-keeps : (c : Client) (now : ℕ) → P [] → Going Goes c.who c.call → P (client_tick c now).entries
+  tick-keeps c now nothing going = (tick-cases c now Keeps (record {
+    again = λ ticket is due. again (begun (at_time c now)) ticket (timed c now nothing going);
+    quiet = λ ticket is soon. timed c now nothing going;
+    free = λ none. sent-next true (settle (begun (at_time c now))) (settled (begun (at_time c now)) (timed c now nothing going));
+  })).0
 
   went-on : (t : ClientStep) → Keeps t → Keeps (goes_on t)
   went-on t h = sent-next false (settle t) (settled t h)
 
   pub hear-keeps : (c : Client) (number : ℕ) (m : Message) (t : ClientStep) → hear c number m ≡ Some t
-      → ((ticket : Ticket) → c.ticket ≡ Some ticket → fits_job ticket.job ticket.request ≡ true)
+      → ((ticket : Ticket) → c.ticket ≡ Some ticket → fits_job ticket.job ticket.request ≡ true) → P [] → Going Goes c.who c.call
       → ((xid : ℕ) (r : Reply) (ticket : Ticket) (u : UnderWay) (answer : Answer) → m ≡ reply xid r → c.ticket ≡ Some ticket → xid ≡ ticket.xid
       → inc_of r ≡ c.who.inc → c.call ≡ Some u → ticket.job ≡ for_call → IsTelling ticket.request r answer
-      → P (Entry.A c.who u.q (said answer None) ∷ [])) → Keeps t
-  hear-keeps c number m t hears fits gives = heard-cases c number m t Keeps hears (record {
+      → P (Entry.A c.who u.q (said answer None) ∷ [])) → P t.entries
+  hear-keeps c number m t hears fits nothing going gives = (heard-cases c number m t Keeps hears (record {
     answered =
         λ xid r ticket is asked same inc counts. went-on (replied (begun c) number ticket r)
-        (reply-keeps c number ticket r (λ u answer has job named. gives xid r ticket u answer is asked same inc has job named) (fits ticket asked) counts);
-    noticed = λ xid file tag is later. went-on (evicted (cancels (begun c) file) file tag) (notice-keeps c file tag);
-  })
+        (reply-keeps c number ticket r nothing going (λ u answer has job named. gives xid r ticket u answer is asked same inc has job named) (fits ticket asked) counts);
+    noticed = λ xid file tag is later. went-on (evicted (cancels (begun c) file) file tag) (notice-keeps c file tag nothing going);
+  })).0
 
-  pub restart-keeps : (c : Client) → Keeps (restart c)
+  pub restart-keeps : (c : Client) → P (Entry.B (next_incarnation c.who) ∷ []) → P (restart c).entries
   unfolding starts fresh_client
-  restart-keeps c = o.started (next_incarnation c.who)
+  restart-keeps c started = started

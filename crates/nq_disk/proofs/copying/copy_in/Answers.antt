@@ -1,5 +1,5 @@
-use Rattle.std.proofs.Common.{◌≡◌, ◌+◌, ◌-◌, length, arith, rules}
-use Rattle.std.proofs.lemmas.Slice.{drop-put_mid, overwrites}
+use Rattle.std.proofs.Common.{rules}
+use Rattle.std.proofs.lemmas.Slice.{overwrites}
 use Rattle.nq_disk.proofs.copying.copy_in.Goals as goal
 
 pub returns-clause-behind : goal.returns-clause-behind

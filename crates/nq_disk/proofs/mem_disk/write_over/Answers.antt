@@ -1,6 +1,5 @@
 use Rattle.std.proofs.Common.{◌≡◌, ◌+◌, ◌<◌, ◌≤◌, max, List, ℕ, ◌++◌, length, take, drop, arith, ap, sym, subst, ◌∙◌}
 use Rattle.std.proofs.lemmas.Bool.Decides.{nat_tests}
-use Rattle.nq_disk.specs.Bytes.{written}
 use Rattle.nq_disk.specs.BytesLaws.{torn-written}
 use Rattle.nq_disk.proofs.Overwriting.{over-written, written-back, written-none}
 use Rattle.nq_disk.proofs.mem_disk.write_over.Goals as goal
