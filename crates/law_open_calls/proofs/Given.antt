@@ -55,12 +55,14 @@ module _ (most : ℕ) (head : Head) where
         rises = λ x y r s first later less. line.rising x y r s first later less;
       }
 
-  pub ordered-on : (p : Play) (k : ℕ) (ks : List ℕ) → IsLawful most head p → IsRising p → p.fresh ≡ k ∷ ks → ((host : ℕ) (c : Client) → slice_get p.world.clients host ≡ Some c → c.attached ≡ true) → AllInLine p → AllInLine (play p (Event.Deliver k))
+  pub ordered-on : (p : Play) (k : ℕ) (ks : List ℕ) → IsLawful most head p → IsRising p → p.fresh ≡ k ∷ ks
+      → ((host : ℕ) (c : Client) → slice_get p.world.clients host ≡ Some c → c.attached ≡ true) → AllInLine p → AllInLine (play p (Event.Deliver k))
   unfolding AllInLine
   ordered-on p k ks l rises first on all host few =
       (delivered-queue most head host p k ks first (record { lawful = l; rises = rises; on = on host; below = few; line = all host few })).line
 
-  pub begins : (p : Play) → IsLawful most head p → IsRising p → p.fresh ≡ [] → ((host : ℕ) (c : Client) → slice_get p.world.clients host ≡ Some c → (c.attached ≡ true) × (c.ticket ≡ None)) → AllInLine (play_rounds 1 p)
+  pub begins : (p : Play) → IsLawful most head p → IsRising p → p.fresh ≡ []
+      → ((host : ℕ) (c : Client) → slice_get p.world.clients host ≡ Some c → (c.attached ≡ true) × (c.ticket ≡ None)) → AllInLine (play_rounds 1 p)
   unfolding AllInLine
   begins p l rises none all host few = (round-queue most head host p l rises few none (all host)).line
 
@@ -72,16 +74,23 @@ module _ (most : ℕ) (head : Head) where
   }
     where
       all : TagsAreNoLater p.world host c
-      all = subst (λ (u : World). TagsAreNoLater u host c) (sym l.is_run) (run-no-later most head p.events l.bounds l.within host c (subst (λ (u : World). slice_get u.clients host ≡ Some c) l.is_run at))
+      all = subst (λ (u : World). TagsAreNoLater u host c) (sym l.is_run)
+          (run-no-later most head p.events l.bounds l.within host c (subst (λ (u : World). slice_get u.clients host ≡ Some c) l.is_run at))
 
-      held : (f : ℕ) (row : Row) → find_row f host p.world.server.table.rows ≡ Some row → (o : Option Lease) → lease_on f c.leases ≡ o → holds_later row.tag (lease_on f c.leases) ≡ false
+      held : (f : ℕ) (row : Row) → find_row f host p.world.server.table.rows ≡ Some row → (o : Option Lease) → lease_on f c.leases ≡ o
+          → holds_later row.tag (lease_on f c.leases) ≡ false
       held f row found None e = ap (holds_later row.tag) e
       held f row found (Some lease) e = ap (holds_later row.tag) e ∙ (all.knows.leased f lease e) row found
 
-  pub served : (p : Play) → IsLawful most head p → p.world.server.phase ≡ serving → (b x next : ℕ) (r : Request) (who : Who) → asker r ≡ Some who → who.host ≡ b → (host_row p.world.server.kept b).inc ≡ who.inc → ((n : ℕ) → sequence_of r ≡ Some n → (host_row p.world.server.kept b).seq < n) → (c : Client) → slice_get p.world.clients b ≡ Some c → IsServed p.world.server.table.rows (receive p.world.server b next (datagram_of (call x r))).server.table.rows (receive p.world.server b next (datagram_of (call x r))).sends b who x r
+  pub served : (p : Play) → IsLawful most head p → p.world.server.phase ≡ serving → (b x next : ℕ) (r : Request) (who : Who) → asker r ≡ Some who
+      → who.host ≡ b → (host_row p.world.server.kept b).inc ≡ who.inc → ((n : ℕ) → sequence_of r ≡ Some n → (host_row p.world.server.kept b).seq < n)
+      → (c : Client) → slice_get p.world.clients b ≡ Some c → IsServed p.world.server.table.rows
+      (receive p.world.server b next (datagram_of (call x r))).server.table.rows (receive p.world.server b next (datagram_of (call x r))).sends b who x r
   served p l serves b x next r who asks from inc new c at =
-      let unique : HasUniqueKeys p.world.server.table.rows = subst (λ (u : World). HasUniqueKeys u.server.table.rows) (sym l.is_run) (keys-unique most head p.events l.bounds l.within) in
+      let unique : HasUniqueKeys p.world.server.table.rows =
+          subst (λ (u : World). HasUniqueKeys u.server.table.rows) (sym l.is_run) (keys-unique most head p.events l.bounds l.within) in
       let few = l.bounds.hosts in
       let low = below p l b c at in
       served-by p.world.server b x next r who unique serves asks from (ap (λ h. (host_row p.world.server.kept h).inc) from ∙ inc)
-      (λ n sq. let up = new n sq in let same : (host_row p.world.server.kept who.host).seq ≡ (host_row p.world.server.kept b).seq = ap (λ h. (host_row p.world.server.kept h).seq) from in omega arith) (omega arith)
+      (λ n sq. let up = new n sq in let same : (host_row p.world.server.kept who.host).seq ≡ (host_row p.world.server.kept b).seq =
+          ap (λ h. (host_row p.world.server.kept h).seq) from in omega arith) (omega arith)

@@ -49,7 +49,8 @@ rise-bounds low high n (k ∷ numbers) r (inl e) = let within = rise-high (k + 1
     rise-high : (low high : ℕ) (numbers : List ℕ) → Rise low high numbers → low ≤ high
     rise-high low high [] r = r
     rise-high low high (m ∷ numbers) r = let rest = rise-high (m + 1) high numbers r.1 in let first : low ≤ m = r.0 in omega arith
-rise-bounds low high n (k ∷ numbers) r (inr i) = let rest = rise-bounds (k + 1) high n numbers r.1 i in let first : low ≤ k = r.0 in let least = rest.0 in (omega arith, rest.1)
+rise-bounds low high n (k ∷ numbers) r (inr i) = let rest = rise-bounds (k + 1) high n numbers r.1 i in let first : low ≤ k = r.0 in let least = rest.0 in
+    (omega arith, rest.1)
 
 from-least : (first count n : ℕ) → In (numbers_from first count) n → first ≤ n
 from-least first zero n i = absurd i
@@ -71,7 +72,8 @@ pub data WasOrNew (p : Play) (e : Event) (more : List Packet) (q : Packet) (c : 
   was : (b : Comes p q) → b.number ≡ c.number → In (delivered e p.fresh) c.number → WasOrNew p e more q c
   new : (i : ℕ) → c.number ≡ length p.world.packets + i → slice_get more i ≡ Some q → WasOrNew p e more q c
 
-pub was-or-new : (p : Play) (e : Event) (more : List Packet) → IsRising p → (step p.world e).packets ≡ p.world.packets ++ more → (q : Packet) (c : Comes (play p e) q) → WasOrNew p e more q c
+pub was-or-new : (p : Play) (e : Event) (more : List Packet) → IsRising p → (step p.world e).packets ≡ p.world.packets ++ more
+    → (q : Packet) (c : Comes (play p e) q) → WasOrNew p e more q c
 was-or-new p e more rising is q c = by (in-append (delivered e p.fresh) (added p.world (step p.world e)) c.number c.fresh)
   where
     at : slice_get (p.world.packets ++ more) c.number ≡ Some q
@@ -85,7 +87,8 @@ was-or-new p e more rising is q c = by (in-append (delivered e p.fresh) (added p
     by (inr i) =
         let least = from-least (length p.world.packets) (length (step p.world e).packets - length p.world.packets) c.number i in
         let split : c.number ≡ length p.world.packets + (c.number - length p.world.packets) = omega arith in
-        new (c.number - length p.world.packets) split (sym (get-high p.world.packets more (c.number - length p.world.packets)) ∙ ap (slice_get (p.world.packets ++ more)) (sym split) ∙ at)
+        new (c.number - length p.world.packets) split
+        (sym (get-high p.world.packets more (c.number - length p.world.packets)) ∙ ap (slice_get (p.world.packets ++ more)) (sym split) ∙ at)
 
 -- what was under way before has a lower number than what was sent
 pub lower : (p : Play) → IsRising p → (q : Packet) (b : Comes p q) → b.number < length p.world.packets
@@ -102,5 +105,6 @@ behind-first p k rest first rising n i = by (subst (λ ns. In ns n) first old) (
     old = kept.0
 
     by : (k ≡ n) ⊎ In rest n → Rise 0 (length p.world.packets) (k ∷ rest) → k < n
-    by (inl same) r = let yes : (n == k) ≡ true = number-same n k (sym same) in let no : not (n == k) ≡ true = kept.1 in let bad : not true ≡ true = ap not (sym yes) ∙ no in absurd (cc)
+    by (inl same) r = let yes : (n == k) ≡ true = number-same n k (sym same) in let no : not (n == k) ≡ true = kept.1 in let bad : not true ≡ true =
+        ap not (sym yes) ∙ no in absurd (cc)
     by (inr j) r = let least = (rise-bounds (k + 1) (length p.world.packets) n rest r.1 j).0 in omega arith

@@ -111,7 +111,9 @@ hear-first c k m t alone hears h = heard-cases c k m t (λ (u : ClientStep). Cal
   noticed = λ xid file tag is older. record {
     none = λ u called s sent job.
         let gone = evicted (cancels (begun c) file) file tag in
-        let same = evicted-cases (cancels (begun c) file) file tag (λ (x : ClientStep). (x.client.ticket ≡ cancelled file c.ticket) × (x.client.call ≡ c.call)) (record { clean = λ e. (refl, refl); waiting = λ e. (refl, refl) }) in
+        let same = evicted-cases (cancels (begun c) file) file tag
+        (λ (x : ClientStep). (x.client.ticket ≡ cancelled file c.ticket) × (x.client.call ≡ c.call))
+        (record { clean = λ e. (refl, refl); waiting = λ e. (refl, refl) }) in
         let old : gone.client.ticket ≡ Some s = sym (settled-ticket gone) ∙ next-none (settle gone) s sent job in
         let was : c.ticket ≡ Some s = (keeps-or-cancels file c.ticket s (sym same.0 ∙ old)).0 in
         let opened = settled-opens gone u (sym (next-opens false (settle gone)) ∙ called) in
@@ -158,7 +160,8 @@ free-first t alone free = record { none = λ u called s sent job. by u called s 
     none : (settle t).client.ticket ≡ None
     none = settled-ticket t ∙ free
 
-    by : (u : UnderWay) → (send_next true (settle t)).client.call ≡ Some u → (s : Ticket) → (send_next true (settle t)).client.ticket ≡ Some s → s.job ≡ renewing → (late : Bool) → nat_le (settle t).client.pause (settle t).client.now ≡ late → ⊥
+    by : (u : UnderWay) → (send_next true (settle t)).client.call ≡ Some u → (s : Ticket) → (send_next true (settle t)).client.ticket ≡ Some s
+        → s.job ≡ renewing → (late : Bool) → nat_le (settle t).client.pause (settle t).client.now ≡ late → ⊥
     by u called s sent job true e =
         let open_now : (settle t).client.call ≡ Some u = sym (next-opens true (settle t)) ∙ called in
         let asking = asks-next false (settle t) u open_now (is-at-most _ _ e) (settle-settles t) settled.delaying in
@@ -179,7 +182,8 @@ free-first t alone free = record { none = λ u called s sent job. by u called s 
       putting = λ v file block body can is first same. other _ refl same;
       resizing = λ v file blocks can is clean same. other _ refl same;
       removing = λ v file can is clean same. other _ refl same;
-      renewing = λ file lease tick open_now nothing unpaused renewed held of clean quiet same. let above = is-not-at-most (settle t).client.pause (settle t).client.now e in omega arith;
+      renewing = λ file lease tick open_now nothing unpaused renewed held of clean quiet same. let above =
+          is-not-at-most (settle t).client.pause (settle t).client.now e in omega arith;
     }))
       where
         paused : ((send_next true (settle t)).client.ticket ≡ Some s → ⊥) → ⊥
@@ -192,7 +196,8 @@ free-first t alone free = record { none = λ u called s sent job. by u called s 
 pub tick-first : (c : Client) → Alone c → CallsFirst c → CallsFirst (client_tick c (c.now + 1)).client
 unfolding at_time sends_again
 tick-first c alone h = tick-cases c (c.now + 1) (λ (u : ClientStep). CallsFirst u.client) (record {
-  again = λ ticket has long. record { none = λ u called s sent job. h.none u called ticket has (ap (λ (x : Ticket). x.job) (some-same (record ticket { last = c.now + 1 }) s sent) ∙ job) };
+  again = λ ticket has long. record
+      { none = λ u called s sent job. h.none u called ticket has (ap (λ (x : Ticket). x.job) (some-same (record ticket { last = c.now + 1 }) s sent) ∙ job) };
   quiet = λ ticket has short. record { none = h.none };
   free = λ none. free-first (begun (at_time c (c.now + 1))) timed none;
 })

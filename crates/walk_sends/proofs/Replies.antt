@@ -1,6 +1,6 @@
 -- Each reply that the server sends answers the datagram that came: it goes to the sender, under the number of the request, and the grant in it is of the
 -- sender's row of the file that the request names.
-use Rattle.std.proofs.Common.{◌≡◌, ◌⊎◌, ℕ, ◌+◌, ◌%◌, List, [], ◌∷◌, ◌++◌, Option, Some, None, refl, sym, subst, ap, ◌∙◌, inl, inr}
+use Rattle.std.proofs.Common.{◌≡◌, ◌⊎◌, ℕ, List, [], ◌∷◌, ◌++◌, Some, None, refl, sym, subst, ap, ◌∙◌, inl, inr}
 use Rattle.nq_base.specs.declared.Grant.{Grant}
 use Rattle.nq_base.specs.declared.Question.{Question}
 use Rattle.nq_base.specs.declared.Refusal.{Refusal}
@@ -10,22 +10,22 @@ use Rattle.nq_base.specs.declared.Row.{Row}
 use Rattle.nq_base.specs.declared.Verdict.{Verdict}
 use Rattle.nq_base.specs.declared.Want.{Want}
 use Rattle.nq_base.specs.declared.Who.{Who}
-use Rattle.nq_model.specs.Ask.{grant_of, sharing_row, caching_row, shared_again, renewed_row}
+use Rattle.nq_model.specs.Ask.{grant_of}
 use Rattle.nq_model.specs.Decide.{verdict_reply, decides, creates, writes_through, stores, stores_recovering, wrote, resizes, removes, puts_off, commits}
 use Rattle.nq_model.specs.Hear.{inc_of}
 use Rattle.nq_model.specs.LeaseInterval.{grant_in, requested_file}
 use Rattle.nq_model.specs.Message.{Message, Packet, reply, Datagram, request, asker, sequence_of}
-use Rattle.nq_model.specs.Server.{Server, ServerStep, to_host, notices, after_notices, keeping, keeping_with, with_table, quiet, drops, says}
+use Rattle.nq_model.specs.Server.{Server, to_host, notices, after_notices, keeping, keeping_with, with_table, quiet, drops, says}
 use Rattle.nq_model.specs.ServerStep.{to_read, attaches, vacates, tells_later, serves, leases, receive}
-use Rattle.nq_model.specs.Table.{Table, find_row, put_row, with_rows, after_draw}
+use Rattle.nq_model.specs.Table.{find_row, put_row, with_rows, after_draw}
 use Rattle.walk_client.proofs.ClientMoves.{some-same, none-some}
 use Rattle.walk_run.proofs.Packets.{In, in-last, told-same, reply-same}
 use Rattle.walk_run.proofs.ServerSays.{notices-no-reply, verdict-inc, verdict-grant, plain-inc, plain-grant}
-use Rattle.walk_server.proofs.AskCases.{IsGranted, shares_again, begins_sharing, begins_caching, renews_row}
+use Rattle.walk_server.proofs.AskCases.{IsGranted}
 use Rattle.walk_server.proofs.RowChanges.{find-put-same}
-use Rattle.walk_server.proofs.Rows.{found-row}
 use Rattle.walk_server.proofs.ServerCases.{server-hears}
 use Rattle.walk_server.proofs.ServerOutcomes.{error-no-reply}
+use Rattle.walk_sends.proofs.RowsAfter.{granted-key}
 
 -- a grant is of a row that stands
 pub record GrantIs (rows : List Row) (host : ℕ) (asks : Request) (g : Grant) : Type 0 where
@@ -62,7 +62,8 @@ module _ (s : Server) (sender next : ℕ) (d : Datagram) where
   erring rows m never host x a (inr bad) = absurd bad
 
   -- this one reply
-  one : (rows : List Row) (h y : ℕ) (b : Reply) (r : Request) → d ≡ request y r → h ≡ sender → ((who : Who) → asker r ≡ Some who → inc_of b ≡ who.inc) → ((g : Grant) → grant_in b ≡ Some g → GrantIs rows h r g) → RepliesAre rows (to_host h (reply y b) ∷ [])
+  one : (rows : List Row) (h y : ℕ) (b : Reply) (r : Request) → d ≡ request y r → h ≡ sender → ((who : Who) → asker r ≡ Some who → inc_of b ≡ who.inc)
+      → ((g : Grant) → grant_in b ≡ Some g → GrantIs rows h r g) → RepliesAre rows (to_host h (reply y b) ∷ [])
   one rows h y b r is from inc brings host x a (inr bad) = absurd bad
   one rows h y b r is from inc brings host x a (inl same) =
       let two = told-same h host (reply y b) (reply x a) same in
@@ -72,22 +73,19 @@ module _ (s : Server) (sender next : ℕ) (d : Datagram) where
       (subst (λ z. ReplyIs sender d rows h y z) three.1 (record { asks = r; is = is; to = from; inc = inc; brings = brings })))
 
   -- it brings no grant
-  bare : (rows : List Row) (w : Who) (y : ℕ) (b : Reply) (r : Request) → d ≡ request y r → asker r ≡ Some w → w.host ≡ sender → inc_of b ≡ w.inc → grant_in b ≡ None → RepliesAre rows (to_host w.host (reply y b) ∷ [])
+  bare : (rows : List Row) (w : Who) (y : ℕ) (b : Reply) (r : Request) → d ≡ request y r → asker r ≡ Some w → w.host ≡ sender → inc_of b ≡ w.inc
+      → grant_in b ≡ None → RepliesAre rows (to_host w.host (reply y b) ∷ [])
   bare rows w y b r is by from inc plain =
       one rows w.host y b r is from (λ who asks. inc ∙ ap (λ (v : Who). v.inc) (some-same w who (sym by ∙ asks))) (λ g gives. none-some g (sym plain ∙ gives))
 
-  decided : (rows : List Row) (w : Who) (y seq value : ℕ) (v : Verdict) (r : Request) → d ≡ request y r → asker r ≡ Some w → sequence_of r ≡ Some seq → w.host ≡ sender → RepliesAre rows (to_host w.host (reply y (verdict_reply w.inc v value r)) ∷ [])
-  decided rows w y seq value v r is by sq from = bare rows w y (verdict_reply w.inc v value r) r is by from (verdict-inc w.inc v value r seq sq) (verdict-grant w.inc v value r)
+  decided : (rows : List Row) (w : Who) (y seq value : ℕ) (v : Verdict) (r : Request) → d ≡ request y r → asker r ≡ Some w → sequence_of r ≡ Some seq
+      → w.host ≡ sender → RepliesAre rows (to_host w.host (reply y (verdict_reply w.inc v value r)) ∷ [])
+  decided rows w y seq value v r is by sq from =
+      bare rows w y (verdict_reply w.inc v value r) r is by from (verdict-inc w.inc v value r seq sq) (verdict-grant w.inc v value r)
 
-  -- a granted row is the asker's
-  granted-key : (table : Table) (q : Question) (want : Want) (row : Row) (term : ℕ) → IsGranted table q want row term → (row.file ≡ q.file) × (row.who.host ≡ q.who.host)
-  unfolding shared_again sharing_row caching_row renewed_row
-  granted-key table q want row term (shares_again own has quiet alone is t) = let k = found-row q.file q.who.host table.rows own has in (ap (λ (r : Row). r.file) is ∙ k.0, ap (λ (r : Row). r.who.host) is ∙ k.1)
-  granted-key table q want row term (begins_sharing none room some is t) = (ap (λ (r : Row). r.file) is, ap (λ (r : Row). r.who.host) is)
-  granted-key table q want row term (begins_caching none room some is t) = (ap (λ (r : Row). r.file) is, ap (λ (r : Row). r.who.host) is)
-  granted-key table q want row term (renews_row own has quiet kind is t) = let k = found-row q.file q.who.host table.rows own has in (ap (λ (r : Row). r.file) is ∙ k.0, ap (λ (r : Row). r.who.host) is ∙ k.1)
-
-  grants : (q : Question) (want : Want) (row : Row) (term : ℕ) (r : Request) (b : Reply) → requested_file r ≡ Some q.file → IsGranted s.table q want row term → grant_in b ≡ Some (grant_of q row term) → (g : Grant) → grant_in b ≡ Some g → GrantIs (put_row row s.table.rows) q.who.host r g
+  grants : (q : Question) (want : Want) (row : Row) (term : ℕ) (r : Request) (b : Reply) → requested_file r ≡ Some q.file
+      → IsGranted s.table q want row term → grant_in b ≡ Some (grant_of q row term) → (g : Grant) → grant_in b ≡ Some g
+      → GrantIs (put_row row s.table.rows) q.who.host r g
   unfolding grant_of
   grants q want row term r b on granted brings g gives =
       let same : grant_of q row term ≡ g = some-same (grant_of q row term) g (sym brings ∙ gives) in
@@ -96,14 +94,16 @@ module _ (s : Server) (sender next : ℕ) (d : Datagram) where
         file = q.file;
         row = row;
         on = on;
-        stands = subst (λ f. find_row f q.who.host (put_row row s.table.rows) ≡ Some row) k.0 (subst (λ h. find_row row.file h (put_row row s.table.rows) ≡ Some row) k.1 (find-put-same row s.table.rows));
+        stands = subst (λ f. find_row f q.who.host (put_row row s.table.rows) ≡ Some row) k.0
+            (subst (λ h. find_row row.file h (put_row row s.table.rows) ≡ Some row) k.1 (find-put-same row s.table.rows));
         tag = ap (λ (x : Grant). x.tag) same;
         mode = ap (λ (x : Grant). x.mode) same;
       }
 
   -- each reply of a step
   pub replies-are : RepliesAre (receive s sender next d).server.table.rows (receive s sender next d).sends
-  unfolding quiet drops says attaches vacates serves leases tells_later decides creates writes_through stores stores_recovering wrote resizes removes puts_off commits after_notices keeping keeping_with with_table with_rows after_draw
+  unfolding quiet drops says attaches vacates serves leases tells_later decides creates writes_through stores stores_recovering wrote resizes removes
+      puts_off commits after_notices keeping keeping_with with_table with_rows after_draw
   replies-are = server-hears s sender next d (λ t. RepliesAre t.server.table.rows t.sends) (record {
     stays = none s.table.rows;
     dropping = λ reason. none s.table.rows;
@@ -112,26 +112,36 @@ module _ (s : Server) (sender next : ℕ) (d : Datagram) where
     replying = λ x w z a e by from is. bare s.table.rows w x a z e by from.host (plain-inc s w z a is) (plain-grant s w z a is);
     attaching = λ x w e from later_one. bare _ w x (Reply.Attach w.inc) (Request.Attach w) e refl from.host refl refl;
     vacating = λ x w file tag e current. none _;
-    putting_off = λ x w z f clash e by file asking c. behind _ s.notice _ _ (bare _ w x (Reply.Refused w.inc Refusal.TryLater) z e by asking.current.from.host refl refl);
-    putting_off_waiting = λ x w z f clash want e by file wants asking c own room. behind _ s.notice _ _ (bare _ w x (Reply.Refused w.inc Refusal.TryLater) z e by asking.current.from.host refl refl);
-    putting_off_by_own = λ x w z f want own e by file wants asking c o evicting. behind _ s.notice (own ∷ []) _ (bare _ w x (Reply.Refused w.inc Refusal.TryLater) z e by asking.current.from.host refl refl);
+    putting_off = λ x w z f clash e by file asking c. behind _ s.notice _ _
+        (bare _ w x (Reply.Refused w.inc Refusal.TryLater) z e by asking.current.from.host refl refl);
+    putting_off_waiting = λ x w z f clash want e by file wants asking c own room. behind _ s.notice _ _
+        (bare _ w x (Reply.Refused w.inc Refusal.TryLater) z e by asking.current.from.host refl refl);
+    putting_off_by_own = λ x w z f want own e by file wants asking c o evicting. behind _ s.notice (own ∷ []) _
+        (bare _ w x (Reply.Refused w.inc Refusal.TryLater) z e by asking.current.from.host refl refl);
     reading = λ x w q block f body e asking there c. bare _ w x (Reply.Read w.inc f.rev body None) _ e refl asking.current.from.host refl refl;
-    reading_full = λ x w q block want f body e asking there c own room. bare _ w x (Reply.Read w.inc f.rev body None) _ e refl asking.current.from.host refl refl;
+    reading_full = λ x w q block want f body e asking there c own room. bare _ w x
+        (Reply.Read w.inc f.rev body None) _ e refl asking.current.from.host refl refl;
     reading_granted = λ x w q block want f body row term e asking there c g.
-        one _ w.host x (Reply.Read w.inc f.rev body (Some (grant_of (to_read s w f (Some want)) row term))) (Request.Read w q f.id block (Some want)) e asking.current.from.host
+        one _ w.host x (Reply.Read w.inc f.rev body (Some (grant_of (to_read s w f (Some want)) row term)))
+        (Request.Read w q f.id block (Some want)) e asking.current.from.host
         (λ who asks. ap (λ (v : Who). v.inc) (some-same w who asks))
-        (grants (to_read s w f (Some want)) want row term (Request.Read w q f.id block (Some want)) (Reply.Read w.inc f.rev body (Some (grant_of (to_read s w f (Some want)) row term))) refl g refl);
-    leasing_full = λ x w want f e asking c own room. bare _ w x (Reply.GetLease w.inc None) (Request.GetLease w f.id want) e refl asking.current.from.host refl refl;
+        (grants (to_read s w f (Some want)) want row term (Request.Read w q f.id block (Some want))
+        (Reply.Read w.inc f.rev body (Some (grant_of (to_read s w f (Some want)) row term))) refl g refl);
+    leasing_full = λ x w want f e asking c own room. bare _ w x (Reply.GetLease w.inc None)
+        (Request.GetLease w f.id want) e refl asking.current.from.host refl refl;
     leasing = λ x w want f row term e asking c g.
         one _ w.host x (Reply.GetLease w.inc (Some (grant_of (to_read s w f (Some want)) row term))) (Request.GetLease w f.id want) e asking.current.from.host
         (λ who asks. ap (λ (v : Who). v.inc) (some-same w who asks))
-        (grants (to_read s w f (Some want)) want row term (Request.GetLease w f.id want) (Reply.GetLease w.inc (Some (grant_of (to_read s w f (Some want)) row term))) refl g refl);
+        (grants (to_read s w f (Some want)) want row term (Request.GetLease w f.id want)
+        (Reply.GetLease w.inc (Some (grant_of (to_read s w f (Some want)) row term))) refl g refl);
     declining = λ x w seq z verdict e by sq fresh is. decided _ w x seq 0 verdict z e by sq fresh.current.from.host;
-    putting_off_change = λ x w seq z f clash e by sq file base changing c. behind _ s.notice _ _ (bare _ w x (Reply.Refused w.inc Refusal.TryLater) z e by changing.fresh.current.from.host refl refl);
+    putting_off_change = λ x w seq z f clash e by sq file base changing c. behind _ s.notice _ _
+        (bare _ w x (Reply.Refused w.inc Refusal.TryLater) z e by changing.fresh.current.from.host refl refl);
     creating = λ x w seq blocks name e fresh serves can. bare _ w x _ (Request.Create w seq name blocks) e refl fresh.current.from.host refl refl;
     writing_through = λ x w seq block first last body f e changing below c. bare _ w x _ _ e refl changing.fresh.current.from.host refl refl;
     storing = λ x w seq block first last base body f row e changing below can. bare _ w x _ _ e refl changing.fresh.current.from.host refl refl;
-    storing_recovering = λ x w seq block first final base body f until heard last e fresh recovers found below boot rev. bare _ w x _ _ e refl fresh.current.from.host refl refl;
+    storing_recovering = λ x w seq block first final base body f until heard last e fresh recovers found below boot rev.
+        bare _ w x _ _ e refl fresh.current.from.host refl refl;
     resizing = λ x w seq q blocks f e changing can c. bare _ w x _ _ e refl changing.fresh.current.from.host refl refl;
     removing = λ x w seq q f e changing c. bare _ w x _ _ e refl changing.fresh.current.from.host refl refl;
   })

@@ -38,7 +38,8 @@ pub record WasThere (s : Server) (file host : ℕ) (row : Row) : Type 0 where
   pub there : find_row file host s.table.rows ≡ Some was
   pub same : GoesOn was row
 
-granted-new : (table : Table) (q : Question) (want : Want) (row : Row) (term : ℕ) → IsGranted table q want row term → (row.tag ≡ next_tag table) × (row.evicting ≡ false)
+granted-new : (table : Table) (q : Question) (want : Want) (row : Row) (term : ℕ) → IsGranted table q want row term
+    → (row.tag ≡ next_tag table) × (row.evicting ≡ false)
 unfolding shared_again sharing_row caching_row renewed_row
 granted-new table q want row term (shares_again own has quiet alone is t) = (ap (λ (r : Row). r.tag) is, ap (λ (r : Row). r.evicting) is ∙ quiet)
 granted-new table q want row term (begins_sharing none room some is t) = (ap (λ (r : Row). r.tag) is, ap (λ (r : Row). r.evicting) is)
@@ -49,11 +50,13 @@ marked-tag : (table : Table) (q : Question) → next_tag (with_marked table q) �
 unfolding with_rows
 marked-tag table q = refl
 
-waiting-new : (table : Table) (q : Question) (term : ℕ) → ((sharing_row (with_marked table q) q term).tag ≡ next_tag table) × ((sharing_row (with_marked table q) q term).evicting ≡ false) × (caches (sharing_row (with_marked table q) q term).mode ≡ false)
+waiting-new : (table : Table) (q : Question) (term : ℕ) → ((sharing_row (with_marked table q) q term).tag ≡ next_tag table) ×
+    ((sharing_row (with_marked table q) q term).evicting ≡ false) × (caches (sharing_row (with_marked table q) q term).mode ≡ false)
 unfolding sharing_row
 waiting-new table q term = (marked-tag table q, refl, refl)
 
-pub there-or-comes : (s : Server) (sender : ℕ) (d : Datagram) (file host : ℕ) (row : Row) → RowIs s sender d file host row → WasThere s file host row ⊎ Comes s sender d file host row
+pub there-or-comes : (s : Server) (sender : ℕ) (d : Datagram) (file host : ℕ) (row : Row) → RowIs s sender d file host row
+    → WasThere s file host row ⊎ Comes s sender d file host row
 there-or-comes s sender d file host row (goes_on was there same) = inl (record { was = was; there = there; same = same })
 there-or-comes s sender d file host row (waits w clash c own is) =
     let q : Question = to_read s w.who w.of (Some w.want) in
@@ -87,19 +90,23 @@ pub data CachesBy (s : Server) (sender : ℕ) (d : Datagram) (file host : ℕ) (
       → row.evicting ≡ false
       → CachesBy s sender d file host row
 
-pub caches-by : (s : Server) (sender : ℕ) (d : Datagram) (file host : ℕ) (row : Row) → RowIs s sender d file host row → caches row.mode ≡ true → CachesBy s sender d file host row
+pub caches-by : (s : Server) (sender : ℕ) (d : Datagram) (file host : ℕ) (row : Row) → RowIs s sender d file host row → caches row.mode ≡ true
+    → CachesBy s sender d file host row
 unfolding shared_again sharing_row caching_row renewed_row
 caches-by s sender d file host row (goes_on was there same) kind = cached_before was there same
 caches-by s sender d file host row (waits w clash c own is) kind =
     let k = waiting-new s.table (to_read s w.who w.of (Some w.want)) (term_of (to_read s w.who w.of (Some w.want)) w.want) in
     let other : caches row.mode ≡ false = ap (λ (r : Row). caches r.mode) is ∙ k.2 in
     absurd (cc)
-caches-by s sender d file host row (granted w term c (shares_again own has quiet alone is t)) kind = let other : caches row.mode ≡ false = ap (λ (r : Row). caches r.mode) is ∙ alone in absurd (cc)
-caches-by s sender d file host row (granted w term c (begins_sharing none room some is t)) kind = let other : caches row.mode ≡ false = ap (λ (r : Row). caches r.mode) is in absurd (cc)
+caches-by s sender d file host row (granted w term c (shares_again own has quiet alone is t)) kind = let other : caches row.mode ≡ false =
+    ap (λ (r : Row). caches r.mode) is ∙ alone in absurd (cc)
+caches-by s sender d file host row (granted w term c (begins_sharing none room some is t)) kind = let other : caches row.mode ≡ false =
+    ap (λ (r : Row). caches r.mode) is in absurd (cc)
 caches-by s sender d file host row (granted w term c (begins_caching none room unshared is t)) kind =
     begins_now w c none unshared (ap (λ (r : Row). r.who) is) (ap (λ (r : Row). r.mode) is) (ap (λ (r : Row). r.evicting) is)
 caches-by s sender d file host row (granted w term c (renews_row own has quiet caching is t)) kind =
-    let there : find_row file host s.table.rows ≡ Some own = subst (λ f. find_row f host s.table.rows ≡ Some own) (sym w.at) (subst (λ h. find_row w.of.id h s.table.rows ≡ Some own) (sym w.from) has) in
+    let there : find_row file host s.table.rows ≡ Some own =
+    subst (λ f. find_row f host s.table.rows ≡ Some own) (sym w.at) (subst (λ h. find_row w.of.id h s.table.rows ≡ Some own) (sym w.from) has) in
     renewed_now w own c there quiet caching (ap (λ (r : Row). r.who) is) (ap (λ (r : Row). r.mode) is) (ap (λ (r : Row). r.evicting) is ∙ quiet)
 
 -- ---- a VACATED
@@ -111,7 +118,8 @@ same-not-below : (a b : ℕ) → a ≡ b → nat_lt a b ≡ false
 same-not-below a b e = grind (arith, nat_tests)
 
 -- of the kept incarnation it is taken
-pub vacated-is : (s : Server) (sender next xid file : ℕ) (who : Who) (tag : Tag) → who.host ≡ sender → who.host < most_hosts → who.inc ≡ (line_of s who).inc → receive s sender next (request xid (Request.Vacated who file tag)) ≡ vacates s who file tag
+pub vacated-is : (s : Server) (sender next xid file : ℕ) (who : Who) (tag : Tag) → who.host ≡ sender → who.host < most_hosts → who.inc ≡ (line_of s who).inc
+    → receive s sender next (request xid (Request.Vacated who file tag)) ≡ vacates s who file tag
 vacated-is s sender next xid file who tag from possible inc =
     let a : (who.host == sender) ≡ true = number-same who.host sender from in
     let b : nat_lt who.host most_hosts ≡ true = below-is who.host most_hosts possible in
@@ -120,11 +128,15 @@ vacated-is s sender next xid file who tag from possible inc =
     rw (a, b, e, f) refl
 
 -- and takes the row with its tag
-pub vacated-takes : (s : Server) (sender next xid file : ℕ) (who : Who) (tag : Tag) (row : Row) → who.host ≡ sender → who.host < most_hosts → who.inc ≡ (line_of s who).inc → find_row file who.host s.table.rows ≡ Some row → row.who.inc ≡ who.inc → row.tag ≡ tag → find_row file who.host (receive s sender next (request xid (Request.Vacated who file tag))).server.table.rows ≡ None
+pub vacated-takes : (s : Server) (sender next xid file : ℕ) (who : Who) (tag : Tag) (row : Row) → who.host ≡ sender → who.host < most_hosts
+    → who.inc ≡ (line_of s who).inc → find_row file who.host s.table.rows ≡ Some row → row.who.inc ≡ who.inc → row.tag ≡ tag
+    → find_row file who.host (receive s sender next (request xid (Request.Vacated who file tag))).server.table.rows ≡ None
 unfolding vacates quiet with_table with_rows
 vacated-takes s sender next xid file who tag row from possible inc there holder latest =
-    let is : (receive s sender next (request xid (Request.Vacated who file tag))).server.table.rows ≡ vacated_rows who file tag s.table.rows (find_row file who.host s.table.rows) = ap (λ t. t.server.table.rows) (vacated-is s sender next xid file who tag from possible inc) in
-    let some : vacated_rows who file tag s.table.rows (find_row file who.host s.table.rows) ≡ vacated_rows who file tag s.table.rows (Some row) = ap (vacated_rows who file tag s.table.rows) there in
+    let is : (receive s sender next (request xid (Request.Vacated who file tag))).server.table.rows ≡ vacated_rows who file tag s.table.rows
+    (find_row file who.host s.table.rows) = ap (λ t. t.server.table.rows) (vacated-is s sender next xid file who tag from possible inc) in
+    let some : vacated_rows who file tag s.table.rows (find_row file who.host s.table.rows) ≡ vacated_rows who file tag s.table.rows (Some row) =
+    ap (vacated_rows who file tag s.table.rows) there in
     let boot : (row.tag.boot == tag.boot) ≡ true = number-same row.tag.boot tag.boot (ap (λ (t : Tag). t.boot) latest) in
     let number : (row.tag.number == tag.number) ≡ true = number-same row.tag.number tag.number (ap (λ (t : Tag). t.number) latest) in
     let mine : (row.who.inc == who.inc) ≡ true = number-same row.who.inc who.inc holder in
@@ -133,11 +145,14 @@ vacated-takes s sender next xid file who tag row from possible inc there holder 
 
 -- ---- who stands in the way
 
-pub in-the-way : (s : Server) (file host f h : ℕ) (access : Access) (row : Row) → find_row f h s.table.rows ≡ Some row → conflicts file host access row ≡ true → In (in_the_way s file host access) row
-in-the-way s file host f h access row there clashes = filter-in (conflicts file host access) s.table.rows row clashes (find-in (is_row_of f h) s.table.rows row there)
+pub in-the-way : (s : Server) (file host f h : ℕ) (access : Access) (row : Row) → find_row f h s.table.rows ≡ Some row
+    → conflicts file host access row ≡ true → In (in_the_way s file host access) row
+in-the-way s file host f h access row there clashes =
+    filter-in (conflicts file host access) s.table.rows row clashes (find-in (is_row_of f h) s.table.rows row there)
 
 -- whoever holds one of these rows is told
-pub holder-told : (first : ℕ) (rows : List Row) (row : Row) → In rows row → (xid : ℕ) × In (notices first rows) (to_host row.who.host (call xid (Request.Evicted row.who row.file row.tag)))
+pub holder-told : (first : ℕ) (rows : List Row) (row : Row) → In rows row
+    → (xid : ℕ) × In (notices first rows) (to_host row.who.host (call xid (Request.Evicted row.who row.file row.tag)))
 holder-told first [] row i = absurd i
 holder-told first (r ∷ rows) row (inl e) = (first, inl (ap (λ (x : Row). to_host x.who.host (call first (Request.Evicted x.who x.file x.tag))) e))
 holder-told first (r ∷ rows) row (inr i) = let rest = holder-told ((first + 1) % xid_end) rows row i in (rest.0, inr rest.1)
