@@ -46,15 +46,9 @@ small-then base m n k below fits =
     let e : n + (m + 1) ≡ (n + k) + (z.0 + 1) = omega arith in
     rounds-small (z.0 + 1) (calm_rounds (n + k) base) (subst (λ (q : Play). IsSmall q) (ap (λ i. calm_rounds i base) e ∙ rounds-more (n + k) (z.0 + 1) base) fits)
 
-module _ (most : ℕ) (head : Head) (Ordered : Play → Type 0)
-    (ordered : (p : Play) → IsLawful most head p → Ordered p → (host : ℕ) (c : Client) → slice_get p.world.clients host ≡ Some c → InOrder p host c)
-    (ordered-on : (p : Play) (k : ℕ) (ks : List ℕ) → IsLawful most head p → IsRising p → p.fresh ≡ k ∷ ks → ((host : ℕ) (c : Client) → slice_get p.world.clients host ≡ Some c → c.attached ≡ true) → Ordered p → Ordered (play p (Event.Deliver k)))
-    (tags : (p : Play) → IsLawful most head p → (host : ℕ) (c : Client) → slice_get p.world.clients host ≡ Some c → c.attached ≡ true → TagsFit p.world host c)
-    (served : (p : Play) → IsLawful most head p → p.world.server.phase ≡ serving → (b x next : ℕ) (r : Request) (who : Who) → asker r ≡ Some who → who.host ≡ b → (host_row p.world.server.kept b).inc ≡ who.inc → ((n : ℕ) → sequence_of r ≡ Some n → (host_row p.world.server.kept b).seq < n) → (c : Client) → slice_get p.world.clients b ≡ Some c → IsServed p.world.server.table.rows (receive p.world.server b next (datagram_of (call x r))).server.table.rows (receive p.world.server b next (datagram_of (call x r))).sends b who x r)
-    (begins : (p : Play) → IsLawful most head p → IsRising p → p.fresh ≡ [] → ((host : ℕ) (c : Client) → slice_get p.world.clients host ≡ Some c → (c.attached ≡ true) × (c.ticket ≡ None)) → Ordered (play_rounds 1 p))
-  where
+module _ (most : ℕ) (head : Head) where
     abbrev R : Play → Type 0
-    R r = Round most head Ordered ordered ordered-on tags served begins r
+    R r = Round most head r
 
     module _ (base : Play) (l : IsLawful most head base) (rising : IsRising base) (n : ℕ) (calls : ℕ) (few_calls : open_calls base.world.clients ≤ calls) (small : IsSmall (calm_rounds ((2 + n) + (4 * calls + 1)) base)) (serving_then : (k : ℕ) → k ≤ 4 * calls → recovers (calm_rounds ((2 + n) + k) base).world.server.phase ≡ false) where
       one-more : (k : ℕ) → calm_rounds ((2 + n) + (k + 1)) base ≡ calm_round (calm_rounds ((2 + n) + k) base)
@@ -87,19 +81,19 @@ module _ (most : ℕ) (head : Head) (Ordered : Play → Type 0)
       last = rounds-more (2 + n) (4 * calls + 1) base
 
       none : open_calls (calm_rounds ((2 + n) + (4 * calls + 1)) base).world.clients ≡ 0
-      none = by (blocks most head Ordered ordered ordered-on tags served begins calls (calm_rounds (2 + n) base) from (rounds most head (2 + n) base l))
+      none = by (blocks most head calls (calm_rounds (2 + n) base) from (rounds most head (2 + n) base l))
         where
           by : (open_calls (calm_rounds (4 * calls + 1) (calm_rounds (2 + n) base)).world.clients + calls ≤ open_calls (calm_rounds 1 (calm_rounds (2 + n) base)).world.clients) ⊎ (open_calls (calm_rounds (4 * calls + 1) (calm_rounds (2 + n) base)).world.clients ≡ 0) → open_calls (calm_rounds ((2 + n) + (4 * calls + 1)) base).world.clients ≡ 0
           by (inr zero_now) = ap (λ (q : Play). open_calls q.world.clients) last ∙ zero_now
           by (inl fewer) =
-              let one = rounds-less most head Ordered ordered ordered-on tags served begins 1 (calm_rounds (2 + n) base) (rounds most head (2 + n) base l) in
-              let two = rounds-less most head Ordered ordered ordered-on tags served begins (2 + n) base l in
+              let one = rounds-less most head 1 (calm_rounds (2 + n) base) (rounds most head (2 + n) base l) in
+              let two = rounds-less most head (2 + n) base l in
               let same : open_calls (calm_rounds ((2 + n) + (4 * calls + 1)) base).world.clients ≡ open_calls (calm_rounds (4 * calls + 1) (calm_rounds (2 + n) base)).world.clients = ap (λ (q : Play). open_calls q.world.clients) last in
               omega arith
 
       answered-last : (host : ℕ) (c : Client) → slice_get (calm_rounds ((2 + n) + (4 * calls + 1)) base).world.clients host ≡ Some c → IsAnswered c
       answered-last host c at = record {
-        attached = attached-next most head Ordered ordered ordered-on tags served begins (calm_rounds ((2 + n) + 4 * calls) base) (round-at (4 * calls) (omega arith)) host c (subst (λ (q : Play). slice_get q.world.clients host ≡ Some c) (one-more (4 * calls)) at);
+        attached = attached-next most head (calm_rounds ((2 + n) + 4 * calls) base) (round-at (4 * calls) (omega arith)) host c (subst (λ (q : Play). slice_get q.world.clients host ≡ Some c) (one-more (4 * calls)) at);
         answered = none-open (calm_rounds ((2 + n) + (4 * calls + 1)) base).world.clients host c at none;
       }
 

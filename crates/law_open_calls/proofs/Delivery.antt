@@ -48,6 +48,7 @@ use Rattle.law_open_calls.proofs.CallRequests.{run-asks}
 use Rattle.law_open_calls.proofs.ClientHopes.{Hearer}
 use Rattle.law_open_calls.proofs.ClientHopes as client
 use Rattle.law_open_calls.proofs.Counts.{open_calls, ended-fewer}
+use Rattle.law_open_calls.proofs.Given.{AllInLine, ordered, ordered-on, tags, served}
 use Rattle.law_open_calls.proofs.HearerAt.{hearer}
 use Rattle.law_open_calls.proofs.Hope.{Cancels, PutsOff, Clear}
 use Rattle.law_open_calls.proofs.Queue.{packets_of, queue, queue-head, queue-next, head-packet, head-comes, rest-later, there-is}
@@ -57,18 +58,13 @@ use Rattle.law_open_calls.proofs.UnderWay.{InOrder, TagsFit, WantedNow, of_call,
 
 -- ---- a state
 
-module _ (most : ℕ) (head : Head) (Ordered : Play → Type 0)
-    (ordered : (p : Play) → IsLawful most head p → Ordered p → (host : ℕ) (c : Client) → slice_get p.world.clients host ≡ Some c → InOrder p host c)
-    (ordered-on : (p : Play) (k : ℕ) (ks : List ℕ) → IsLawful most head p → IsRising p → p.fresh ≡ k ∷ ks → ((host : ℕ) (c : Client) → slice_get p.world.clients host ≡ Some c → c.attached ≡ true) → Ordered p → Ordered (play p (Event.Deliver k)))
-    (tags : (p : Play) → IsLawful most head p → (host : ℕ) (c : Client) → slice_get p.world.clients host ≡ Some c → c.attached ≡ true → TagsFit p.world host c)
-    (served : (p : Play) → IsLawful most head p → p.world.server.phase ≡ serving → (b x next : ℕ) (r : Request) (who : Who) → asker r ≡ Some who → who.host ≡ b → (host_row p.world.server.kept b).inc ≡ who.inc → ((n : ℕ) → sequence_of r ≡ Some n → (host_row p.world.server.kept b).seq < n) → (c : Client) → slice_get p.world.clients b ≡ Some c → IsServed p.world.server.table.rows (receive p.world.server b next (datagram_of (call x r))).server.table.rows (receive p.world.server b next (datagram_of (call x r))).sends b who x r)
-  where
+module _ (most : ℕ) (head : Head) where
     pub record State (p : Play) : Type 0 where
       pub lawful : IsLawful most head p
       pub rising : IsRising p
       pub serves : recovers p.world.server.phase ≡ false
       pub on : (host : ℕ) (c : Client) → slice_get p.world.clients host ≡ Some c → c.attached ≡ true
-      pub order : Ordered p
+      pub order : AllInLine most head p
       pub wants : Wants p.world (queue p)
       pub none_renew : NoneRenew p.world
 
@@ -134,7 +130,7 @@ module _ (most : ℕ) (head : Head) (Ordered : Play → Type 0)
           head-is = record { number = k; fresh = subst (λ ns. In ns k) (sym first) (inl refl); is = sent ∙ ap Some is }
 
           order : InOrder p b c
-          order = ordered p st.lawful st.order b c at
+          order = ordered most head p st.lawful st.order b c at
 
           mine : IsAt b c p.world.packets
           mine = holds.clients b c at
@@ -147,7 +143,7 @@ module _ (most : ℕ) (head : Head) (Ordered : Play → Type 0)
             same = λ t asks number. (mine.mail.asked x r c.who there (order.asks x r head-is)).same refl t asks number;
             meant = λ t u f asks job has on. ((run-asks head p.events b c (at-run b c at)).about t u asks job has).about f on;
             unrenewed = λ t u asks has job. st.none_renew b c t u at asks has job;
-            held = λ f own found. (tags p st.lawful b c at (st.on b c at)).held f own found;
+            held = λ f own found. (tags most head p st.lawful b c at (st.on b c at)).held f own found;
             holder = λ f own found. holder b c at f own found;
             alone = alone;
             wants = λ f want w. wanting f want (st.wants b x f c r want at (subst (λ q. In q (from_host b (call x r))) (sym (queue-is y sent)) (inl is)) w);
@@ -210,7 +206,7 @@ module _ (most : ℕ) (head : Head) (Ordered : Play → Type 0)
           server-served t e =
               let datagram : receive p.world.server (sending_host y.sender) (length p.world.packets) (datagram_of y.message) ≡ receive p.world.server b (length p.world.packets) (datagram_of (call x r)) = ap (λ (z : Packet). receive p.world.server (sending_host z.sender) (length p.world.packets) (datagram_of z.message)) is in
               subst (λ (v : ServerStep). IsServed p.world.server.table.rows v.server.table.rows v.sends b c.who x r) (sym (e ∙ datagram))
-              (served p st.lawful phase b x (length p.world.packets) r c.who (order.asks x r head-is) mine.here (line-inc b c at) (λ n sq. order.fresh x n r head-is sq) c at)
+              (served most head p st.lawful phase b x (length p.world.packets) r c.who (order.asks x r head-is) mine.here (line-inc b c at) (λ n sq. order.fresh x n r head-is sq) c at)
 
         -- ---- a client hears
 
@@ -219,7 +215,7 @@ module _ (most : ℕ) (head : Head) (Ordered : Play → Type 0)
           own = holds.clients h0 c at
 
           its-tags : TagsFit p.world h0 c
-          its-tags = tags p st.lawful h0 c at (st.on h0 c at)
+          its-tags = tags most head p st.lawful h0 c at (st.on h0 c at)
 
           now-hears : Hearer p.world.server.table.rows y rest h0 c t
           now-hears = hearer p.world.server.table.rows p.world.packets y rest h0 k y.message c t own is rest-sent mail hears stays
@@ -280,7 +276,7 @@ module _ (most : ℕ) (head : Head) (Ordered : Play → Type 0)
 
               unreplied : (l : Ticket) → c.ticket ≡ Some l → PutsOff h0 c l y → ⊥
               unreplied l asks o =
-                  (ordered p st.lawful st.order h0 c at).unreplied x f r want l (Reply.Refused c.who.inc o.status)
+                  (ordered most head p st.lawful st.order h0 c at).unreplied x f r want l (Reply.Refused c.who.inc o.status)
                   (rest-later p k ks first st.rising (from_host h0 (call x r)) i).0 w asks
                   (head-comes p k ks first st.rising (to_host h0 (reply l.xid (Reply.Refused c.who.inc o.status))) (sent ∙ ap Some o.is)) refl
           still-wanted x f r want i w (of_row row idle found kind mode least) = of_row row (still-idle t.client.call refl) found kind mode least-now
@@ -292,7 +288,7 @@ module _ (most : ℕ) (head : Head) (Ordered : Play → Type 0)
               low : x < c.xid
               low =
                   let there : Asked p.world.packets c.who.host x r = subst (λ n. Asked p.world.packets n x r) (sym own.here) (rest-sent (from_host h0 (call x r)) i) in
-                  (own.mail.asked x r c.who there ((ordered p st.lawful st.order h0 c at).asks x r (rest-later p k ks first st.rising (from_host h0 (call x r)) i).0)).number refl
+                  (own.mail.asked x r c.who there ((ordered most head p st.lawful st.order h0 c at).asks x r (rest-later p k ks first st.rising (from_host h0 (call x r)) i).0)).number refl
 
               least-now : (v : ℕ) (o : Request) → In (rest ++ map (from_host h0) t.sends) (from_host h0 (call v o)) → x ≤ v
               least-now v o j = from (in-append rest (map (from_host h0) t.sends) (from_host h0 (call v o)) j)
@@ -403,7 +399,7 @@ module _ (most : ℕ) (head : Head) (Ordered : Play → Type 0)
               by : (o : Option Client) → slice_get p.world.clients h0 ≡ o → ⊥
               by (Some c) at =
                   would-hear c n f row.tag at (ap (λ (z : Packet). z.message) says ∙ ap (λ w. call n (Request.Evicted w f row.tag)) (holder h0 c at f row found))
-                  ((tags p st.lawful h0 c at (st.on h0 c at)).held f row found)
+                  ((tags most head p st.lawful h0 c at (st.on h0 c at)).held f row found)
               by None none =
                   let rows = (run-local head p.events).rows in
                   let there : find_row f h0 (run head p.events).server.table.rows ≡ Some row = subst (λ (u : World). find_row f h0 u.server.table.rows ≡ Some row) st.lawful.is_run found in
@@ -447,7 +443,7 @@ module _ (most : ℕ) (head : Head) (Ordered : Play → Type 0)
               rising = played-rising p (Event.Deliver k) st.rising;
               serves = delivered-phase p.world k (slice_get p.world.packets k) ∙ st.serves;
               on = subst (λ (w : World). (host : ℕ) (c : Client) → slice_get w.clients host ≡ Some c → c.attached ≡ true) (sym to) n.on;
-              order = ordered-on p k ks st.lawful st.rising first st.on st.order;
+              order = ordered-on most head p k ks st.lawful st.rising first st.on st.order;
               wants = subst (λ (w : World). Wants w (queue (play p (Event.Deliver k)))) (sym to) (subst (λ z. Wants v z) (sym q) n.wants);
               none_renew = subst (λ (w : World). NoneRenew w) (sym to) n.none_renew;
             })

@@ -98,24 +98,17 @@ none-clear w q g a none c u f at has file h row way = absurd (none c u f at has 
 
 -- ---- a whole delivery
 
-module _ (most : ℕ) (head : Head) (Ordered : Play → Type 0)
-    (ordered : (p : Play) → IsLawful most head p → Ordered p → (host : ℕ) (c : Client) → slice_get p.world.clients host ≡ Some c → InOrder p host c)
-    (ordered-on : (p : Play) (k : ℕ) (ks : List ℕ) → IsLawful most head p → IsRising p → p.fresh ≡ k ∷ ks → ((host : ℕ) (c : Client) → slice_get p.world.clients host ≡ Some c → c.attached ≡ true) → Ordered p → Ordered (play p (Event.Deliver k)))
-    (tags : (p : Play) → IsLawful most head p → (host : ℕ) (c : Client) → slice_get p.world.clients host ≡ Some c → c.attached ≡ true → TagsFit p.world host c)
-    (served : (p : Play) → IsLawful most head p → p.world.server.phase ≡ serving → (b x next : ℕ) (r : Request) (who : Who) → asker r ≡ Some who → who.host ≡ b → (host_row p.world.server.kept b).inc ≡ who.inc → ((n : ℕ) → sequence_of r ≡ Some n → (host_row p.world.server.kept b).seq < n) → (c : Client) → slice_get p.world.clients b ≡ Some c → IsServed p.world.server.table.rows (receive p.world.server b next (datagram_of (call x r))).server.table.rows (receive p.world.server b next (datagram_of (call x r))).sends b who x r)
-    (F : World → List Packet → Type 0)
-    (moves : (w v : World) (q q' : List Packet) → Moves w v q q' → Paused w v → F w q → F v q')
-  where
+module _ (most : ℕ) (head : Head) (F : World → List Packet → Type 0) (moves : (w v : World) (q q' : List Packet) → Moves w v q q' → Paused w v → F w q → F v q') where
     -- either a call is answered, or the frame stands
     pub data Ends (p : Play) (count : ℕ) : Type 0 where
       answered : open_calls p.world.clients < count → Ends p count
-      stands : State most head Ordered ordered ordered-on tags served p → F p.world (queue p) → Ends p count
+      stands : State most head p → F p.world (queue p) → Ends p count
 
-    ends-flow : (n : ℕ) (p : Play) → State most head Ordered ordered ordered-on tags served p → F p.world (queue p) → Ends (play_flow n p) (open_calls p.world.clients)
+    ends-flow : (n : ℕ) (p : Play) → State most head p → F p.world (queue p) → Ends (play_flow n p) (open_calls p.world.clients)
     ends-flow zero p st f = stands st f
     ends-flow (suc n) p st f = first p.fresh refl (ends-flow n)
       where
-        again : (k : ℕ) (ks : List ℕ) → (e : p.fresh ≡ k ∷ ks) → ((q : Play) → State most head Ordered ordered ordered-on tags served q → F q.world (queue q) → Ends (play_flow n q) (open_calls q.world.clients)) → Delivered most head Ordered ordered ordered-on tags served p st k ks e → Ends (play_flow n (play p (Event.Deliver k))) (open_calls p.world.clients)
+        again : (k : ℕ) (ks : List ℕ) → (e : p.fresh ≡ k ∷ ks) → ((q : Play) → State most head q → F q.world (queue q) → Ends (play_flow n q) (open_calls q.world.clients)) → Delivered most head p st k ks e → Ends (play_flow n (play p (Event.Deliver k))) (open_calls p.world.clients)
         again k ks e rec (fewer less) =
             let l = flows most head 1 p st.lawful in
             let one : flow_first p.fresh p ≡ play p (Event.Deliver k) = ap (λ fs. flow_first fs p) e in
@@ -130,9 +123,9 @@ module _ (most : ℕ) (head : Head) (Ordered : Play → Type 0)
             widen less (answered a) = answered (omega arith)
             widen less (stands s g) = stands s g
 
-        first : (fs : List ℕ) → p.fresh ≡ fs → ((q : Play) → State most head Ordered ordered ordered-on tags served q → F q.world (queue q) → Ends (play_flow n q) (open_calls q.world.clients)) → Ends (play_flow n (flow_first fs p)) (open_calls p.world.clients)
+        first : (fs : List ℕ) → p.fresh ≡ fs → ((q : Play) → State most head q → F q.world (queue q) → Ends (play_flow n q) (open_calls q.world.clients)) → Ends (play_flow n (flow_first fs p)) (open_calls p.world.clients)
         first [] e rec = rec p st f
-        first (k ∷ ks) e rec = again k ks e rec (delivers most head Ordered ordered ordered-on tags served p st k ks e)
+        first (k ∷ ks) e rec = again k ks e rec (delivers most head p st k ks e)
 
-    pub flow-ends : (n : ℕ) (p : Play) → State most head Ordered ordered ordered-on tags served p → F p.world (queue p) → Ends (play_flow n p) (open_calls p.world.clients)
+    pub flow-ends : (n : ℕ) (p : Play) → State most head p → F p.world (queue p) → Ends (play_flow n p) (open_calls p.world.clients)
     flow-ends = ends-flow

@@ -37,6 +37,7 @@ use Rattle.law_open_calls.proofs.Counts.{open_calls, flow-less, ticks-less, some
 use Rattle.law_open_calls.proofs.Delivery.{State}
 use Rattle.law_open_calls.proofs.UnderWay.{InOrder, TagsFit, Moves, Paused}
 use Rattle.law_open_calls.proofs.Frames.{HopesOrClear, SomeHopes, first-moves, second-moves, NoWay, no-hope, clear-none, none-clear, Ends, answered, stands, flow-ends}
+use Rattle.law_open_calls.proofs.Given.{begins}
 use Rattle.law_open_calls.proofs.Hope.{PutsOff, Hopeful, Clear, safe-none}
 use Rattle.law_open_calls.proofs.Queue.{packets_of, queue, in-comes}
 use Rattle.law_open_calls.proofs.Served.{IsServed}
@@ -101,15 +102,9 @@ flow-phase (suc n) p = flow-phase n (flow_first p.fresh p) ∙ first p.fresh
     first [] = refl
     first (k ∷ ks) = delivered-phase p.world k (slice_get p.world.packets k)
 
-module _ (most : ℕ) (head : Head) (Ordered : Play → Type 0)
-    (ordered : (p : Play) → IsLawful most head p → Ordered p → (host : ℕ) (c : Client) → slice_get p.world.clients host ≡ Some c → InOrder p host c)
-    (ordered-on : (p : Play) (k : ℕ) (ks : List ℕ) → IsLawful most head p → IsRising p → p.fresh ≡ k ∷ ks → ((host : ℕ) (c : Client) → slice_get p.world.clients host ≡ Some c → c.attached ≡ true) → Ordered p → Ordered (play p (Event.Deliver k)))
-    (tags : (p : Play) → IsLawful most head p → (host : ℕ) (c : Client) → slice_get p.world.clients host ≡ Some c → c.attached ≡ true → TagsFit p.world host c)
-    (served : (p : Play) → IsLawful most head p → p.world.server.phase ≡ serving → (b x next : ℕ) (r : Request) (who : Who) → asker r ≡ Some who → who.host ≡ b → (host_row p.world.server.kept b).inc ≡ who.inc → ((n : ℕ) → sequence_of r ≡ Some n → (host_row p.world.server.kept b).seq < n) → (c : Client) → slice_get p.world.clients b ≡ Some c → IsServed p.world.server.table.rows (receive p.world.server b next (datagram_of (call x r))).server.table.rows (receive p.world.server b next (datagram_of (call x r))).sends b who x r)
-    (begins : (p : Play) → IsLawful most head p → IsRising p → p.fresh ≡ [] → ((host : ℕ) (c : Client) → slice_get p.world.clients host ≡ Some c → (c.attached ≡ true) × (c.ticket ≡ None)) → Ordered (play_rounds 1 p))
-  where
+module _ (most : ℕ) (head : Head) where
     abbrev St : Play → Type 0
-    St p = State most head Ordered ordered ordered-on tags served p
+    St p = State most head p
 
     -- what is known of a play at the beginning of a round
     pub record Round (r : Play) : Type 0 where
@@ -150,7 +145,7 @@ module _ (most : ℕ) (head : Head) (Ordered : Play → Type 0)
         rising = played-rising (play_hosts (length (play_flow (enough_deliveries r) r).world.clients) 0 (play_flow (enough_deliveries r) r)) Event.ServerTick (hosts-rising (length (play_flow (enough_deliveries r) r).world.clients) 0 (play_flow (enough_deliveries r) r) (flow-rising (enough_deliveries r) r k.rising));
         serves = serves;
         on = λ host c at. after-ticks Rested (λ (d : Client). d.attached ≡ true) (λ d s. tick-stays d s.alone s.on) host (λ d there. record { alone = ((run-holds head (play_flow (enough_deliveries r) r).events).clients host d (subst (λ (u : World). slice_get u.clients host ≡ Some d) done-lawful.is_run there)).alone; on = (k.quiet host d there).attached }) c at;
-        order = begins (play_flow (enough_deliveries r) r) done-lawful (flow-rising (enough_deliveries r) r k.rising) done-fresh (λ host c at. ((k.quiet host c at).attached, (k.quiet host c at).no_request));
+        order = begins most head (play_flow (enough_deliveries r) r) done-lawful (flow-rising (enough_deliveries r) r k.rising) done-fresh (λ host c at. ((k.quiet host c at).attached, (k.quiet host c at).no_request));
         wants = round-wants most head (play_flow (enough_deliveries r) r) done-lawful done-fresh (λ host c at. (k.quiet host c at).no_request) serves;
         none_renew = none-renew most head (play_flow (enough_deliveries r) r) done-lawful done-fresh (λ host c at. (k.quiet host c at).no_request) serves;
       }
@@ -190,9 +185,9 @@ module _ (most : ℕ) (head : Head) (Ordered : Play → Type 0)
     module _ (r : Play) (k : Round r) (st : St r) where
       -- no row is in the way of those for whom the first frame stands
       first-ends : (K L : ℕ → Type 0) → First K L r.world (queue r) → (open_calls (all_delivered r).world.clients < open_calls r.world.clients) ⊎ (((a : ℕ) → K a → NoWay (all_delivered r).world a) × LateOf L (all_delivered r).world)
-      first-ends K L f = by (flow-ends most head Ordered ordered ordered-on tags served (First K L) (first-goes K L) (enough_deliveries r) r st f)
+      first-ends K L f = by (flow-ends most head (First K L) (first-goes K L) (enough_deliveries r) r st f)
         where
-          by : Ends most head Ordered ordered ordered-on tags served (First K L) (first-goes K L) (play_flow (enough_deliveries r) r) (open_calls r.world.clients) → (open_calls (all_delivered r).world.clients < open_calls r.world.clients) ⊎ (((a : ℕ) → K a → NoWay (all_delivered r).world a) × LateOf L (all_delivered r).world)
+          by : Ends most head (First K L) (first-goes K L) (play_flow (enough_deliveries r) r) (open_calls r.world.clients) → (open_calls (all_delivered r).world.clients < open_calls r.world.clients) ⊎ (((a : ℕ) → K a → NoWay (all_delivered r).world a) × LateOf L (all_delivered r).world)
           by (answered less) = inl less
           by (stands s g) = inr ((λ a ka. none a (g.hopes a ka)), g.late)
             where
@@ -205,9 +200,9 @@ module _ (most : ℕ) (head : Head) (Ordered : Play → Type 0)
 
       -- where somebody hopes, and no row is in anybody's way, a call is answered
       second-ends : ((a : ℕ) → NoWay r.world a) → (h : ℕ) → Hopeful r.world.clients (queue r) h → open_calls (all_delivered r).world.clients < open_calls r.world.clients
-      second-ends free h x = by (flow-ends most head Ordered ordered ordered-on tags served SomeHopes (λ w v q q' m s. second-moves w v q q' m) (enough_deliveries r) r st (record { clear = λ a. none-clear r.world (queue r) false a (free a); host = h; hopes = x }))
+      second-ends free h x = by (flow-ends most head SomeHopes (λ w v q q' m s. second-moves w v q q' m) (enough_deliveries r) r st (record { clear = λ a. none-clear r.world (queue r) false a (free a); host = h; hopes = x }))
         where
-          by : Ends most head Ordered ordered ordered-on tags served SomeHopes (λ w v q q' m s. second-moves w v q q' m) (play_flow (enough_deliveries r) r) (open_calls r.world.clients) → open_calls (all_delivered r).world.clients < open_calls r.world.clients
+          by : Ends most head SomeHopes (λ w v q q' m s. second-moves w v q q' m) (play_flow (enough_deliveries r) r) (open_calls r.world.clients) → open_calls (all_delivered r).world.clients < open_calls r.world.clients
           by (answered less) = less
           by (stands s g) = absurd (no-hope (play_flow (enough_deliveries r) r).world (queue (play_flow (enough_deliveries r) r)) k.quiet g.host g.hopes)
 
