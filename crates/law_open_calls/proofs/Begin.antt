@@ -73,14 +73,27 @@ one-tick p h all free = by (slice_get p.world.clients h) refl
       where
         old : step p.world (Event.ClientTick h) ≡ p.world → (q : Packet) → Comes p q ⊎ ⊥ → FromTicket (h + 1) (play p (Event.ClientTick h)) q
         old is q (inr bad) = absurd bad
-        old is q (inl c) = let f = all q c in record { host = f.host; below = (let low = f.below in omega arith); client = f.client; at = ap (λ (w : World). slice_get w.clients f.host) is ∙ f.at; ticket = f.ticket; asks = f.asks; is = f.is }
+        old is q (inl c) = let f = all q c in record {
+          host = f.host;
+          below = (let low = f.below in omega arith);
+          client = f.client;
+          at = ap (λ
+              (w : World). slice_get w.clients f.host) is ∙ f.at;
+          ticket = f.ticket;
+          asks = f.asks;
+          is = f.is;
+        }
     by (Some c) at =
-        let is : step p.world (Event.ClientTick h) ≡ after_client p.world h (client_tick c (c.now + 1)) = ap (at_client p.world h (λ d. client_tick d (d.now + 1))) at in (
+        let is : step p.world (Event.ClientTick h) ≡ after_client p.world h (client_tick c (c.now + 1)) = ap (at_client p.world h (λ d. client_tick d
+        (d.now + 1))) at in (
           λ q e. new is q (comes-from p (Event.ClientTick h) (map (from_host h) (client_tick c (c.now + 1)).sends) (ap (λ (w : World). w.packets) is) q e),
-          λ host d later there. free host d (omega arith) (sym (get-set-other p.world.clients h host (client_tick c (c.now + 1)).client (λ same. omega arith)) ∙ subst (λ (w : World). slice_get w.clients host ≡ Some d) is there),
+          λ host d later there. free host d (omega arith) (sym (get-set-other p.world.clients h host (client_tick c (c.now + 1)).client
+              (λ same. omega arith)) ∙ subst (λ (w : World). slice_get w.clients host ≡ Some d) is there),
         )
       where
-        sent : step p.world (Event.ClientTick h) ≡ after_client p.world h (client_tick c (c.now + 1)) → (q : Packet) (m : Message) → In (client_tick c (c.now + 1)).sends m → q ≡ from_host h m → TickSends c (client_tick c (c.now + 1)) → FromTicket (h + 1) (play p (Event.ClientTick h)) q
+        sent : step p.world (Event.ClientTick h) ≡ after_client p.world h (client_tick c (c.now + 1)) → (q : Packet) (m : Message)
+            → In (client_tick c (c.now + 1)).sends m → q ≡ from_host h m → TickSends c (client_tick c (c.now + 1))
+            → FromTicket (h + 1) (play p (Event.ClientTick h)) q
         sent is q m i same (rests none ticket xid) = absurd (subst (λ ms. In ms m) none i)
         sent is q m i same (again ticket has now sends xid) = none-some ticket (sym (free h c (omega arith) at) ∙ has)
         sent is q m i same (asks_now ticket none has sends xid after first by fits) = one (subst (λ ms. In ms m) sends i)
@@ -97,7 +110,8 @@ one-tick p h all free = by (slice_get p.world.clients h) refl
               is = same ∙ ap (from_host h) (sym e);
             }
 
-        new : step p.world (Event.ClientTick h) ≡ after_client p.world h (client_tick c (c.now + 1)) → (q : Packet) → Comes p q ⊎ In (map (from_host h) (client_tick c (c.now + 1)).sends) q → FromTicket (h + 1) (play p (Event.ClientTick h)) q
+        new : step p.world (Event.ClientTick h) ≡ after_client p.world h (client_tick c (c.now + 1)) → (q : Packet) → Comes p q
+            ⊎ In (map (from_host h) (client_tick c (c.now + 1)).sends) q → FromTicket (h + 1) (play p (Event.ClientTick h)) q
         new is q (inl e) =
             let f = all q e in
             let low = f.below in
@@ -105,7 +119,8 @@ one-tick p h all free = by (slice_get p.world.clients h) refl
               host = f.host;
               below = omega arith;
               client = f.client;
-              at = ap (λ (w : World). slice_get w.clients f.host) is ∙ get-set-other p.world.clients h f.host (client_tick c (c.now + 1)).client (λ same. omega arith) ∙ f.at;
+              at = ap (λ (w : World). slice_get w.clients f.host) is ∙ get-set-other p.world.clients h f.host (client_tick c (c.now + 1)).client
+                  (λ same. omega arith) ∙ f.at;
               ticket = f.ticket;
               asks = f.asks;
               is = f.is;
@@ -130,7 +145,8 @@ silent s now = server-ticks s now (λ (t : ServerStep). t.sends ≡ []) (record 
 })
 
 -- after the ticks of a round where nothing is under way, and no client has a request under way
-pub round-tickets : (p : Play) → p.fresh ≡ [] → ((host : ℕ) (c : Client) → slice_get p.world.clients host ≡ Some c → c.ticket ≡ None) → (q : Packet) → Comes (play_rounds 1 p) q → FromTicket (length p.world.clients) (play_rounds 1 p) q
+pub round-tickets : (p : Play) → p.fresh ≡ [] → ((host : ℕ) (c : Client) → slice_get p.world.clients host ≡ Some c → c.ticket ≡ None) → (q : Packet)
+    → Comes (play_rounds 1 p) q → FromTicket (length p.world.clients) (play_rounds 1 p) q
 unfolding after_server
 round-tickets p none free q c =
     let n = length p.world.clients in
@@ -138,13 +154,23 @@ round-tickets p none free q c =
     let all = all-ticks n 0 p (λ z e. absurd (subst (λ ns. In ns e.number) none e.fresh)) (λ host d later at. free host d at) in
     by (comes-from hosts Event.ServerTick [] (ap (λ ms. hosts.world.packets ++ ms) (silent hosts.world.server (hosts.world.server.now + 1))) q c) all
   where
-    by : Comes (play_hosts (length p.world.clients) 0 p) q ⊎ ⊥ → OfTickets (0 + length p.world.clients) (play_hosts (length p.world.clients) 0 p) → FromTicket (length p.world.clients) (play_rounds 1 p) q
+    by : Comes (play_hosts (length p.world.clients) 0 p) q ⊎ ⊥ → OfTickets (0 + length p.world.clients) (play_hosts (length p.world.clients) 0 p)
+        → FromTicket (length p.world.clients) (play_rounds 1 p) q
     by (inr bad) all = absurd bad
-    by (inl e) all = let f = all q e in record { host = f.host; below = (let low = f.below in omega arith); client = f.client; at = f.at; ticket = f.ticket; asks = f.asks; is = f.is }
+    by (inl e) all = let f = all q e in record {
+      host = f.host;
+      below = (let low = f.below in omega arith);
+      client = f.client;
+      at = f.at;
+      ticket = f.ticket;
+      asks = f.asks;
+      is = f.is;
+    }
 
 -- ---- what is known of it
 
-module _ (most : ℕ) (head : Head) (p : Play) (l : IsLawful most head p) (none : p.fresh ≡ []) (free : (host : ℕ) (c : Client) → slice_get p.world.clients host ≡ Some c → c.ticket ≡ None) (serves : recovers (play_rounds 1 p).world.server.phase ≡ false) where
+module _ (most : ℕ) (head : Head) (p : Play) (l : IsLawful most head p) (none : p.fresh ≡ []) (free : (host : ℕ) (c : Client)
+    → slice_get p.world.clients host ≡ Some c → c.ticket ≡ None) (serves : recovers (play_rounds 1 p).world.server.phase ≡ false) where
   next : Play
   next = play_rounds 1 p
 
@@ -159,13 +185,21 @@ module _ (most : ℕ) (head : Head) (p : Play) (l : IsLawful most head p) (none 
   at-run : (host : ℕ) (c : Client) → slice_get p.world.clients host ≡ Some c → slice_get (run head p.events).clients host ≡ Some c
   at-run host c at = subst (λ (u : World). slice_get u.clients host ≡ Some c) l.is_run at
 
-  renews-at : (host : ℕ) (c : Client) → slice_get (play_rounds 1 p).world.clients host ≡ Some c → (k : Ticket) → c.ticket ≡ Some k → k.job ≡ renewing → Renews c k
+  renews-at : (host : ℕ) (c : Client) → slice_get (play_rounds 1 p).world.clients host ≡ Some c → (k : Ticket) → c.ticket ≡ Some k → k.job ≡ renewing
+      → Renews c k
   renews-at host c at =
       let inside = get-below (play_rounds 1 p).world.clients host c at in
-      let many : length (play_rounds 1 p).world.clients ≡ head.hosts = ap (λ (u : World). length u.clients) next-lawful.is_run ∙ client-count head (play_rounds 1 p).events in
+      let many : length (play_rounds 1 p).world.clients ≡ head.hosts = ap (λ (u : World). length u.clients) next-lawful.is_run
+      ∙ client-count head (play_rounds 1 p).events in
       let before : length p.world.clients ≡ head.hosts = ap (λ (u : World). length u.clients) l.is_run ∙ client-count head p.events in
-      ticked most head host Ready (λ (d : Client). (k : Ticket) → d.ticket ≡ Some k → k.job ≡ renewing → Renews d k) (λ d r. tick-renews d r.alone r.found r.ticket) p (omega arith)
-      (λ d there. record { alone = ((run-holds head p.events).clients host d (at-run host d there)).alone; found = run-found head p.events host d (at-run host d there); ticket = free host d there }) c at
+      ticked most head host Ready (λ (d : Client). (k : Ticket) → d.ticket ≡ Some k → k.job ≡ renewing
+      → Renews d k) (λ d r. tick-renews d r.alone r.found r.ticket) p (omega arith)
+      (λ d there. record {
+        alone = ((run-holds head p.events).clients host d (at-run host d there)).alone;
+        found = run-found head p.events host d
+            (at-run host d there);
+        ticket = free host d there;
+      }) c at
 
   pub none-renew : NoneRenew (play_rounds 1 p).world
   none-renew host c t u at asks has job = none-some u (sym (renews-at host c at t asks job).idle ∙ has)
@@ -192,26 +226,32 @@ module _ (most : ℕ) (head : Head) (p : Play) (l : IsLawful most head p) (none 
     there : find_row file host (play_rounds 1 p).world.server.table.rows ≡ Some row
     kind : is_at_least row.mode lease.mode ≡ true
 
-  row-of : (host : ℕ) (c : Client) → slice_get (play_rounds 1 p).world.clients host ≡ Some c → (file : ℕ) (lease : Lease) → lease_on file c.leases ≡ Some lease → caches lease.mode ≡ true → c.now < lease.expiry → HasRow host lease file
+  row-of : (host : ℕ) (c : Client) → slice_get (play_rounds 1 p).world.clients host ≡ Some c → (file : ℕ) (lease : Lease)
+      → lease_on file c.leases ≡ Some lease → caches lease.mode ≡ true → c.now < lease.expiry → HasRow host lease file
   row-of host c at file lease holds caching live =
       let events = (play_rounds 1 p).events in
       let there : slice_get (run head events).clients host ≡ Some c = subst (λ (u : World). slice_get u.clients host ≡ Some c) next-lawful.is_run at in
-      let phase : (run head events).server.phase ≡ serving = ap (λ (u : World). u.server.phase) (sym next-lawful.is_run) ∙ serves-is (play_rounds 1 p).world.server.phase serves in
+      let phase : (run head events).server.phase ≡ serving = ap (λ (u : World). u.server.phase) (sym next-lawful.is_run)
+      ∙ serves-is (play_rounds 1 p).world.server.phase serves in
       let r = run-runs most head events next-lawful.bounds next-lawful.within in
       let a = (run-holds head events).clients host c there in
       let first = (a.alone.asking.leased file lease holds).term in
       let covered = ((r.known.clients host c there)).covered.held file lease holds caching (omega arith) in
-      let h : HasFitting (claim_of c.who file lease.mode lease.tag (cover_end c.who.host (lease.expiry - lease.term) lease.term events)) (run head events).server.table = subst (λ ph. IsCovered (run head events).server ph (claim_of c.who file lease.mode lease.tag (cover_end c.who.host (lease.expiry - lease.term) lease.term events))) phase covered in
+      let h : HasFitting (claim_of c.who file lease.mode lease.tag (cover_end c.who.host (lease.expiry - lease.term) lease.term events))
+      (run head events).server.table = subst (λ ph. IsCovered (run head events).server ph (claim_of c.who file lease.mode lease.tag
+      (cover_end c.who.host (lease.expiry - lease.term) lease.term events))) phase covered in
       record {
         row = h.row;
-        there = subst (λ (u : World). find_row file host u.server.table.rows ≡ Some h.row) (sym next-lawful.is_run) (subst (λ n. find_row file n (run head events).server.table.rows ≡ Some h.row) a.here h.stands);
+        there = subst (λ (u : World). find_row file host u.server.table.rows ≡ Some h.row) (sym next-lawful.is_run) (subst (λ n. find_row file n
+            (run head events).server.table.rows ≡ Some h.row) a.here h.stands);
         kind = h.fits.kind;
       }
 
   pub round-wants : Wants (play_rounds 1 p).world (queue (play_rounds 1 p))
   round-wants host x f c r want at i w = by (round-tickets p none free (from_host host (call x r)) (in-comes (play_rounds 1 p) (from_host host (call x r)) i))
     where
-      ticket-of : (y : ℕ) (s : Request) → FromTicket (length p.world.clients) (play_rounds 1 p) (from_host host (call y s)) → (t : Ticket) × (c.ticket ≡ Some t) × (t.xid ≡ y) × (t.request ≡ s)
+      ticket-of : (y : ℕ) (s : Request) → FromTicket (length p.world.clients) (play_rounds 1 p) (from_host host (call y s)) → (t : Ticket)
+          × (c.ticket ≡ Some t) × (t.xid ≡ y) × (t.request ≡ s)
       ticket-of y s o =
           let m = message-same host o.host (call y s) (call o.ticket.xid o.ticket.request) o.is in
           let k = call-same y o.ticket.xid s o.ticket.request m.1 in
@@ -233,24 +273,32 @@ module _ (most : ℕ) (head : Head) (p : Play) (l : IsLawful most head p) (none 
           write_fits ls.0.block ls.0.body ls.0.is (ap (λ (z : Want). z.mode) same_want)
 
       not-other : (job : Job) → (job ≡ attaching) ⊎ (job ≡ pushing) → fits_job job r ≡ true → IsWant r f want → ⊥
-      not-other job (inl e) ok (by_read who q block is_r) = let no : fits_job attaching (Request.Read who q f block (Some want)) ≡ true = subst (λ j. fits_job j (Request.Read who q f block (Some want)) ≡ true) e (subst (λ z. fits_job job z ≡ true) is_r ok) in cc
-      not-other job (inr e) ok (by_read who q block is_r) = let no : fits_job pushing (Request.Read who q f block (Some want)) ≡ true = subst (λ j. fits_job j (Request.Read who q f block (Some want)) ≡ true) e (subst (λ z. fits_job job z ≡ true) is_r ok) in cc
-      not-other job (inl e) ok (by_lease who is_r) = let no : fits_job attaching (Request.GetLease who f want) ≡ true = subst (λ j. fits_job j (Request.GetLease who f want) ≡ true) e (subst (λ z. fits_job job z ≡ true) is_r ok) in cc
-      not-other job (inr e) ok (by_lease who is_r) = let no : fits_job pushing (Request.GetLease who f want) ≡ true = subst (λ j. fits_job j (Request.GetLease who f want) ≡ true) e (subst (λ z. fits_job job z ≡ true) is_r ok) in cc
+      not-other job (inl e) ok (by_read who q block is_r) = let no : fits_job attaching (Request.Read who q f block (Some want)) ≡ true = subst
+          (λ j. fits_job j (Request.Read who q f block (Some want)) ≡ true) e (subst (λ z. fits_job job z ≡ true) is_r ok) in cc
+      not-other job (inr e) ok (by_read who q block is_r) = let no : fits_job pushing (Request.Read who q f block (Some want)) ≡ true = subst
+          (λ j. fits_job j (Request.Read who q f block (Some want)) ≡ true) e (subst (λ z. fits_job job z ≡ true) is_r ok) in cc
+      not-other job (inl e) ok (by_lease who is_r) = let no : fits_job attaching (Request.GetLease who f want) ≡ true = subst (λ j. fits_job j
+          (Request.GetLease who f want) ≡ true) e (subst (λ z. fits_job job z ≡ true) is_r ok) in cc
+      not-other job (inr e) ok (by_lease who is_r) = let no : fits_job pushing (Request.GetLease who f want) ≡ true = subst (λ j. fits_job j
+          (Request.GetLease who f want) ≡ true) e (subst (λ z. fits_job job z ≡ true) is_r ok) in cc
 
-      with-call : (t : Ticket) → c.ticket ≡ Some t → t.request ≡ r → t.job ≡ for_call → (o : Option UnderWay) → c.call ≡ o → WantedNow (play_rounds 1 p).world.server.table.rows (queue (play_rounds 1 p)) host c x f want
+      with-call : (t : Ticket) → c.ticket ≡ Some t → t.request ≡ r → t.job ≡ for_call → (o : Option UnderWay) → c.call ≡ o
+          → WantedNow (play_rounds 1 p).world.server.table.rows (queue (play_rounds 1 p)) host c x f want
       with-call t asks req job None idle = let yes = alone.asking.called t asks job in let no : is_some c.call ≡ false = ap is_some idle in absurd (cc)
-      with-call t asks req job (Some u) has = of_call u has ((run-asks head (play_rounds 1 p).events host c there).early t asks job) (fit t u req (requests-are-meant head (play_rounds 1 p).events host c t u there asks job has) w)
+      with-call t asks req job (Some u) has = of_call u has ((run-asks head (play_rounds 1 p).events host c there).early t asks job) (fit t u req
+          (requests-are-meant head (play_rounds 1 p).events host c t u there asks job has) w)
 
       want-mode : (t : Ticket) (k : Renews c t) → t.request ≡ r → IsWant r f want → (k.file ≡ f) × (want.mode ≡ k.lease.mode)
-      want-mode t k req (by_read who q block is_r) = let two : Request.GetLease c.who k.file (want_of c k.lease.mode) ≡ Request.Read who q f block (Some want) = sym k.asks ∙ req ∙ is_r in absurd (cc)
+      want-mode t k req (by_read who q block is_r) = let two : Request.GetLease c.who k.file (want_of c k.lease.mode) ≡ Request.Read who q f block
+          (Some want) = sym k.asks ∙ req ∙ is_r in absurd (cc)
       want-mode t k req (by_lease who is_r) =
           let two : Request.GetLease c.who k.file (want_of c k.lease.mode) ≡ Request.GetLease who f want = sym k.asks ∙ req ∙ is_r in
           let files : k.file ≡ f = cc in
           let wants : want_of c k.lease.mode ≡ want = cc in
           (files, ap (λ (z : Want). z.mode) (sym wants))
 
-      renewal : (t : Ticket) → c.ticket ≡ Some t → t.xid ≡ x → t.request ≡ r → Renews c t → WantedNow (play_rounds 1 p).world.server.table.rows (queue (play_rounds 1 p)) host c x f want
+      renewal : (t : Ticket) → c.ticket ≡ Some t → t.xid ≡ x → t.request ≡ r → Renews c t → WantedNow (play_rounds 1 p).world.server.table.rows (queue
+          (play_rounds 1 p)) host c x f want
       renewal t asks number req k =
           let m = want-mode t k req w in
           let o = row-of host c at k.file k.lease k.holds k.caching k.live in
@@ -266,11 +314,15 @@ module _ (most : ℕ) (head : Head) (p : Play) (l : IsLawful most head p) (none 
               let there_is = z.2 in
               omega arith
 
-      of-job : (t : Ticket) → c.ticket ≡ Some t → t.xid ≡ x → t.request ≡ r → (job : Job) → t.job ≡ job → WantedNow (play_rounds 1 p).world.server.table.rows (queue (play_rounds 1 p)) host c x f want
+      of-job : (t : Ticket) → c.ticket ≡ Some t → t.xid ≡ x → t.request ≡ r → (job : Job) → t.job ≡ job
+          → WantedNow (play_rounds 1 p).world.server.table.rows (queue (play_rounds 1 p)) host c x f want
       of-job t asks number req for_call job = with-call t asks req job c.call refl
       of-job t asks number req renewing job = renewal t asks number req (renews-at host c at t asks job)
-      of-job t asks number req attaching job = absurd (not-other attaching (inl refl) (subst (λ z. fits_job attaching z ≡ true) req (subst (λ j. fits_job j t.request ≡ true) job (alone.asking.ticketed t asks).fits)) w)
-      of-job t asks number req pushing job = absurd (not-other pushing (inr refl) (subst (λ z. fits_job pushing z ≡ true) req (subst (λ j. fits_job j t.request ≡ true) job (alone.asking.ticketed t asks).fits)) w)
+      of-job t asks number req attaching job = absurd (not-other attaching (inl refl) (subst (λ z. fits_job attaching z ≡ true) req (subst
+          (λ j. fits_job j t.request ≡ true) job (alone.asking.ticketed t asks).fits)) w)
+      of-job t asks number req pushing job = absurd (not-other pushing (inr refl) (subst (λ z. fits_job pushing z ≡ true) req (subst
+          (λ j. fits_job j t.request ≡ true) job (alone.asking.ticketed t asks).fits)) w)
 
-      by : FromTicket (length p.world.clients) (play_rounds 1 p) (from_host host (call x r)) → WantedNow (play_rounds 1 p).world.server.table.rows (queue (play_rounds 1 p)) host c x f want
+      by : FromTicket (length p.world.clients) (play_rounds 1 p) (from_host host (call x r))
+          → WantedNow (play_rounds 1 p).world.server.table.rows (queue (play_rounds 1 p)) host c x f want
       by o = let t = ticket-of x r o in of-job t.0 t.1 t.2 t.3 t.0.job refl

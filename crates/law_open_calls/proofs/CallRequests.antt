@@ -70,9 +70,11 @@ some-about r op file is has access = record { about = λ f on. (has ∙ sym is �
 
 module _ (t : ClientStep) (m : Asks t.client) where
   -- a request of the call, where the call is this
-  sent : (d : Client) (u : UnderWay) (k : Ticket) (op : Call) → d.ticket ≡ Some k → d.call ≡ Some u → u.call ≡ op → d.pause ≤ d.now → IsAbout k.request op → Asks d
+  sent : (d : Client) (u : UnderWay) (k : Ticket) (op : Call) → d.ticket ≡ Some k → d.call ≡ Some u → u.call ≡ op → d.pause ≤ d.now → IsAbout k.request op
+      → Asks d
   sent d u k op asks has of early is = record {
-    about = λ s w asked job other. subst (λ x. IsAbout x w.call) (ap (λ (x : Ticket). x.request) (some-same k s (sym asks ∙ asked))) (subst (λ x. IsAbout k.request x) (sym of ∙ ap (λ (x : UnderWay). x.call) (some-same u w (sym has ∙ other))) is);
+    about = λ s w asked job other. subst (λ x. IsAbout x w.call) (ap (λ (x : Ticket). x.request) (some-same k s (sym asks
+        ∙ asked))) (subst (λ x. IsAbout k.request x) (sym of ∙ ap (λ (x : UnderWay). x.call) (some-same u w (sym has ∙ other))) is);
     early = λ s asked job. early;
   }
 
@@ -88,7 +90,8 @@ module _ (t : ClientStep) (m : Asks t.client) where
     creating = λ u name blocks free is. sent _ u _ _ refl free.called is free.unpaused (none-about _ _ refl);
     looking_up = λ u name free is. sent _ u _ _ refl free.called is free.unpaused (none-about _ _ refl);
     getting_attributes = λ u file free is. sent _ u _ _ refl free.called is free.unpaused (none-about _ _ refl);
-    reading = λ u file block free is. sent _ u _ _ refl free.called is free.unpaused (some-about _ _ file refl refl (reads file (shares_live t.client.now (lease_on file t.client.leases)) refl));
+    reading = λ u file block free is. sent _ u _ _ refl free.called is free.unpaused (some-about _ _ file refl refl (reads file (shares_live t.client.now
+        (lease_on file t.client.leases)) refl));
     fetching = λ u file block free is. sent _ u _ _ refl free.called is free.unpaused (some-about _ _ file refl refl refl);
     writing = λ u file block body free is through. sent _ u _ _ refl free.called is free.unpaused (some-about _ _ file refl refl refl);
     leasing = λ u file block body free is through shares. sent _ u _ _ refl free.called is free.unpaused (some-about _ _ file refl refl refl);
@@ -168,9 +171,11 @@ module _ (c : Client) where
     busy = λ why. same-asks c _ refl refl refl (omega arith) m;
     telling = λ file loss losses idle on changes has. idle-asks c _ refl refl refl refl m;
     going = λ idle on none.
-        let asked : Asks (is_called (begins_call c op) op).client = other-asks _ (λ t asks job. let has = alone.asking.called t asks job in let bad : false ≡ true = ap is_some (sym idle) ∙ has in cc) in
+        let asked : Asks (is_called (begins_call c op) op).client = other-asks _ (λ t asks job. let has =
+        alone.asking.called t asks job in let bad : false ≡ true = ap is_some (sym idle) ∙ has in cc) in
         let settled = settles (is_called (begins_call c op) op) asked in
-        unless-cached-cases (settle (is_called (begins_call c op) op)) (λ v. Asks v.client) (λ cached. settled) (λ other. sends (settle (is_called (begins_call c op) op)) settled false);
+        unless-cached-cases (settle (is_called (begins_call c op) op)) (λ v. Asks v.client) (λ cached. settled) (λ other. sends (settle (is_called
+        (begins_call c op) op)) settled false);
   })
 
   tick-asks : Asks c → Asks (client_tick c (c.now + 1)).client
@@ -199,7 +204,8 @@ acted w host c t (ticked is) own m = subst (λ (v : ClientStep). Asks v.client) 
 acted w host c t (restarted is) own m = subst (λ (v : ClientStep). Asks v.client) (sym is) (restart-asks c)
 acted w host c t (heard k p sent to hears) own m = hear-asks c k p.message t own m hears
 
-client-asks : (w : World) (host : ℕ) (c : Client) (t : ClientStep) → slice_get w.clients host ≡ Some c → ClientActs w host c t → Holds w → EachAsks w → EachAsks (after_client w host t)
+client-asks : (w : World) (host : ℕ) (c : Client) (t : ClientStep) → slice_get w.clients host ≡ Some c → ClientActs w host c t → Holds w → EachAsks w
+    → EachAsks (after_client w host t)
 unfolding after_client EachAsks
 client-asks w host c t at acts before all = λ other d is. case other d (other == host) refl is
   where
@@ -229,7 +235,8 @@ first-asks head host c is =
 
 run-each : (head : Head) (events : List Event) → EachAsks (run head events)
 run-each head [] = first-asks head
-run-each head (e ∷ events) = changed-asks (run head events) (run head (e ∷ events)) (step-changes (run head events) e) (run-holds head events) (run-each head events)
+run-each head (e ∷ events) = changed-asks (run head events) (run head (e ∷ events)) (step-changes (run head events) e) (run-holds head events)
+    (run-each head events)
 
 pub run-asks : (head : Head) (events : List Event) (host : ℕ) (c : Client) → slice_get (run head events).clients host ≡ Some c → Asks c
 unfolding EachAsks

@@ -61,7 +61,8 @@ pub record Hearer (rows : List Row) (y : Packet) (ys : List Packet) (h : ℕ) (c
   pub told_on : (n f : ℕ) (row : Row) → find_row f h rows ≡ Some row → y ≡ to_host h (call n (Request.Evicted row.who f row.tag)) → Leaves c t f row
   pub waits_on : (n : Notice) (f : ℕ) (row : Row) → find_row f h rows ≡ Some row → notice_on f c.notices ≡ Some n → n.tag ≡ row.tag → Leaves c t f row
 
-module _ (rows : List Row) (clients : List Client) (y : Packet) (ys : List Packet) (h0 : ℕ) (m : Message) (c : Client) (t : ClientStep) (at : slice_get clients h0 ≡ Some c) (is : y ≡ to_host h0 m) (a : Hearer rows y ys h0 c t) where
+module _ (rows : List Row) (clients : List Client) (y : Packet) (ys : List Packet) (h0 : ℕ) (m : Message) (c : Client) (t : ClientStep)
+    (at : slice_get clients h0 ≡ Some c) (is : y ≡ to_host h0 m) (a : Hearer rows y ys h0 c t) where
   abbrev later : List Client
   later = slice_set clients h0 t.client
 
@@ -113,7 +114,8 @@ module _ (rows : List Row) (clients : List Client) (y : Packet) (ys : List Packe
         at = own-client;
         opened = v.1;
         unpaused = omega arith;
-        safe = λ l asks. safe-append h0 t.client l ys more (own-safe k one l asks (a.ticket l asks)) (safe-none h0 t.client l more (λ z i o. none-puts-off h0 t.client l h0 _ z i o));
+        safe = λ l asks. safe-append h0 t.client l ys more (own-safe k one l asks (a.ticket l asks)) (safe-none h0 t.client l more
+            (λ z i o. none-puts-off h0 t.client l h0 _ z i o));
       }
     where
       not-off : k.client ≡ c → (l : Ticket) → c.ticket ≡ Some l → PutsOff h0 c l y → ⊥
@@ -138,7 +140,8 @@ module _ (rows : List Row) (clients : List Client) (y : Packet) (ys : List Packe
     where
       whose : (e : Bool) → (h == h0) ≡ e → n.under.call ≡ k.under.call
       whose false e =
-          let one : k.client ≡ n.client = some-same k.client n.client (sym k.at ∙ sym (other-client h (λ same. let yes : (h == h0) ≡ true = number-same h h0 same in absurd (cc))) ∙ n.at) in
+          let one : k.client ≡ n.client = some-same k.client n.client (sym k.at ∙ sym (other-client h (λ same. let yes : (h == h0) ≡ true =
+          number-same h h0 same in absurd (cc))) ∙ n.at) in
           ap (λ (v : UnderWay). v.call) (some-same n.under k.under (sym n.opened ∙ ap (λ (d : Client). d.call) (sym one) ∙ k.opened))
       whose true e =
           let same : h ≡ h0 = same-number h h0 e in
@@ -157,7 +160,8 @@ module _ (rows : List Row) (clients : List Client) (y : Packet) (ys : List Packe
   goes-on f h row found (told n (inl e)) =
       let same : h0 ≡ h = (told-same h0 h m _ (sym is ∙ e)).0 in
       subst (λ i. Goes later (ys ++ more) f i row) same
-      (left f row (a.told_on n f row (subst (λ i. find_row f i rows ≡ Some row) (sym same) found) (e ∙ ap (λ i. to_host i (call n (Request.Evicted row.who f row.tag))) (sym same))))
+      (left f row (a.told_on n f row (subst (λ i. find_row f i rows ≡ Some row) (sym same) found) (e
+      ∙ ap (λ i. to_host i (call n (Request.Evicted row.who f row.tag))) (sym same))))
   goes-on f h row found (vacated n (inr i)) = vacated n (in-left ys more _ i)
   goes-on f h row found (vacated n (inl e)) = absurd (not-both h h0 _ m (sym e ∙ is))
   goes-on f h row found (waits d n there noted tag) = whose (h == h0) refl
@@ -168,13 +172,21 @@ module _ (rows : List Row) (clients : List Client) (y : Packet) (ys : List Packe
           let same : h ≡ h0 = same-number h h0 e in
           let one : d ≡ c = some-same d c (sym (subst (λ i. slice_get clients i ≡ Some d) same there) ∙ at) in
           subst (λ i. Goes later (ys ++ more) f i row) (sym same)
-          (left f row (a.waits_on n f row (subst (λ i. find_row f i rows ≡ Some row) same found) (ap (λ (z : Client). notice_on f z.notices) (sym one) ∙ noted) tag))
+          (left f row (a.waits_on n f row (subst (λ i. find_row f i rows ≡ Some row) same found) (ap (λ (z : Client). notice_on f z.notices) (sym one)
+          ∙ noted) tag))
 
   pub clear-on : (going : Bool) (host : ℕ) → Clear going rows clients (y ∷ ys) host → Clear going rows later (ys ++ more) host
   clear-on going host before d u f there opened file h row w = by (same-call (host == h0) refl)
     where
       same-call : (e : Bool) → (host == h0) ≡ e → (z : Client) × (v : UnderWay) × (slice_get clients host ≡ Some z) × (z.call ≡ Some v) × (u.call ≡ v.call)
-      same-call false e = (d, u, sym (other-client host (λ same. let yes : (host == h0) ≡ true = number-same host h0 same in absurd (cc))) ∙ there, opened, refl)
+      same-call false e = (
+        d,
+        u,
+        sym (other-client host (λ same. let yes : (host == h0) ≡ true = number-same host h0 same in absurd (cc)))
+            ∙ there,
+        opened,
+        refl,
+      )
       same-call true e =
           let same : host ≡ h0 = same-number host h0 e in
           let now : d ≡ t.client = some-same d t.client (sym there ∙ subst (λ i. slice_get later i ≡ Some t.client) (sym same) own-client) in
@@ -183,14 +195,20 @@ module _ (rows : List Row) (clients : List Client) (y : Packet) (ys : List Packe
 
       passes : Passes going clients (y ∷ ys) f h row → Passes going later (ys ++ more) f h row
       passes (goes may to_go way) = goes may to_go (goes-on f h row w.found way)
-      passes (hoped k) = let n = hopes-on h k.hope in hoped (record { hope = n; wished = wish-call k.hope.under n.under f row.mode (under-same h k.hope n) k.wished })
+      passes (hoped k) = let n = hopes-on h k.hope in hoped (record {
+        hope = n;
+        wished = wish-call k.hope.under n.under f row.mode
+            (under-same h k.hope n) k.wished;
+      })
 
       by : (z : Client) × (v : UnderWay) × (slice_get clients host ≡ Some z) × (z.call ≡ Some v) × (u.call ≡ v.call) → Passes going later (ys ++ more) f h row
       by s = passes (before s.0 s.1 f s.2 s.3 (ap file_of_call (sym s.4) ∙ file) h row (subst (λ z. InWay rows host f z h row) (ap access_of_call s.4) w))
 
 -- ---- a packet that is ignored
 
-module _ (rows : List Row) (clients : List Client) (y : Packet) (ys : List Packet) (h0 : ℕ) (m : Message) (is : y ≡ to_host h0 m) (deaf : (c : Client) → slice_get clients h0 ≡ Some c → (l : Ticket) → Cancels h0 c l y → ⊥) (unnamed : (n f : ℕ) (row : Row) → find_row f h0 rows ≡ Some row → y ≡ to_host h0 (call n (Request.Evicted row.who f row.tag)) → ⊥) where
+module _ (rows : List Row) (clients : List Client) (y : Packet) (ys : List Packet) (h0 : ℕ) (m : Message) (is : y ≡ to_host h0 m) (deaf : (c : Client)
+    → slice_get clients h0 ≡ Some c → (l : Ticket) → Cancels h0 c l y → ⊥) (unnamed : (n f : ℕ) (row : Row) → find_row f h0 rows ≡ Some row
+    → y ≡ to_host h0 (call n (Request.Evicted row.who f row.tag)) → ⊥) where
   pub ignored-hopes : (h : ℕ) → Hopeful clients (y ∷ ys) h → Hopeful clients ys h
   ignored-hopes h k = record {
     client = k.client;
@@ -213,7 +231,8 @@ module _ (rows : List Row) (clients : List Client) (y : Packet) (ys : List Packe
   ignored-goes f h row found (vacated n (inl e)) = absurd (not-both h h0 _ m (sym e ∙ is))
   ignored-goes f h row found (told n (inl e)) =
       let same : h0 ≡ h = (told-same h0 h m _ (sym is ∙ e)).0 in
-      absurd (unnamed n f row (subst (λ i. find_row f i rows ≡ Some row) (sym same) found) (e ∙ ap (λ i. to_host i (call n (Request.Evicted row.who f row.tag))) (sym same)))
+      absurd (unnamed n f row (subst (λ i. find_row f i rows ≡ Some row) (sym same) found) (e
+      ∙ ap (λ i. to_host i (call n (Request.Evicted row.who f row.tag))) (sym same)))
 
   pub ignored-clear : (going : Bool) (host : ℕ) → Clear going rows clients (y ∷ ys) host → Clear going rows clients ys host
   unfolding ignored-hopes

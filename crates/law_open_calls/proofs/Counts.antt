@@ -15,9 +15,11 @@ use Rattle.law_answered.proofs.Calling.{StillOpen, hear-keeps}
 use Rattle.law_answered.proofs.LookTickets.{tick-opens}
 pub use Rattle.law_open_calls.specs.CallsAnswered.{one_if_open, open_calls}
 
-pub one-set : (clients : List Client) (h : ℕ) (c d : Client) → slice_get clients h ≡ Some c → open_calls (slice_set clients h d) + one_if_open c.call ≡ open_calls clients + one_if_open d.call
+pub one-set : (clients : List Client) (h : ℕ) (c d : Client) → slice_get clients h ≡ Some c
+    → open_calls (slice_set clients h d) + one_if_open c.call ≡ open_calls clients + one_if_open d.call
 one-set [] h c d is = none-some c is
-one-set (e ∷ clients) zero c d is = let same : one_if_open e.call ≡ one_if_open c.call = ap (λ (x : Client). one_if_open x.call) (some-same e c is) in omega arith
+one-set (e ∷ clients) zero c d is = let same : one_if_open e.call ≡ one_if_open c.call = ap (λ (x : Client). one_if_open x.call)
+    (some-same e c is) in omega arith
 one-set (e ∷ clients) (suc h) c d is = let rest = one-set clients h c d is in omega arith
 
 -- a call that is open now was open before
@@ -27,14 +29,16 @@ still-less None (Some u) s = let v = s u refl in none-some v.0 v.1
 still-less (Some w) (Some u) s = omega arith
 
 -- where it ends there are fewer
-pub ended-fewer : (clients : List Client) (h : ℕ) (c d : Client) (u : UnderWay) → slice_get clients h ≡ Some c → c.call ≡ Some u → d.call ≡ None → open_calls (slice_set clients h d) < open_calls clients
+pub ended-fewer : (clients : List Client) (h : ℕ) (c d : Client) (u : UnderWay) → slice_get clients h ≡ Some c → c.call ≡ Some u → d.call ≡ None
+    → open_calls (slice_set clients h d) < open_calls clients
 ended-fewer clients h c d u at was now =
     let sum = one-set clients h c d at in
     let one : one_if_open c.call ≡ 1 = ap one_if_open was in
     let zero_then : one_if_open d.call ≡ 0 = ap one_if_open now in
     omega arith
 
-stepped-less : (w : World) (h : ℕ) (c : Client) (t : ClientStep) → slice_get w.clients h ≡ Some c → StillOpen c.call t.client.call → open_calls (after_client w h t).clients ≤ open_calls w.clients
+stepped-less : (w : World) (h : ℕ) (c : Client) (t : ClientStep) → slice_get w.clients h ≡ Some c → StillOpen c.call t.client.call
+    → open_calls (after_client w h t).clients ≤ open_calls w.clients
 unfolding after_client
 stepped-less w h c t at s =
     let sum = one-set w.clients h c t.client at in
@@ -50,7 +54,8 @@ delivered-less w holds k = by (delivery w k)
 
     by : Delivery w k (step w (Event.Deliver k)) → open_calls (step w (Event.Deliver k)).clients ≤ open_calls w.clients
     by (no_packet none is) = same is
-    by (at_server q sent to is) = let e : open_calls (step w (Event.Deliver k)).clients ≡ open_calls w.clients = ap (λ (v : World). open_calls v.clients) is in omega arith
+    by (at_server q sent to is) = let e : open_calls (step w (Event.Deliver k)).clients ≡ open_calls w.clients = ap (λ
+        (v : World). open_calls v.clients) is in omega arith
     by (ignored h q c sent to at hears is) = same is
     by (no_client h q sent to none is) = same is
     by (at_host h q c t sent to at hears is) =
@@ -72,7 +77,8 @@ module _ (most : ℕ) (head : Head) where
 
 -- ---- ticks
 
-tick-less : (w : World) (h : ℕ) (o : Option Client) → slice_get w.clients h ≡ o → open_calls (at_client w h (λ c. client_tick c (c.now + 1)) o).clients ≤ open_calls w.clients
+tick-less : (w : World) (h : ℕ) (o : Option Client) → slice_get w.clients h ≡ o → open_calls (at_client w h (λ c. client_tick c
+    (c.now + 1)) o).clients ≤ open_calls w.clients
 tick-less w h None at = omega arith
 tick-less w h (Some c) at = stepped-less w h c (client_tick c (c.now + 1)) at (λ u is. let v = tick-opens c u is in (v.0, v.1, v.2))
 
@@ -111,6 +117,7 @@ pub some-open : (clients : List Client) → 0 < open_calls clients → (h : ℕ)
 some-open [] some = absurd (omega arith)
 some-open (c ∷ clients) some = by (λ more. some-open clients more) c.call refl
   where
-    by : (0 < open_calls clients → (h : ℕ) × (d : Client) × (u : UnderWay) × (slice_get clients h ≡ Some d) × (d.call ≡ Some u)) → (o : Option UnderWay) → c.call ≡ o → (h : ℕ) × (d : Client) × (u : UnderWay) × (slice_get (c ∷ clients) h ≡ Some d) × (d.call ≡ Some u)
+    by : (0 < open_calls clients → (h : ℕ) × (d : Client) × (u : UnderWay) × (slice_get clients h ≡ Some d) × (d.call ≡ Some u)) → (o : Option UnderWay)
+        → c.call ≡ o → (h : ℕ) × (d : Client) × (u : UnderWay) × (slice_get (c ∷ clients) h ≡ Some d) × (d.call ≡ Some u)
     by again (Some u) e = (0, c, u, refl, e)
     by again None e = let f = again (let zero_one : one_if_open c.call ≡ 0 = ap one_if_open e in omega arith) in (suc f.0, f.1, f.2, f.3, f.4)

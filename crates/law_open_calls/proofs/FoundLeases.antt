@@ -44,14 +44,16 @@ used-found f leases all l i =
 dropped-found : (f : ℕ) (leases : List Lease) → AreFound leases → AreFound (drop_lease f leases)
 dropped-found f leases all l i =
     let m = in-filter (λ (z : Lease). not (z.file == f)) leases l i in
-    other-lease-dropped f l.file leases (λ same. let yes : (l.file == f) ≡ true = number-same l.file f same in let no : not (l.file == f) ≡ false = ap not yes in absurd (cc)) ∙ all l m.0
+    other-lease-dropped f l.file leases (λ same. let yes : (l.file == f) ≡ true = number-same l.file f same in let no : not (l.file == f) ≡ false =
+    ap not yes in absurd (cc)) ∙ all l m.0
 
 in-insert : (x : Lease) (ys : List Lease) (l : Lease) → In (insert_by file_of_lease x ys) l → (x ≡ l) ⊎ In ys l
 in-insert x [] l (inl e) = inl e
 in-insert x [] l (inr bad) = absurd bad
 in-insert x (y ∷ ys) l i = by (nat_lt x.file y.file) (λ j. in-insert x ys l j) i
   where
-    by : (b : Bool) → (In (insert_by file_of_lease x ys) l → (x ≡ l) ⊎ In ys l) → In (if b then x ∷ y ∷ ys else y ∷ insert_by file_of_lease x ys) l → (x ≡ l) ⊎ In (y ∷ ys) l
+    by : (b : Bool) → (In (insert_by file_of_lease x ys) l → (x ≡ l) ⊎ In ys l) → In (if b then x ∷ y ∷ ys else y ∷ insert_by file_of_lease x ys) l
+        → (x ≡ l) ⊎ In (y ∷ ys) l
     by true again (inl e) = inl e
     by true again (inr j) = inr j
     by false again (inl e) = inr (inl e)
@@ -68,7 +70,8 @@ put-found x leases all l i = by (in-insert x (drop_lease x.file leases) l i)
     by (inl e) = put-lease-found x l.file leases (ap (λ (z : Lease). z.file) (sym e)) ∙ ap Some e
     by (inr j) =
         let m = in-filter (λ (z : Lease). not (z.file == x.file)) leases l j in
-        other-lease-put x l.file leases (λ same. let yes : (l.file == x.file) ≡ true = number-same l.file x.file same in let no : not (l.file == x.file) ≡ false = ap not yes in absurd (cc)) ∙ all l m.0
+        other-lease-put x l.file leases (λ same. let yes : (l.file == x.file) ≡ true = number-same l.file x.file same in let no : not
+        (l.file == x.file) ≡ false = ap not yes in absurd (cc)) ∙ all l m.0
 
 abbrev pub FoundIn : Core → Type 0
 FoundIn k = AreFound k.leases
@@ -94,7 +97,8 @@ any-heard f tag = Unit {0}
 abbrev no-given : ℕ → Grant → ℕ → Type 0
 no-given f g sent = ⊥
 
-hear-found : (host : ℕ) (c : Client) (k : ℕ) (m : Message) (t : ClientStep) (ps : _) → IsAt host c ps → Told ps host m → AreFound c.leases → hear c k m ≡ Some t → AreFound t.client.leases
+hear-found : (host : ℕ) (c : Client) (k : ℕ) (m : Message) (t : ClientStep) (ps : _) → IsAt host c ps → Told ps host m → AreFound c.leases
+    → hear c k m ≡ Some t → AreFound t.client.leases
 hear-found host c k m t ps a mail all hears = heard-cases c k m t (λ (u : ClientStep). AreFound u.client.leases) hears (record {
   answered = λ xid r ticket is asks own inc counts. (reply-keeps (found-closed any-heard (given-by ticket)) c k ticket r (record {
     asked = asks;
@@ -102,7 +106,11 @@ hear-found host c k m t ps a mail all hears = heard-cases c k m t (λ (u : Clien
     alone = a.alone;
     spent = λ other. all;
     attached = λ job. all;
-    brings = λ file on g grants. (on, (a.mail.replied xid r (subst (λ n. Told ps n (reply xid r)) (sym a.here) (subst (λ z. Told ps host z) is mail)) inc).wants ticket asks (sym own) g grants file on);
+    brings = λ file on g grants. (
+      on,
+      (a.mail.replied xid r (subst (λ n. Told ps n (reply xid r)) (sym a.here) (subst
+          (λ z. Told ps host z) is mail)) inc).wants ticket asks (sym own) g grants file on,
+    );
     only = λ file g sent given. given;
   })).core;
   noticed = λ xid file tag is older. (notice-keeps (found-closed any-heard no-given) c file tag tt (λ g sent bad. bad) a.alone all).core;
@@ -115,16 +123,19 @@ tick-found c alone all = (tick-keeps (found-closed any-heard no-given) c (c.now 
 EachFound : World → Type 0
 EachFound w = (host : ℕ) (c : Client) → slice_get w.clients host ≡ Some c → AreFound c.leases
 
-acted : (w : World) (host : ℕ) (c : Client) (t : ClientStep) → slice_get w.clients host ≡ Some c → Holds w → ClientActs w host c t → AreFound c.leases → AreFound t.client.leases
+acted : (w : World) (host : ℕ) (c : Client) (t : ClientStep) → slice_get w.clients host ≡ Some c → Holds w → ClientActs w host c t → AreFound c.leases
+    → AreFound t.client.leases
 unfolding starts fresh_client
-acted w host c t at holds (called op is) all = subst (λ (v : ClientStep). AreFound v.client.leases) (sym is) (call-keeps (found-closed any-heard no-given) c op (holds.clients host c at).alone all).core
+acted w host c t at holds (called op is) all = subst (λ (v : ClientStep). AreFound v.client.leases) (sym is) (call-keeps
+    (found-closed any-heard no-given) c op (holds.clients host c at).alone all).core
 acted w host c t at holds (ticked is) all = subst (λ (v : ClientStep). AreFound v.client.leases) (sym is) (tick-found c (holds.clients host c at).alone all)
 acted w host c t at holds (restarted is) all = subst (λ (v : ClientStep). AreFound v.client.leases) (sym is) (λ l i. absurd i)
 acted w host c t at holds (heard k p sent to hears) all =
     let i = in-get w.packets k p sent in
     hear-found host c k p.message t w.packets (holds.clients host c at) (to-told w.packets p host (holds.sent p i) to i) all hears
 
-client-found : (w : World) (host : ℕ) (c : Client) (t : ClientStep) → slice_get w.clients host ≡ Some c → ClientActs w host c t → Holds w → EachFound w → EachFound (after_client w host t)
+client-found : (w : World) (host : ℕ) (c : Client) (t : ClientStep) → slice_get w.clients host ≡ Some c → ClientActs w host c t → Holds w → EachFound w
+    → EachFound (after_client w host t)
 unfolding after_client EachFound
 client-found w host c t at acts holds all = λ other d is. case other d (other == host) refl is
   where
@@ -152,7 +163,8 @@ first-found head host c is = subst (λ (x : Client). AreFound x.leases) (sym (fi
 
 run-each : (head : Head) (events : List Event) → EachFound (run head events)
 run-each head [] = first-found head
-run-each head (e ∷ events) = changed-found (run head events) (run head (e ∷ events)) (step-changes (run head events) e) (run-holds head events) (run-each head events)
+run-each head (e ∷ events) = changed-found (run head events) (run head (e ∷ events)) (step-changes (run head events) e) (run-holds head events)
+    (run-each head events)
 
 pub run-found : (head : Head) (events : List Event) (host : ℕ) (c : Client) → slice_get (run head events).clients host ≡ Some c → AreFound c.leases
 unfolding EachFound

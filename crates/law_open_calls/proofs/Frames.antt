@@ -60,7 +60,12 @@ second-moves w v q q' (all_but b others clear now hope) h = by (h.host == b) ref
   where
     by : (e : Bool) → (h.host == b) ≡ e → SomeHopes v q'
     by true e = let n = hope (h.clear b) in record { clear = λ a. clear false a (h.clear a); host = n.0; hopes = n.1 }
-    by false e = record { clear = λ a. clear false a (h.clear a); host = h.host; hopes = others h.host (λ same. let yes : (h.host == b) ≡ true = number-same h.host b same in absurd (cc)) h.hopes }
+    by false e = record {
+      clear = λ a. clear false a (h.clear a);
+      host = h.host;
+      hopes = others h.host (λ same. let yes : (h.host == b) ≡ true =
+          number-same h.host b same in absurd (cc)) h.hopes;
+    }
 
 -- ---- at the end of a delivery
 
@@ -84,13 +89,15 @@ no-hope w q quiet h x =
     let early = x.unpaused in
     absurd (omega arith)
 
-none-passes : (w : World) → ((host : ℕ) (c : Client) → slice_get w.clients host ≡ Some c → IsQuiet c) → (g : Bool) (f h : ℕ) (row : Row) → Passes g w.clients [] f h row → ⊥
+none-passes : (w : World) → ((host : ℕ) (c : Client) → slice_get w.clients host ≡ Some c → IsQuiet c) → (g : Bool) (f h : ℕ) (row : Row)
+    → Passes g w.clients [] f h row → ⊥
 none-passes w quiet g f h row (hoped k) = no-hope w [] quiet h k.hope
 none-passes w quiet g f h row (goes may to_go (told n i)) = i
 none-passes w quiet g f h row (goes may to_go (vacated n i)) = i
 none-passes w quiet g f h row (goes may to_go (waits c n at noted tag)) = none-some n (sym ((quiet h c at).no_notice f) ∙ noted)
 
-pub clear-none : (w : World) → ((host : ℕ) (c : Client) → slice_get w.clients host ≡ Some c → IsQuiet c) → (g : Bool) (a : ℕ) → Clear g w.server.table.rows w.clients [] a → NoWay w a
+pub clear-none : (w : World) → ((host : ℕ) (c : Client) → slice_get w.clients host ≡ Some c → IsQuiet c) → (g : Bool) (a : ℕ)
+    → Clear g w.server.table.rows w.clients [] a → NoWay w a
 clear-none w quiet g a clear c u f at has file h row way = none-passes w quiet g f h row (clear c u f at has file h row way)
 
 pub none-clear : (w : World) (q : List Packet) (g : Bool) (a : ℕ) → NoWay w a → Clear g w.server.table.rows w.clients q a
@@ -98,34 +105,39 @@ none-clear w q g a none c u f at has file h row way = absurd (none c u f at has 
 
 -- ---- a whole delivery
 
-module _ (most : ℕ) (head : Head) (F : World → List Packet → Type 0) (moves : (w v : World) (q q' : List Packet) → Moves w v q q' → Paused w v → F w q → F v q') where
-    -- either a call is answered, or the frame stands
-    pub data Ends (p : Play) (count : ℕ) : Type 0 where
-      answered : open_calls p.world.clients < count → Ends p count
-      stands : State most head p → F p.world (queue p) → Ends p count
+module _ (most : ℕ) (head : Head) (F : World → List Packet → Type 0) (moves : (w v : World) (q q' : List Packet) → Moves w v q q' → Paused w v → F w q
+    → F v q') where
+  -- either a call is answered, or the frame stands
+  pub data Ends (p : Play) (count : ℕ) : Type 0 where
+    answered : open_calls p.world.clients < count → Ends p count
+    stands : State most head p → F p.world (queue p) → Ends p count
 
-    ends-flow : (n : ℕ) (p : Play) → State most head p → F p.world (queue p) → Ends (play_flow n p) (open_calls p.world.clients)
-    ends-flow zero p st f = stands st f
-    ends-flow (suc n) p st f = first p.fresh refl (ends-flow n)
-      where
-        again : (k : ℕ) (ks : List ℕ) → (e : p.fresh ≡ k ∷ ks) → ((q : Play) → State most head q → F q.world (queue q) → Ends (play_flow n q) (open_calls q.world.clients)) → Delivered most head p st k ks e → Ends (play_flow n (play p (Event.Deliver k))) (open_calls p.world.clients)
-        again k ks e rec (fewer less) =
-            let l = flows most head 1 p st.lawful in
-            let one : flow_first p.fresh p ≡ play p (Event.Deliver k) = ap (λ fs. flow_first fs p) e in
-            let later = flow-less most head n (play p (Event.Deliver k)) (subst (λ (q : Play). IsLawful most head q) one l) in
-            answered (omega arith)
-        again k ks e rec (goes_on_so next m s) =
-            let l = flows most head 0 p st.lawful in
-            let one : open_calls (play p (Event.Deliver k)).world.clients ≤ open_calls p.world.clients = first-less most head (k ∷ ks) p l in
-            widen one (rec (play p (Event.Deliver k)) next (moves p.world (play p (Event.Deliver k)).world (queue p) (queue (play p (Event.Deliver k))) m s f))
-          where
-            widen : {q : Play} → open_calls (play p (Event.Deliver k)).world.clients ≤ open_calls p.world.clients → Ends q (open_calls (play p (Event.Deliver k)).world.clients) → Ends q (open_calls p.world.clients)
-            widen less (answered a) = answered (omega arith)
-            widen less (stands s g) = stands s g
+  ends-flow : (n : ℕ) (p : Play) → State most head p → F p.world (queue p) → Ends (play_flow n p) (open_calls p.world.clients)
+  ends-flow zero p st f = stands st f
+  ends-flow (suc n) p st f = first p.fresh refl (ends-flow n)
+    where
+      again : (k : ℕ) (ks : List ℕ) → (e : p.fresh ≡ k ∷ ks) → ((q : Play) → State most head q → F q.world (queue q)
+          → Ends (play_flow n q) (open_calls q.world.clients)) → Delivered most head p st k ks e
+          → Ends (play_flow n (play p (Event.Deliver k))) (open_calls p.world.clients)
+      again k ks e rec (fewer less) =
+          let l = flows most head 1 p st.lawful in
+          let one : flow_first p.fresh p ≡ play p (Event.Deliver k) = ap (λ fs. flow_first fs p) e in
+          let later = flow-less most head n (play p (Event.Deliver k)) (subst (λ (q : Play). IsLawful most head q) one l) in
+          answered (omega arith)
+      again k ks e rec (goes_on_so next m s) =
+          let l = flows most head 0 p st.lawful in
+          let one : open_calls (play p (Event.Deliver k)).world.clients ≤ open_calls p.world.clients = first-less most head (k ∷ ks) p l in
+          widen one (rec (play p (Event.Deliver k)) next (moves p.world (play p (Event.Deliver k)).world (queue p) (queue (play p (Event.Deliver k))) m s f))
+        where
+          widen : {q : Play} → open_calls (play p (Event.Deliver k)).world.clients ≤ open_calls p.world.clients
+              → Ends q (open_calls (play p (Event.Deliver k)).world.clients) → Ends q (open_calls p.world.clients)
+          widen less (answered a) = answered (omega arith)
+          widen less (stands s g) = stands s g
 
-        first : (fs : List ℕ) → p.fresh ≡ fs → ((q : Play) → State most head q → F q.world (queue q) → Ends (play_flow n q) (open_calls q.world.clients)) → Ends (play_flow n (flow_first fs p)) (open_calls p.world.clients)
-        first [] e rec = rec p st f
-        first (k ∷ ks) e rec = again k ks e rec (delivers most head p st k ks e)
+      first : (fs : List ℕ) → p.fresh ≡ fs → ((q : Play) → State most head q → F q.world (queue q) → Ends (play_flow n q) (open_calls q.world.clients))
+          → Ends (play_flow n (flow_first fs p)) (open_calls p.world.clients)
+      first [] e rec = rec p st f
+      first (k ∷ ks) e rec = again k ks e rec (delivers most head p st k ks e)
 
-    pub flow-ends : (n : ℕ) (p : Play) → State most head p → F p.world (queue p) → Ends (play_flow n p) (open_calls p.world.clients)
-    flow-ends = ends-flow
+  pub flow-ends : (n : ℕ) (p : Play) → State most head p → F p.world (queue p) → Ends (play_flow n p) (open_calls p.world.clients)
+  flow-ends = ends-flow

@@ -88,9 +88,9 @@ module _ (most : ℕ) (head : Head) where
       (receive p.world.server b next (datagram_of (call x r))).server.table.rows (receive p.world.server b next (datagram_of (call x r))).sends b who x r
   served p l serves b x next r who asks from inc new c at =
       let unique : HasUniqueKeys p.world.server.table.rows =
-          subst (λ (u : World). HasUniqueKeys u.server.table.rows) (sym l.is_run) (keys-unique most head p.events l.bounds l.within) in
+      subst (λ (u : World). HasUniqueKeys u.server.table.rows) (sym l.is_run) (keys-unique most head p.events l.bounds l.within) in
       let few = l.bounds.hosts in
       let low = below p l b c at in
       served-by p.world.server b x next r who unique serves asks from (ap (λ h. (host_row p.world.server.kept h).inc) from ∙ inc)
       (λ n sq. let up = new n sq in let same : (host_row p.world.server.kept who.host).seq ≡ (host_row p.world.server.kept b).seq =
-          ap (λ h. (host_row p.world.server.kept h).seq) from in omega arith) (omega arith)
+      ap (λ h. (host_row p.world.server.kept h).seq) from in omega arith) (omega arith)

@@ -64,7 +64,8 @@ any-notice f tag = Unit {0}
 abbrev no-grant : ℕ → Grant → ℕ → Type 0
 no-grant f g sent = ⊥
 
-fewer-by : (c : Client) (k : Core) (less : List Lease) → ((f : ℕ) (l : Lease) → lease_on f less ≡ Some l → (m : Lease) × (lease_on f k.leases ≡ Some m) × (l.tag ≡ m.tag)) → Fewer c k → (f : ℕ) (l : Lease) → lease_on f less ≡ Some l → (m : Lease) × (lease_on f c.leases ≡ Some m) × (l.tag ≡ m.tag)
+fewer-by : (c : Client) (k : Core) (less : List Lease) → ((f : ℕ) (l : Lease) → lease_on f less ≡ Some l → (m : Lease) × (lease_on f k.leases ≡ Some m)
+    × (l.tag ≡ m.tag)) → Fewer c k → (f : ℕ) (l : Lease) → lease_on f less ≡ Some l → (m : Lease) × (lease_on f c.leases ≡ Some m) × (l.tag ≡ m.tag)
 fewer-by c k less from h f l is = let m = from f l is in let n = h.less f m.0 m.1 in (n.0, n.1, m.2 ∙ n.2)
 
 fewer-closed : (c : Client) → Closed any-notice no-grant (Fewer c)
@@ -81,7 +82,8 @@ fewer-closed c = record {
 }
 
 -- a notice leaves no lease with a later tag
-notice-less : (c : Client) (file : ℕ) (tag : Tag) → Alone c → (g : ℕ) (other : Tag) → holds_later other (lease_on g c.leases) ≡ false → holds_later other (lease_on g (goes_on (evicted (cancels (begun c) file) file tag)).client.leases) ≡ false
+notice-less : (c : Client) (file : ℕ) (tag : Tag) → Alone c → (g : ℕ) (other : Tag) → holds_later other (lease_on g c.leases) ≡ false
+    → holds_later other (lease_on g (goes_on (evicted (cancels (begun c) file) file tag)).client.leases) ≡ false
 notice-less c file tag alone g other e = by (lease_on g (goes_on (evicted (cancels (begun c) file) file tag)).client.leases) refl
   where
     fewer : Fewer c (core_of (goes_on (evicted (cancels (begun c) file) file tag)))
@@ -105,14 +107,16 @@ record Named (who : Who) (f : ℕ) (tag : Tag) (k : Core) : Type 0 where
   mine : k.who ≡ who
   way : Way who f tag k.notices k.sends
 
-more-sent : (who : Who) (f : ℕ) (tag : Tag) (notices : List Notice) (sends : List Message) (m : Message) → Way who f tag notices sends → Way who f tag notices (sends ++ m ∷ [])
+more-sent : (who : Who) (f : ℕ) (tag : Tag) (notices : List Notice) (sends : List Message) (m : Message) → Way who f tag notices sends
+    → Way who f tag notices (sends ++ m ∷ [])
 more-sent who f tag notices sends m (waiting n noted is) = waiting n noted is
 more-sent who f tag notices sends m (given_up x i) = given_up x (in-left sends (m ∷ []) _ i)
 
 abbrev no-notice : ℕ → Tag → Type 0
 no-notice f tag = ⊥
 
-vacated-way : (who : Who) (f : ℕ) (tag : Tag) (k : Core) (file : ℕ) (given : Tag) → ((n : Notice) × (notice_on file k.notices ≡ Some n) × (given ≡ n.tag)) → k.who ≡ who → Way who f tag k.notices k.sends → Way who f tag (drop_notice file k.notices) (k.sends ++ call k.xid (Request.Vacated k.who file given) ∷ [])
+vacated-way : (who : Who) (f : ℕ) (tag : Tag) (k : Core) (file : ℕ) (given : Tag) → ((n : Notice) × (notice_on file k.notices ≡ Some n) × (given ≡ n.tag))
+    → k.who ≡ who → Way who f tag k.notices k.sends → Way who f tag (drop_notice file k.notices) (k.sends ++ call k.xid (Request.Vacated k.who file given) ∷ [])
 vacated-way who f tag k file given source mine (given_up x i) = given_up x (in-left k.sends _ _ i)
 vacated-way who f tag k file given source mine (waiting n noted is) = which (f == file) refl
   where
@@ -122,7 +126,9 @@ vacated-way who f tag k file given source mine (waiting n noted is) = which (f =
         let here : f ≡ file = same-number f file e in
         let one : source.0 ≡ n = some-same source.0 n (sym source.1 ∙ subst (λ g. notice_on g k.notices ≡ Some n) here noted) in
         let tags : given ≡ tag = source.2 ∙ ap (λ (z : Notice). z.tag) one ∙ is in
-        given_up k.xid (in-right k.sends (call k.xid (Request.Vacated k.who file given) ∷ []) _ (inl (ap (λ w. call k.xid (Request.Vacated w file given)) mine ∙ ap (λ g. call k.xid (Request.Vacated who g given)) (sym here) ∙ ap (λ v. call k.xid (Request.Vacated who f v)) tags)))
+        given_up k.xid (in-right k.sends (call k.xid (Request.Vacated k.who file given) ∷ []) _ (inl (ap (λ w. call k.xid
+        (Request.Vacated w file given)) mine ∙ ap (λ g. call k.xid (Request.Vacated who g given)) (sym here)
+        ∙ ap (λ v. call k.xid (Request.Vacated who f v)) tags)))
 
 named-closed : (who : Who) (f : ℕ) (tag : Tag) (Given : ℕ → Grant → ℕ → Type 0) → Closed no-notice Given (Named who f tag)
 named-closed who f tag Given = record {
@@ -137,7 +143,8 @@ named-closed who f tag Given = record {
   notes = λ k file tag heard h. absurd heard;
 }
   where
-    from : (k : Core) (file : ℕ) (given : Tag) → ((n : Notice) × (notice_on file k.notices ≡ Some n) × (given ≡ n.tag)) ⊎ ⊥ → k.who ≡ who → Way who f tag k.notices k.sends → Way who f tag (drop_notice file k.notices) (k.sends ++ call k.xid (Request.Vacated k.who file given) ∷ [])
+    from : (k : Core) (file : ℕ) (given : Tag) → ((n : Notice) × (notice_on file k.notices ≡ Some n) × (given ≡ n.tag)) ⊎ ⊥ → k.who ≡ who
+        → Way who f tag k.notices k.sends → Way who f tag (drop_notice file k.notices) (k.sends ++ call k.xid (Request.Vacated k.who file given) ∷ [])
     from k file given (inl source) mine way = vacated-way who f tag k file given source mine way
     from k file given (inr bad) mine way = absurd bad
 
@@ -206,7 +213,8 @@ module _ (c : Client) (file : ℕ) (tag : Tag) (alone : Alone c) where
   own-way fits = evicted-cases (cancels (begun c) file) file tag (λ u. Way c.who file tag (goes_on u).client.notices (goes_on u).sends) (record {
     clean = λ e. given_up c.xid ((goes-behind (vacates_lease (cancels (begun c) file) file tag)).sends _ (inl refl));
     waiting = λ e. waiting (record { file = file; tag = noticed_tag tag (notice_on file c.notices) })
-        (ap (notice_on file) (goes-behind (notes_notice (cancels (begun c) file) file tag)).notices ∙ put-notice-found (record { file = file; tag = noticed_tag tag (notice_on file c.notices) }) file c.notices refl)
+        (ap (notice_on file) (goes-behind (notes_notice (cancels (begun c) file) file tag)).notices
+        ∙ put-notice-found (record { file = file; tag = noticed_tag tag (notice_on file c.notices) }) file c.notices refl)
         (later (notice_on file c.notices) refl);
   })
     where
@@ -215,7 +223,8 @@ module _ (c : Client) (file : ℕ) (tag : Tag) (alone : Alone c) where
       later (Some n) e = later-of-two n.tag tag (fits n e)
 
   -- one that waits
-  waits-way : (f : ℕ) (n : Notice) → notice_on f c.notices ≡ Some n → (f ≡ file → tag_below n.tag tag ≡ false) → Way c.who f n.tag heard-notice.client.notices heard-notice.sends
+  waits-way : (f : ℕ) (n : Notice) → notice_on f c.notices ≡ Some n → (f ≡ file → tag_below n.tag tag ≡ false)
+      → Way c.who f n.tag heard-notice.client.notices heard-notice.sends
   unfolding cancels vacates_lease notes_notice
   waits-way f n noted fits = evicted-cases (cancels (begun c) file) file tag (λ u. Way c.who f n.tag (goes_on u).client.notices (goes_on u).sends) (record {
     clean = λ e. which-clean e (f == file) refl;
@@ -225,24 +234,31 @@ module _ (c : Client) (file : ℕ) (tag : Tag) (alone : Alone c) where
       differ : (f == file) ≡ false → f ≢ file
       differ e one = let yes : (f == file) ≡ true = number-same f file one in absurd (cc)
 
-      which-clean : is_clean c file ≡ true → (e : Bool) → (f == file) ≡ e → Way c.who f n.tag (goes_on (vacates_lease (cancels (begun c) file) file tag)).client.notices (goes_on (vacates_lease (cancels (begun c) file) file tag)).sends
+      which-clean : is_clean c file ≡ true → (e : Bool) → (f == file) ≡ e → Way c.who f n.tag (goes_on (vacates_lease (cancels
+          (begun c) file) file tag)).client.notices (goes_on (vacates_lease (cancels (begun c) file) file tag)).sends
       which-clean clean true e =
           let dirty : is_clean c file ≡ false = alone.delaying.noticed file n (subst (λ g. notice_on g c.notices ≡ Some n) (same-number f file e) noted) in
           absurd (cc)
-      which-clean clean false e = waiting n (ap (notice_on f) (goes-behind (vacates_lease (cancels (begun c) file) file tag)).notices ∙ other-notice-dropped file f c.notices (differ e) ∙ noted) refl
+      which-clean clean false e = waiting n (ap (notice_on f) (goes-behind (vacates_lease (cancels (begun c) file) file tag)).notices
+          ∙ other-notice-dropped file f c.notices (differ e) ∙ noted) refl
 
-      which-waits : (e : Bool) → (f == file) ≡ e → Way c.who f n.tag (goes_on (notes_notice (cancels (begun c) file) file tag)).client.notices (goes_on (notes_notice (cancels (begun c) file) file tag)).sends
-      which-waits false e = waiting n (ap (notice_on f) (goes-behind (notes_notice (cancels (begun c) file) file tag)).notices ∙ other-notice-put (record { file = file; tag = noticed_tag tag (notice_on file c.notices) }) f c.notices (differ e) ∙ noted) refl
+      which-waits : (e : Bool) → (f == file) ≡ e → Way c.who f n.tag (goes_on (notes_notice (cancels (begun c) file) file tag)).client.notices (goes_on
+          (notes_notice (cancels (begun c) file) file tag)).sends
+      which-waits false e = waiting n (ap (notice_on f) (goes-behind (notes_notice (cancels (begun c) file) file tag)).notices
+          ∙ other-notice-put (record { file = file; tag = noticed_tag tag (notice_on file c.notices) }) f c.notices (differ e) ∙ noted) refl
       which-waits true e =
           let here : f ≡ file = same-number f file e in
           let there : notice_on file c.notices ≡ Some n = subst (λ g. notice_on g c.notices ≡ Some n) here noted in
           waiting (record { file = file; tag = noticed_tag tag (notice_on file c.notices) })
-          (ap (notice_on f) (goes-behind (notes_notice (cancels (begun c) file) file tag)).notices ∙ put-notice-found (record { file = file; tag = noticed_tag tag (notice_on file c.notices) }) f c.notices here)
+          (ap (notice_on f) (goes-behind (notes_notice (cancels (begun c) file) file tag)).notices
+          ∙ put-notice-found (record { file = file; tag = noticed_tag tag (notice_on file c.notices) }) f c.notices here)
           (ap (noticed_tag tag) there ∙ later-of-old n.tag tag (fits here))
 
 -- ---- a reply
 
-reply-way : (c : Client) (k : ℕ) (ticket : Ticket) (r : Reply) → Alone c → c.ticket ≡ Some ticket → reply_counts r ticket ≡ true → ((file : ℕ) → requested_file ticket.request ≡ Some file → (g : Grant) → grant_in r ≡ Some g → wants_of file ticket.request ≡ true) → (f : ℕ) (n : Notice) → notice_on f c.notices ≡ Some n → Way c.who f n.tag (goes_on (replied (begun c) k ticket r)).client.notices (goes_on (replied (begun c) k ticket r)).sends
+reply-way : (c : Client) (k : ℕ) (ticket : Ticket) (r : Reply) → Alone c → c.ticket ≡ Some ticket → reply_counts r ticket ≡ true → ((file : ℕ)
+    → requested_file ticket.request ≡ Some file → (g : Grant) → grant_in r ≡ Some g → wants_of file ticket.request ≡ true) → (f : ℕ) (n : Notice)
+    → notice_on f c.notices ≡ Some n → Way c.who f n.tag (goes_on (replied (begun c) k ticket r)).client.notices (goes_on (replied (begun c) k ticket r)).sends
 reply-way c k ticket r alone asks counts brings f n noted = h.way
   where
     h : Named c.who f n.tag (core_of (goes_on (replied (begun c) k ticket r)))
@@ -258,7 +274,8 @@ reply-way c k ticket r alone asks counts brings f n noted = h.way
 
 -- ---- whoever hears
 
-module _ (rows : List Row) (ps : List Packet) (y : Packet) (ys : List Packet) (h k : ℕ) (m : Message) (c : Client) (t : ClientStep) (a : IsAt h c ps) (is : y ≡ to_host h m) (sent : (z : Packet) → In ys z → In ps z) (mail : Told ps h m) (hears : hear c k m ≡ Some t)
+module _ (rows : List Row) (ps : List Packet) (y : Packet) (ys : List Packet) (h k : ℕ) (m : Message) (c : Client) (t : ClientStep) (a : IsAt h c ps)
+    (is : y ≡ to_host h m) (sent : (z : Packet) → In ys z → In ps z) (mail : Told ps h m) (hears : hear c k m ≡ Some t)
     (stays : (u : UnderWay) → c.call ≡ Some u → t.client.call ≡ None → ⊥)
     (noted : (f : ℕ) (row : Row) (n : Notice) → find_row f h rows ≡ Some row → notice_on f c.notices ≡ Some n → tag_below row.tag n.tag ≡ false)
     (named : (f : ℕ) (row : Row) (x : ℕ) (tag : Tag) → find_row f h rows ≡ Some row → m ≡ call x (Request.Evicted c.who f tag) → tag_below row.tag tag ≡ false)
@@ -288,12 +305,15 @@ module _ (rows : List Row) (ps : List Packet) (y : Packet) (ys : List Packet) (h
   -- a new number is in no reply
   new-number : (l : Ticket) → c.xid ≤ l.xid → t.client.who ≡ c.who → (z : Packet) → In ys z → PutsOff h t.client l z → ⊥
   new-number l high same z i o =
-      let there : Told ps h (reply l.xid (Reply.Refused c.who.inc o.status)) = subst (λ p. In ps p) (o.is ∙ ap (λ (w : Who). to_host h (reply l.xid (Reply.Refused w.inc o.status))) same) (sent z i) in
-      let r = a.mail.replied l.xid (Reply.Refused c.who.inc o.status) (subst (λ n. Told ps n (reply l.xid (Reply.Refused c.who.inc o.status))) (sym a.here) there) refl in
+      let there : Told ps h (reply l.xid (Reply.Refused c.who.inc o.status)) = subst (λ p. In ps p) (o.is
+      ∙ ap (λ (w : Who). to_host h (reply l.xid (Reply.Refused w.inc o.status))) same) (sent z i) in
+      let r = a.mail.replied l.xid (Reply.Refused c.who.inc o.status) (subst (λ n. Told ps n (reply l.xid (Reply.Refused c.who.inc o.status)))
+      (sym a.here) there) refl in
       let low = r.number in
       absurd (omega arith)
 
-  asked-now : (in_tick : Bool) (old : Option Ticket) → StepSends c.who c.xid c.now in_tick old t → (l : Ticket) → t.client.ticket ≡ Some l → (old ≡ Some l → TicketNow h c t y ys l) → TicketNow h c t y ys l
+  asked-now : (in_tick : Bool) (old : Option Ticket) → StepSends c.who c.xid c.now in_tick old t → (l : Ticket) → t.client.ticket ≡ Some l → (old ≡ Some l
+      → TicketNow h c t y ys l) → TicketNow h c t y ys l
   asked-now in_tick old (only_gives g) l asks same_one = same_one (sym g.asking ∙ asks)
   asked-now in_tick old (then_asks given ticket vs none has sends xid after who now at last by fits renews) l asks same_one =
       let one : ticket ≡ l = some-same ticket l (sym has ∙ asks) in
@@ -312,11 +332,13 @@ module _ (rows : List Row) (ps : List Packet) (y : Packet) (ys : List Packet) (h
       by (only_gives g) = g.same
       by (then_asks given ticket vs none has sends xid after who now at last asker_is fits renews) = who
 
-  less : (file x : ℕ) (tag : Tag) → m ≡ call x (Request.Evicted c.who file tag) → (g : ℕ) (other : Tag) → holds_later other (lease_on g c.leases) ≡ false → holds_later other (lease_on g t.client.leases) ≡ false
-  less file x tag says = heard-cases c k m t (λ (u : ClientStep). (g : ℕ) (other : Tag) → holds_later other (lease_on g c.leases) ≡ false → holds_later other (lease_on g u.client.leases) ≡ false) hears (record {
-    answered = λ xid r ticket e asks own same counts. let two : reply xid r ≡ call x (Request.Evicted c.who file tag) = sym e ∙ says in absurd (cc);
-    noticed = λ xid f v e older g other is_free. notice-less c f v a.alone g other is_free;
-  })
+  less : (file x : ℕ) (tag : Tag) → m ≡ call x (Request.Evicted c.who file tag) → (g : ℕ) (other : Tag) → holds_later other (lease_on g c.leases) ≡ false
+      → holds_later other (lease_on g t.client.leases) ≡ false
+  less file x tag says = heard-cases c k m t (λ (u : ClientStep). (g : ℕ) (other : Tag) → holds_later other (lease_on g c.leases) ≡ false
+      → holds_later other (lease_on g u.client.leases) ≡ false) hears (record {
+        answered = λ xid r ticket e asks own same counts. let two : reply xid r ≡ call x (Request.Evicted c.who file tag) = sym e ∙ says in absurd (cc);
+        noticed = λ xid f v e older g other is_free. notice-less c f v a.alone g other is_free;
+      })
 
   ticket-now : HearSends c m t → (l : Ticket) → t.client.ticket ≡ Some l → TicketNow h c t y ys l
   ticket-now (told_sends r ticket e has inc counts s) l asks = asked-now false None s l asks (λ none. none-some l none)
@@ -327,17 +349,21 @@ module _ (rows : List Row) (ps : List Packet) (y : Packet) (ys : List Packet) (h
   -- what the notices come to
   way-leaves : (f : ℕ) (row : Row) (tag : Tag) → row.who ≡ c.who → tag ≡ row.tag → Way c.who f tag t.client.notices t.sends → Leaves c t f row
   way-leaves f row tag who one (waiting n there e) = leaves_notes n there (e ∙ one)
-  way-leaves f row tag who one (given_up x i) = leaves_gives_up x (subst (λ w. In t.sends (call x (Request.Vacated w f row.tag))) (sym who) (subst (λ v. In t.sends (call x (Request.Vacated c.who f v))) one i))
+  way-leaves f row tag who one (given_up x i) = leaves_gives_up x (subst (λ w. In t.sends (call x (Request.Vacated w f row.tag))) (sym who) (subst
+      (λ v. In t.sends (call x (Request.Vacated c.who f v))) one i))
 
-  wants-grants : (xid : ℕ) (r : Reply) (ticket : Ticket) → m ≡ reply xid r → c.ticket ≡ Some ticket → xid ≡ ticket.xid → inc_of r ≡ c.who.inc → (file : ℕ) → requested_file ticket.request ≡ Some file → (g : Grant) → grant_in r ≡ Some g → wants_of file ticket.request ≡ true
+  wants-grants : (xid : ℕ) (r : Reply) (ticket : Ticket) → m ≡ reply xid r → c.ticket ≡ Some ticket → xid ≡ ticket.xid → inc_of r ≡ c.who.inc → (file : ℕ)
+      → requested_file ticket.request ≡ Some file → (g : Grant) → grant_in r ≡ Some g → wants_of file ticket.request ≡ true
   wants-grants xid r ticket e asks own same file on g grants =
-      (a.mail.replied xid r (subst (λ n. Told ps n (reply xid r)) (sym a.here) (subst (λ z. Told ps h z) e mail)) same).wants ticket asks (sym own) g grants file on
+      (a.mail.replied xid r (subst (λ n. Told ps n (reply xid r)) (sym a.here) (subst (λ z. Told ps h z) e mail)) same).wants ticket asks
+      (sym own) g grants file on
 
   waits-leave : (n : Notice) (f : ℕ) (row : Row) → find_row f h rows ≡ Some row → notice_on f c.notices ≡ Some n → n.tag ≡ row.tag → Leaves c t f row
   waits-leave n f row found there tag = way-leaves f row n.tag (holder f row found) tag
       (heard-cases c k m t (λ (u : ClientStep). Way c.who f n.tag u.client.notices u.sends) hears (record {
         answered = λ xid r ticket e asks own same counts. reply-way c k ticket r a.alone asks counts (wants-grants xid r ticket e asks own same) f n there;
-        noticed = λ xid file v e older. waits-way c file v a.alone f n there (λ one. ap (λ z. tag_below z v) tag ∙ named f row xid v found (e ∙ ap (λ g. call xid (Request.Evicted c.who g v)) (sym one)));
+        noticed = λ xid file v e older. waits-way c file v a.alone f n there (λ one. ap (λ z. tag_below z v) tag ∙ named f row xid v found (e
+            ∙ ap (λ g. call xid (Request.Evicted c.who g v)) (sym one)));
       }))
 
   told-leaves : (x f : ℕ) (row : Row) → find_row f h rows ≡ Some row → y ≡ to_host h (call x (Request.Evicted row.who f row.tag)) → Leaves c t f row
@@ -350,7 +376,8 @@ module _ (rows : List Row) (ps : List Packet) (y : Packet) (ys : List Packet) (h
       message : m ≡ call x (Request.Evicted row.who f row.tag)
       message = (told-same h h m _ (sym is ∙ says)).1
 
-      by : (xid file : ℕ) (v : Tag) → call xid (Request.Evicted c.who file v) ≡ call x (Request.Evicted row.who f row.tag) → Way c.who f row.tag (heard-notice c file v a.alone).client.notices (heard-notice c file v a.alone).sends
+      by : (xid file : ℕ) (v : Tag) → call xid (Request.Evicted c.who file v) ≡ call x (Request.Evicted row.who f row.tag)
+          → Way c.who f row.tag (heard-notice c file v a.alone).client.notices (heard-notice c file v a.alone).sends
       by xid file v both =
           let on : file ≡ f = cc in
           let tags : v ≡ row.tag = cc in

@@ -130,7 +130,8 @@ safe-none h c t [] never = tt
 safe-none h c t (y ∷ ys) never = inr (never y (inl refl), safe-none h c t ys (λ z i. never z (inr i)))
 
 -- what a client with fewer leases has
-pub safe-fewer : (h : ℕ) (c d : Client) (t : Ticket) (ys : List Packet) → d.who ≡ c.who → ((f : ℕ) (tag : Tag) → wants_of f t.request ≡ true → holds_later tag (lease_on f c.leases) ≡ false → holds_later tag (lease_on f d.leases) ≡ false) → Safe h c t ys → Safe h d t ys
+pub safe-fewer : (h : ℕ) (c d : Client) (t : Ticket) (ys : List Packet) → d.who ≡ c.who → ((f : ℕ) (tag : Tag) → wants_of f t.request ≡ true
+    → holds_later tag (lease_on f c.leases) ≡ false → holds_later tag (lease_on f d.leases) ≡ false) → Safe h c t ys → Safe h d t ys
 safe-fewer h c d t [] who less s = tt
 safe-fewer h c d t (y ∷ ys) who less (inl k) = inl (record {
   number = k.number;
@@ -143,7 +144,13 @@ safe-fewer h c d t (y ∷ ys) who less (inl k) = inl (record {
 safe-fewer h c d t (y ∷ ys) who less (inr s) = inr (never, safe-fewer h c d t ys who less s.1)
   where
     never : PutsOff h d t y → ⊥
-    never o = s.0 (record { status = o.status; is = o.is ∙ ap (λ w. to_host h (reply t.xid (Reply.Refused w.inc o.status))) who; off = o.off; counts = o.counts })
+    never o = s.0 (record {
+      status = o.status;
+      is = o.is ∙ ap (λ w. to_host h (reply t.xid (Reply.Refused w.inc o.status))) who;
+      off = o.off;
+      counts =
+          o.counts;
+    })
 
 -- packets of another direction, or to another host
 pub to-other : (h g : ℕ) (m n : _) → h ≢ g → to_host h m ≡ to_host g n → ⊥

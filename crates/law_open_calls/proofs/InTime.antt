@@ -23,25 +23,30 @@ split most calls_then more = omega arith
 stored-numbers : (most calls_then : ℕ) → rounds_for most calls_then + (most + 1) ≡ (2 + (most + 6 + (4 * calls_then + 1) + 0)) + (most + 1)
 stored-numbers most calls_then = omega arith
 
-first-small : (most calls_then : ℕ) (base : Play) → IsSmall (calm_rounds (rounds_for most calls_then + (most + 1)) base) → IsSmall (calm_rounds (rounds_for most calls_then + 0) base)
+first-small : (most calls_then : ℕ) (base : Play) → IsSmall (calm_rounds (rounds_for most calls_then + (most + 1)) base)
+    → IsSmall (calm_rounds (rounds_for most calls_then + 0) base)
 first-small most calls_then base small =
     let e : rounds_for most calls_then + (most + 1) ≡ (rounds_for most calls_then + 0) + (most + 1) = omega arith in
-    rounds-small (most + 1) (calm_rounds (rounds_for most calls_then + 0) base) (subst (λ (q : Play). IsSmall q) (ap (λ n. calm_rounds n base) e ∙ rounds-more (rounds_for most calls_then + 0) (most + 1) base) small)
+    rounds-small (most + 1) (calm_rounds (rounds_for most calls_then + 0) base) (subst (λ (q : Play). IsSmall q) (ap (λ n. calm_rounds n base) e
+    ∙ rounds-more (rounds_for most calls_then + 0) (most + 1) base) small)
 
 pub stored-in-time : CallsAnswered → StoredInTime
 stored-in-time calls most head events bounds within under_way more all small =
     let base = calmed head events under_way in
     let answered : All IsAnswered (calm_rounds (2 + (most + 6 + (4 * open_calls (run head events).clients + 1) + 0)) base).world.clients =
-    subst (λ n. All IsAnswered (calm_rounds n base).world.clients) (split most (open_calls (run head events).clients) 0) (calls most head events bounds within under_way 0 all (first-small most (open_calls (run head events).clients) base small)) in
+    subst (λ n. All IsAnswered (calm_rounds n base).world.clients) (split most (open_calls (run head events).clients) 0)
+    (calls most head events bounds within under_way 0 all (first-small most (open_calls (run head events).clients) base small)) in
     let e = stored-numbers most (open_calls (run head events).clients) in
     subst (λ n. All HasStored (calm_rounds (n + more) base).world.clients) (sym e)
-    (stored-once-answered most head events bounds within under_way (most + 6 + (4 * open_calls (run head events).clients + 1) + 0) more all answered (subst (λ n. IsSmall (calm_rounds n base)) e small))
+    (stored-once-answered most head events bounds within under_way (most + 6 + (4 * open_calls (run head events).clients + 1) + 0) more all answered (subst
+    (λ n. IsSmall (calm_rounds n base)) e small))
 
 pub syncs-in-time : CallsAnswered → SyncsInTime
 syncs-in-time calls most head events bounds within under_way more host file all small after =
     let base = calmed head events under_way in
     let e = split most (open_calls (run head events).clients) more in
-    let answered : All IsAnswered (calm_rounds (2 + (most + 6 + (4 * open_calls (run head events).clients + 1) + more)) base).world.clients = subst (λ n. All IsAnswered (calm_rounds n base).world.clients) e (calls most head events bounds within under_way more all small) in
+    let answered : All IsAnswered (calm_rounds (2 + (most + 6 + (4 * open_calls (run head events).clients + 1) + more)) base).world.clients = subst
+    (λ n. All IsAnswered (calm_rounds n base).world.clients) e (calls most head events bounds within under_way more all small) in
     subst (λ n. All IsAnswered (calm_rounds 1 (play (calm_rounds n base) (Event.Call host (Call.Sync file)))).world.clients) (sym e)
     (syncs-answered-once most head events bounds within under_way (most + 6 + (4 * open_calls (run head events).clients + 1) + more) host file all answered
     (subst (λ n. IsSmall (all_delivered (play (calm_rounds n base) (Event.Call host (Call.Sync file))))) e after))

@@ -55,7 +55,8 @@ in-numbers ps (k ∷ ks) y i = by (λ j. in-numbers ps ks y j) (slice_get ps k) 
     more : HasNumber ps ks y → HasNumber ps (k ∷ ks) y
     more h = record { number = h.number; among = inr h.among; is = h.is }
 
-    by : (In (packets_of ps ks) y → HasNumber ps ks y) → (o : Option Packet) → slice_get ps k ≡ o → In (with_packet o (packets_of ps ks)) y → HasNumber ps (k ∷ ks) y
+    by : (In (packets_of ps ks) y → HasNumber ps ks y) → (o : Option Packet) → slice_get ps k ≡ o → In (with_packet o (packets_of ps ks)) y
+        → HasNumber ps (k ∷ ks) y
     by again None e j = more (again j)
     by again (Some q) e (inl same) = record { number = k; among = inl refl; is = e ∙ ap Some same }
     by again (Some q) e (inr j) = more (again j)
@@ -90,7 +91,8 @@ get-behind [] more j = let e : 0 + j ≡ j = omega arith in ap (slice_get more) 
 get-behind (x ∷ ps) more j = let e : length (x ∷ ps) + j ≡ suc (length ps + j) = omega arith in ap (slice_get (x ∷ (ps ++ more))) e ∙ get-behind ps more j
 
 -- the packets of the numbers from one on are those from there on
-from-numbers : (all more : List Packet) (first : ℕ) → ((j : ℕ) → slice_get all (first + j) ≡ slice_get more j) → packets_of all (numbers_from first (length more)) ≡ more
+from-numbers : (all more : List Packet) (first : ℕ) → ((j : ℕ) → slice_get all (first + j) ≡ slice_get more j)
+    → packets_of all (numbers_from first (length more)) ≡ more
 from-numbers all [] first at = refl
 from-numbers all (x ∷ more) first at =
     let e : first + 0 ≡ first = omega arith in
@@ -102,7 +104,8 @@ two-lists : (ps : List Packet) (ks ms : List ℕ) → packets_of ps (ks ++ ms) �
 two-lists ps [] ms = refl
 two-lists ps (k ∷ ks) ms = by (two-lists ps ks ms) (slice_get ps k)
   where
-    by : packets_of ps (ks ++ ms) ≡ packets_of ps ks ++ packets_of ps ms → (o : Option Packet) → with_packet o (packets_of ps (ks ++ ms)) ≡ with_packet o (packets_of ps ks) ++ packets_of ps ms
+    by : packets_of ps (ks ++ ms) ≡ packets_of ps ks ++ packets_of ps ms → (o : Option Packet)
+        → with_packet o (packets_of ps (ks ++ ms)) ≡ with_packet o (packets_of ps ks) ++ packets_of ps ms
     by again None = again
     by again (Some q) = ap (λ ys. q ∷ ys) again
 
@@ -131,18 +134,21 @@ module _ (p : Play) (k : ℕ) (ks : List ℕ) (first : p.fresh ≡ k ∷ ks) (ri
   head-comes y is = record { number = k; fresh = subst (λ ns. In ns k) (sym first) (inl refl); is = is }
 
   -- after the delivery of the first the others are under way, and behind them what the step sent
-  pub queue-next : (more : List Packet) → (step p.world (Event.Deliver k)).packets ≡ p.world.packets ++ more → queue (play p (Event.Deliver k)) ≡ packets_of p.world.packets ks ++ more
+  pub queue-next : (more : List Packet) → (step p.world (Event.Deliver k)).packets ≡ p.world.packets ++ more
+      → queue (play p (Event.Deliver k)) ≡ packets_of p.world.packets ks ++ more
   queue-next more is =
       let all = (step p.world (Event.Deliver k)).packets in
       let w = without k p.fresh in
       let left : without k p.fresh ≡ ks = ap (without k) first ∙ without-first k (length p.world.packets) ks rises.1 in
       let many : length all ≡ length p.world.packets + length more = ap (λ (ps : List Packet). length ps) is ∙ length-append p.world.packets more in
-      let new : added p.world (step p.world (Event.Deliver k)) ≡ numbers_from (length p.world.packets) (length more) = ap (numbers_from (length p.world.packets)) (less (length all) (length p.world.packets) (length more) many) in
+      let new : added p.world (step p.world (Event.Deliver k)) ≡ numbers_from (length p.world.packets) (length more) = ap (numbers_from
+      (length p.world.packets)) (less (length all) (length p.world.packets) (length more) many) in
       two-lists all (without k p.fresh) (added p.world (step p.world (Event.Deliver k)))
       ∙ ap (λ ns. packets_of all ns ++ packets_of all (added p.world (step p.world (Event.Deliver k)))) left
       ∙ ap (λ ns. packets_of all ks ++ packets_of all ns) new
       ∙ ap (λ ps. packets_of ps ks ++ packets_of ps (numbers_from (length p.world.packets) (length more))) is
-      ∙ ap (λ ys. ys ++ packets_of (p.world.packets ++ more) (numbers_from (length p.world.packets) (length more))) (longer-packets p.world.packets more ks (k + 1) rises.1)
+      ∙ ap (λ ys. ys ++ packets_of (p.world.packets ++ more) (numbers_from (length p.world.packets) (length more))) (longer-packets p.world.packets more ks
+      (k + 1) rises.1)
       ∙ ap (λ ys. packets_of p.world.packets ks ++ ys) (from-numbers (p.world.packets ++ more) more (length p.world.packets) (get-behind p.world.packets more))
     where
       less : (a b c : ℕ) → a ≡ b + c → a - b ≡ c

@@ -35,15 +35,18 @@ pub data RowFrom (rows : List Row) (b : ℕ) (r : Request) (f h : ℕ) (row : Ro
   stays : (was : Row) → find_row f h rows ≡ Some was → IsStill was row → RowFrom rows b r f h row
   shares : caches row.mode ≡ false → RowFrom rows b r f h row
   begins : (want : Want) → h ≡ b → IsWant r f want → find_row f h rows ≡ None → row.mode ≡ want.mode → RowFrom rows b r f h row
-  renews : (want : Want) (own : Row) → h ≡ b → IsWant r f want → find_row f h rows ≡ Some own → own.evicting ≡ false → row.mode ≡ greater_mode own.mode want.mode → RowFrom rows b r f h row
+  renews : (want : Want) (own : Row) → h ≡ b → IsWant r f want → find_row f h rows ≡ Some own → own.evicting ≡ false
+      → row.mode ≡ greater_mode own.mode want.mode → RowFrom rows b r f h row
 
 -- a row is in the way no more, or it was there
 abbrev pub OnlyStays : (rows after : List Row) → Type 0
-OnlyStays rows after = (f h : ℕ) (row : Row) → find_row f h after ≡ Some row → ((was : Row) × (find_row f h rows ≡ Some was) × IsStill was row) ⊎ (caches row.mode ≡ false)
+OnlyStays rows after = (f h : ℕ) (row : Row) → find_row f h after ≡ Some row → ((was : Row) × (find_row f h rows ≡ Some was) × IsStill was row)
+    ⊎ (caches row.mode ≡ false)
 
 -- each row that conflicts is to go, and its holder is told
 abbrev pub AreTold : (after : List Row) (sends : List Packet) (b f : ℕ) → Request → Type 0
-AreTold after sends b f r = (h : ℕ) (row : Row) → InWay after b f (access_by r) h row → (row.evicting ≡ true) × (n : ℕ) × In sends (to_host h (call n (Request.Evicted row.who f row.tag)))
+AreTold after sends b f r = (h : ℕ) (row : Row) → InWay after b f (access_by r) h row → (row.evicting ≡ true) × (n : ℕ)
+    × In sends (to_host h (call n (Request.Evicted row.who f row.tag)))
 
 -- what a request of a host comes to: nobody is put off; or the host is, for its own row, or for one of another
 pub data Outcome (rows after : List Row) (sends : List Packet) (b : ℕ) (who : Who) (x : ℕ) (r : Request) : Type 0 where
@@ -72,9 +75,11 @@ pub record IsServed (rows after : List Row) (sends : List Packet) (b : ℕ) (who
   pub for_hosts : (z : Packet) → In sends z → (h : ℕ) × (m : Message) × (z ≡ to_host h m)
   pub replies : (z : Packet) → In sends z → (h n : ℕ) (a : Reply) → z ≡ to_host h (reply n a) → (h ≡ b) × (n ≡ x)
   -- a row of another host that caches stays
-  pub keeps : (f h : ℕ) (row : Row) → h ≢ b → find_row f h rows ≡ Some row → caches row.mode ≡ true → (now : Row) × (find_row f h after ≡ Some now) × IsStill row now
+  pub keeps : (f h : ℕ) (row : Row) → h ≢ b → find_row f h rows ≡ Some row → caches row.mode ≡ true → (now : Row) × (find_row f h after ≡ Some now)
+      × IsStill row now
   -- a VACATED takes the row of its tag
-  pub takes : (f : ℕ) (tag : Tag) (row : Row) → r ≡ Request.Vacated who f tag → find_row f b rows ≡ Some row → row.who ≡ who → row.tag ≡ tag → find_row f b after ≡ None
+  pub takes : (f : ℕ) (tag : Tag) (row : Row) → r ≡ Request.Vacated who f tag → find_row f b rows ≡ Some row → row.who ≡ who → row.tag ≡ tag
+      → find_row f b after ≡ None
 
 -- what a call may want of a file
 pub data Fits (u : UnderWay) (f : ℕ) (want : Want) : Type 0 where

@@ -41,7 +41,7 @@ want-is : (r : Request) (f : ℕ) (want : Want) → requested_file r ≡ Some f 
 want-is (Request.Read who q file block None) f want on wants = none-some want wants
 want-is (Request.Read who q file block (Some w)) f want on wants =
     by_read who q block (ap (λ g. Request.Read who q g block (Some w)) (some-same file f on) ∙ ap (λ v. Request.Read who q f block (Some v))
-        (some-same w want wants))
+    (some-same w want wants))
 want-is (Request.GetLease who file w) f want on wants =
     by_lease who (ap (λ g. Request.GetLease who g w) (some-same file f on) ∙ ap (Request.GetLease who f) (some-same w want wants))
 want-is other f want on wants = none-some f on
@@ -192,16 +192,16 @@ module _ (s : Server) (b x next : ℕ) (r : Request) (who : Who) (unique : HasUn
           let same : r ≡ w.asks = (came x w.xid r w.asks w.is).1 in
           let host : h ≡ b = w.from ∙ w.asking.current.from.host in
           let want : IsWant r f w.want = subst (λ z. IsWant z f w.want) (sym same)
-              (subst (λ g. IsWant w.asks g w.want) (sym w.at) (want-is w.asks w.of.id w.want w.on w.wants)) in
+          (subst (λ g. IsWant w.asks g w.want) (sym w.at) (want-is w.asks w.of.id w.want w.on w.wants)) in
           begins w.want host want (subst (λ g. find_row g h s.table.rows ≡ None) (sym w.at)
-              (subst (λ n. find_row w.of.id n s.table.rows ≡ None) (sym w.from) none)) (ap (λ (y : Row). y.mode) is)
+          (subst (λ n. find_row w.of.id n s.table.rows ≡ None) (sym w.from) none)) (ap (λ (y : Row). y.mode) is)
       by (granted w term c (renews_row own has going kind is t)) =
           let same : r ≡ w.asks = (came x w.xid r w.asks w.is).1 in
           let host : h ≡ b = w.from ∙ w.asking.current.from.host in
           let want : IsWant r f w.want = subst (λ z. IsWant z f w.want) (sym same)
-              (subst (λ g. IsWant w.asks g w.want) (sym w.at) (want-is w.asks w.of.id w.want w.on w.wants)) in
+          (subst (λ g. IsWant w.asks g w.want) (sym w.at) (want-is w.asks w.of.id w.want w.on w.wants)) in
           renews w.want own host want (subst (λ g. find_row g h s.table.rows ≡ Some own) (sym w.at)
-              (subst (λ n. find_row w.of.id n s.table.rows ≡ Some own) (sym w.from) has)) going (ap (λ (y : Row). y.mode) is)
+          (subst (λ n. find_row w.of.id n s.table.rows ≡ Some own) (sym w.from) has)) going (ap (λ (y : Row). y.mode) is)
 
   -- ---- nobody is put off
 
@@ -280,20 +280,23 @@ module _ (s : Server) (b x next : ℕ) (r : Request) (who : Who) (unique : HasUn
         let key = found-row f h s.table.rows m.was m.found in
         let same_mode : row.mode ≡ m.was.mode = ap (λ (y : Row). y.mode) m.is ∙ k.mode in
         let kind : mode_conflicts access m.was.mode ≡ true =
-            ap (mode_conflicts access) (sym same_mode) ∙ ap (λ z. mode_conflicts z row.mode) (sym way) ∙ w.conflicts in
+        ap (mode_conflicts access) (sym same_mode) ∙ ap (λ z. mode_conflicts z row.mode) (sym way) ∙ w.conflicts in
         let one : (m.was.file == f) ≡ true = number-same m.was.file f key.0 in
         let two : not (m.was.who.host == who.host) ≡ true = other-host m.was.who.host who.host (λ e. w.other (sym key.1 ∙ e ∙ from)) in
         let clashes : conflicts f who.host access m.was ≡ true = rw (one, two, kind) refl in
         let going : row.evicting ≡ true = ap (λ (y : Row). y.evicting) m.is ∙ rw clashes refl in
         let told = holder-told n (in_the_way s f who.host access) m.was (in-the-way s f who.host f h access m.was m.found clashes) in
         let named : to_host m.was.who.host (call told.0 (Request.Evicted m.was.who m.was.file m.was.tag)) ≡ to_host h
-            (call told.0 (Request.Evicted row.who f row.tag)) =
+        (call told.0 (Request.Evicted row.who f row.tag)) =
         ap (λ g. to_host g (call told.0 (Request.Evicted m.was.who m.was.file m.was.tag))) key.1
         ∙ ap (λ g. to_host h (call told.0 (Request.Evicted m.was.who g m.was.tag))) key.0
         ∙ ap (λ v. to_host h (call told.0 (Request.Evicted v f m.was.tag))) (sym (ap (λ (y : Row). y.who) m.is ∙ k.who))
-        ∙ ap (λ u. to_host h (call told.0 (Request.Evicted row.who f u))) (sym (ap (λ (y : Row). y.tag) m.is ∙ k.tag)) in
-        (going, told.0, in-left (notices n (in_the_way s f who.host access)) (last ∷ []) _
-            (subst (λ z. In (notices n (in_the_way s f who.host access)) z) named told.1))
+        ∙ ap (λ u. to_host h (call told.0 (Request.Evicted row.who f u))) (sym (ap (λ (y : Row). y.tag) m.is ∙ k.tag)) in (
+          going,
+          told.0,
+          in-left (notices n (in_the_way s f who.host access)) (last ∷ []) _
+              (subst (λ z. In (notices n (in_the_way s f who.host access)) z) named told.1),
+        )
       where
         other-host : (m n : ℕ) → (m ≡ n → ⊥) → not (m == n) ≡ true
         other-host m n apart = by (m == n) refl
@@ -344,14 +347,14 @@ module _ (s : Server) (b x next : ℕ) (r : Request) (who : Who) (unique : HasUn
       let key = found-row f w.host s.table.rows own has in
       let host : w.host ≡ b = ap (λ (v : Who). v.host) one ∙ from in
       let first : to_host own.who.host (call n (Request.Evicted own.who own.file own.tag)) ≡ to_host b (call n (Request.Evicted own.who f own.tag)) =
-          ap (λ g. to_host g (call n (Request.Evicted own.who own.file own.tag))) (key.1 ∙ host) ∙ ap
-          (λ g. to_host b (call n (Request.Evicted own.who g own.tag))) key.0 in
+      ap (λ g. to_host g (call n (Request.Evicted own.who own.file own.tag))) (key.1 ∙ host) ∙ ap
+      (λ g. to_host b (call n (Request.Evicted own.who g own.tag))) key.0 in
       let second : to_host w.host (reply y (Reply.Refused w.inc Refusal.TryLater)) ≡ to_host b (reply x (Reply.Refused who.inc Refusal.TryLater)) =
-          ap (λ g. to_host g (reply y (Reply.Refused w.inc Refusal.TryLater))) host ∙ ap (λ m. to_host b (reply m (Reply.Refused w.inc Refusal.TryLater)))
-          (sym t.0) ∙ ap (λ (v : Who). to_host b (reply x (Reply.Refused v.inc Refusal.TryLater))) one in
+      ap (λ g. to_host g (reply y (Reply.Refused w.inc Refusal.TryLater))) host ∙ ap (λ m. to_host b (reply m (Reply.Refused w.inc Refusal.TryLater)))
+      (sym t.0) ∙ ap (λ (v : Who). to_host b (reply x (Reply.Refused v.inc Refusal.TryLater))) one in
       by_own f n own (subst (λ q. wants_of f q ≡ true) (sym t.1) (wanted-file z f want on wants)) (subst (λ h. find_row f h s.table.rows ≡ Some own) host has)
       (ap (λ p. p ∷ to_host w.host (reply y (Reply.Refused w.inc Refusal.TryLater)) ∷ []) first ∙ ap
-          (λ p. to_host b (call n (Request.Evicted own.who f own.tag)) ∷ p ∷ []) second) refl
+      (λ p. to_host b (call n (Request.Evicted own.who f own.tag)) ∷ p ∷ []) second) refl
 
   -- a clash by the names of the outcome is one by those of the request
   clash-is : (w : Who) → w ≡ who → (f : ℕ) (access : Access) (clash : Row) → find (conflicts f w.host access) s.table.rows ≡ Some clash
@@ -375,22 +378,22 @@ module _ (s : Server) (b x next : ℕ) (r : Request) (who : Who) (unique : HasUn
         let one = same-asker y z w e by in
         let k = asked-file z f.id file in
         subst (λ (v : Who). Outcome s.table.rows (marked f.id v.host (access_of (wanted_by z)) s.table.rows)
-            (notices s.notice (in_the_way s f.id v.host (access_of (wanted_by z))) ++ to_host w.host (reply y (Reply.Refused w.inc Refusal.TryLater)) ∷ [])
-            b who x r) (sym one)
+        (notices s.notice (in_the_way s f.id v.host (access_of (wanted_by z))) ++ to_host w.host (reply y (Reply.Refused w.inc Refusal.TryLater)) ∷ [])
+        b who x r) (sym one)
         (marks f.id (access_of (wanted_by z)) clash (ap access_by t.1 ∙ k.1) (ap file_of t.1 ∙ k.0)
-            (clash-is w one f.id (access_of (wanted_by z)) clash c) s.notice (to_host w.host (reply y (Reply.Refused w.inc Refusal.TryLater))));
+        (clash-is w one f.id (access_of (wanted_by z)) clash c) s.notice (to_host w.host (reply y (Reply.Refused w.inc Refusal.TryLater))));
     putting_off_waiting = λ y w z f clash want e by file wants asking c own room rows.
         let t = came x y r z e in
         let one = same-asker y z w e by in
         let k = asked-file z f.id file in
         subst (λ (v : Who). Outcome s.table.rows
-            (put_row (sharing_row (record s.table { rows = marked f.id w.host (access_of (Some want)) s.table.rows }) (to_read s w f (Some want))
-            (term_of (to_read s w f (Some want)) want)) (marked f.id v.host (access_of (Some want)) s.table.rows))
-            (notices s.notice (in_the_way s f.id v.host (access_of (Some want))) ++ to_host w.host (reply y (Reply.Refused w.inc Refusal.TryLater)) ∷ []) b
-            who x r) (sym one)
+        (put_row (sharing_row (record s.table { rows = marked f.id w.host (access_of (Some want)) s.table.rows }) (to_read s w f (Some want))
+        (term_of (to_read s w f (Some want)) want)) (marked f.id v.host (access_of (Some want)) s.table.rows))
+        (notices s.notice (in_the_way s f.id v.host (access_of (Some want))) ++ to_host w.host (reply y (Reply.Refused w.inc Refusal.TryLater)) ∷ []) b
+        who x r) (sym one)
         (marks-waiting f.id (access_of (Some want)) clash (ap access_by t.1 ∙ k.1 ∙ ap access_of wants) (ap file_of t.1 ∙ k.0)
-            (clash-is w one f.id (access_of (Some want)) clash c) s.notice (to_host w.host (reply y (Reply.Refused w.inc Refusal.TryLater))) _
-            (ap (λ (v : Who). v.host) one) refl);
+        (clash-is w one f.id (access_of (Some want)) clash c) s.notice (to_host w.host (reply y (Reply.Refused w.inc Refusal.TryLater))) _
+        (ap (λ (v : Who). v.host) one) refl);
     putting_off_by_own = λ y w z f want own e by file wants asking c o evicting rows. own-first s.notice f.id own want z y w e by file wants o;
     reading = λ y w q block f body e asking there c rows. quiet (one-off w.host y _ (λ i st g off. cc)) rows;
     reading_full = λ y w q block want f body e asking there c own room rows. quiet (one-off w.host y _ (λ i st g off. cc)) rows;
@@ -405,10 +408,10 @@ module _ (s : Server) (b x next : ℕ) (r : Request) (who : Who) (unique : HasUn
         let one = same-asker y z w e by in
         let k = changed-file z f.id file in
         subst (λ (v : Who). Outcome s.table.rows (marked f.id v.host Access.Write s.table.rows)
-            (notices s.notice (in_the_way s f.id v.host Access.Write) ++ to_host w.host (reply y (Reply.Refused w.inc Refusal.TryLater)) ∷ []) b who x r)
-            (sym one)
+        (notices s.notice (in_the_way s f.id v.host Access.Write) ++ to_host w.host (reply y (Reply.Refused w.inc Refusal.TryLater)) ∷ []) b who x r)
+        (sym one)
         (marks f.id Access.Write clash (ap access_by t.1 ∙ k.1) (ap file_of t.1 ∙ k.0) (clash-is w one f.id Access.Write clash c) s.notice
-            (to_host w.host (reply y (Reply.Refused w.inc Refusal.TryLater))));
+        (to_host w.host (reply y (Reply.Refused w.inc Refusal.TryLater))));
     creating = λ y w seq blocks name e fresh now can rows. quiet (one-off w.host y _ (λ i st f off. cc)) rows;
     writing_through = λ y w seq block first last body f e changing below c rows. quiet (one-off w.host y _ (λ i st g off. cc)) rows;
     storing = λ y w seq block first last base body f row e changing below can rows. quiet (one-off w.host y _ (λ i st g off. cc)) rows;
@@ -442,7 +445,7 @@ module _ (s : Server) (b x next : ℕ) (r : Request) (who : Who) (unique : HasUn
       by (attached y w is from_w at later none) = absurd (other (sym at ∙ from_w.host))
       by (removed y seq q w is fresh free none) =
           let no : mode_conflicts Access.Write row.mode ≡ false =
-              no-clash f w.host Access.Write h s.table.rows row free found (λ e. other (e ∙ fresh.current.from.host)) in
+          no-clash f w.host Access.Write h s.table.rows row free found (λ e. other (e ∙ fresh.current.from.host)) in
           let bad : true ≡ false = sym kind ∙ no in
           absurd (cc)
 
@@ -452,7 +455,7 @@ module _ (s : Server) (b x next : ℕ) (r : Request) (who : Who) (unique : HasUn
       subst (λ z. find_row f b (receive s b next (datagram_of (call x z))).server.table.rows ≡ None) (sym is)
       (subst (λ h. find_row f h (receive s b next (request x (Request.Vacated who f tag))).server.table.rows ≡ None) from
       (vacated-takes s b next x f who tag row from possible (sym inc) (subst (λ h. find_row f h s.table.rows ≡ Some row) (sym from) found)
-          (ap (λ (v : Who). v.inc) holder) latest))
+      (ap (λ (v : Who). v.inc) holder) latest))
 
   pub served-by : who.host < most_hosts → IsServed s.table.rows (receive s b next (datagram_of (call x r))).server.table.rows
       (receive s b next (datagram_of (call x r))).sends b who x r

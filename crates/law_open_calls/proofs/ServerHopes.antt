@@ -28,7 +28,8 @@ pub record Asker (rows : List Row) (clients : List Client) (ys : List Packet) (b
   -- a request of the number of the one under way is that
   pub same : (t : Ticket) → c.ticket ≡ Some t → t.xid ≡ x → t.request ≡ r
   -- the call's request is about the file of the call
-  pub meant : (t : Ticket) (u : UnderWay) (f : ℕ) → c.ticket ≡ Some t → t.job ≡ for_call → c.call ≡ Some u → file_of t.request ≡ Some f → (file_of_call u.call ≡ Some f) × (access_by t.request ≡ access_of_call u.call)
+  pub meant : (t : Ticket) (u : UnderWay) (f : ℕ) → c.ticket ≡ Some t → t.job ≡ for_call → c.call ≡ Some u → file_of t.request ≡ Some f
+      → (file_of_call u.call ≡ Some f) × (access_by t.request ≡ access_of_call u.call)
   pub unrenewed : (t : Ticket) (u : UnderWay) → c.ticket ≡ Some t → c.call ≡ Some u → t.job ≡ renewing → ⊥
   -- no lease is later than the row
   pub held : (f : ℕ) (own : Row) → find_row f b rows ≡ Some own → holds_later own.tag (lease_on f c.leases) ≡ false
@@ -36,7 +37,8 @@ pub record Asker (rows : List Row) (clients : List Client) (ys : List Packet) (b
   pub alone : WritesAlone rows
   pub wants : (f : ℕ) (want : Want) → IsWant r f want → Wanting rows b c f want
   -- where it wants a lease, no reply to the request under way is there
-  pub unreplied : (f : ℕ) (want : Want) → IsWant r f want → (t : Ticket) (a : Reply) → c.ticket ≡ Some t → In ys (to_host b (reply t.xid a)) → inc_of a ≡ c.who.inc → ⊥
+  pub unreplied : (f : ℕ) (want : Want) → IsWant r f want → (t : Ticket) (a : Reply) → c.ticket ≡ Some t → In ys (to_host b (reply t.xid a))
+      → inc_of a ≡ c.who.inc → ⊥
 
 -- who is put off for rows of others stops hoping
 pub record IsOff (rows after : List Row) (more : List Packet) (b : ℕ) (c : Client) : Type 0 where
@@ -47,7 +49,8 @@ pub record IsOff (rows after : List Row) (more : List Packet) (b : ℕ) (c : Cli
   pub opened : c.call ≡ Some u
   pub file : file_of_call u.call ≡ Some f
   pub way : InWay rows b f (access_of_call u.call) ch clash
-  pub told_all : (h : ℕ) (row : Row) → InWay after b f (access_of_call u.call) h row → (row.evicting ≡ true) × (n : ℕ) × In more (to_host h (call n (Request.Evicted row.who f row.tag)))
+  pub told_all : (h : ℕ) (row : Row) → InWay after b f (access_of_call u.call) h row → (row.evicting ≡ true) × (n : ℕ)
+      × In more (to_host h (call n (Request.Evicted row.who f row.tag)))
   pub only : OnlyStays rows after
 
 -- who hoped hopes on; or all but the asker do, who was put off
@@ -55,12 +58,15 @@ pub data Fate (rows after : List Row) (clients : List Client) (y : Packet) (ys m
   all_on : ((h : ℕ) → Hopeful clients (y ∷ ys) h → Hopeful clients (ys ++ more) h) → Fate rows after clients y ys more b c
   off : ((h : ℕ) → h ≢ b → Hopeful clients (y ∷ ys) h → Hopeful clients (ys ++ more) h) → IsOff rows after more b c → Fate rows after clients y ys more b c
 
-module _ (rows after : List Row) (clients : List Client) (y : Packet) (ys more : List Packet) (b x : ℕ) (r : Request) (c : Client) (at : slice_get clients b ≡ Some c) (is : y ≡ from_host b (call x r)) (served : IsServed rows after more b c.who x r) (a : Asker rows clients ys b x r c) where
+module _ (rows after : List Row) (clients : List Client) (y : Packet) (ys more : List Packet) (b x : ℕ) (r : Request) (c : Client)
+    (at : slice_get clients b ≡ Some c) (is : y ≡ from_host b (call x r)) (served : IsServed rows after more b c.who x r)
+    (a : Asker rows clients ys b x r c) where
   not-told : (h : ℕ) (m : _) → y ≡ to_host h m → ⊥
   not-told h m e = not-both b h (call x r) m (sym is ∙ e)
 
   -- what is sent does not put off
-  hopes-on : (h : ℕ) → ((d : Client) (t : Ticket) → slice_get clients h ≡ Some d → d.ticket ≡ Some t → Safe h d t more) → Hopeful clients (y ∷ ys) h → Hopeful clients (ys ++ more) h
+  hopes-on : (h : ℕ) → ((d : Client) (t : Ticket) → slice_get clients h ≡ Some d → d.ticket ≡ Some t → Safe h d t more) → Hopeful clients (y ∷ ys) h
+      → Hopeful clients (ys ++ more) h
   hopes-on h safe k = record {
     client = k.client;
     under = k.under;
@@ -94,7 +100,8 @@ module _ (rows after : List Row) (clients : List Client) (y : Packet) (ys more :
 
   -- ---- put off for its own row: the notice comes before
 
-  first-cancels : (f n : ℕ) (own : Row) → (t : Ticket) → c.ticket ≡ Some t → find_row f b rows ≡ Some own → wants_of f r ≡ true → more ≡ to_host b (call n (Request.Evicted own.who f own.tag)) ∷ to_host b (reply x (Reply.Refused c.who.inc Refusal.TryLater)) ∷ [] → Safe b c t more
+  first-cancels : (f n : ℕ) (own : Row) → (t : Ticket) → c.ticket ≡ Some t → find_row f b rows ≡ Some own → wants_of f r ≡ true
+      → more ≡ to_host b (call n (Request.Evicted own.who f own.tag)) ∷ to_host b (reply x (Reply.Refused c.who.inc Refusal.TryLater)) ∷ [] → Safe b c t more
   first-cancels f n own t asks found wants sends = by (t.xid == x) refl
     where
       by : (e : Bool) → (t.xid == x) ≡ e → Safe b c t more
@@ -113,7 +120,8 @@ module _ (rows after : List Row) (clients : List Client) (y : Packet) (ys more :
   -- ---- put off for rows of others
 
   only-own : (h : ℕ) → Hopeful clients (y ∷ ys) h → h ≡ b → (c.call ≡ None) → ⊥
-  only-own h k same none = none-some k.under (sym none ∙ ap (λ (z : Client). z.call) (own-client k.client (subst (λ n. slice_get clients n ≡ Some k.client) same k.at)) ∙ k.opened)
+  only-own h k same none = none-some k.under (sym none ∙ ap (λ (z : Client). z.call) (own-client k.client (subst
+      (λ n. slice_get clients n ≡ Some k.client) same k.at)) ∙ k.opened)
 
   not-own : c.call ≡ None → (h : ℕ) → Hopeful clients (y ∷ ys) h → Hopeful clients (ys ++ more) h
   not-own none h k = whose (h == b) refl
@@ -122,7 +130,8 @@ module _ (rows after : List Row) (clients : List Client) (y : Packet) (ys more :
       whose true e = absurd (only-own h k (same-number h b e) none)
       whose false e = other-hopes h (λ same. let yes : (h == b) ≡ true = number-same h b same in absurd (cc)) k
 
-  off-for-others : (f ch : ℕ) (clash : Row) → file_of r ≡ Some f → InWay rows b f (access_by r) ch clash → AreTold after more b f r → OnlyStays rows after → Fate rows after clients y ys more b c
+  off-for-others : (f ch : ℕ) (clash : Row) → file_of r ≡ Some f → InWay rows b f (access_by r) ch clash → AreTold after more b f r → OnlyStays rows after
+      → Fate rows after clients y ys more b c
   off-for-others f ch clash on way each only = asking c.ticket refl
     where
       is-call : (t : Ticket) → c.ticket ≡ Some t → t.xid ≡ x → t.job ≡ for_call → (o : Option UnderWay) → c.call ≡ o → Fate rows after clients y ys more b c
@@ -180,11 +189,14 @@ module _ (rows after : List Row) (clients : List Client) (y : Packet) (ys more :
 
   -- ---- rows
 
-  goes-on : (f h : ℕ) (was row : Row) → find_row f h rows ≡ Some was → IsStill was row → find_row f h after ≡ Some row → Goes clients (y ∷ ys) f h was → Goes clients (ys ++ more) f h row
+  goes-on : (f h : ℕ) (was row : Row) → find_row f h rows ≡ Some was → IsStill was row → find_row f h after ≡ Some row → Goes clients (y ∷ ys) f h was
+      → Goes clients (ys ++ more) f h row
   goes-on f h was row found s there (waits d n here noted tag) = waits d n here noted (tag ∙ sym s.tag)
   goes-on f h was row found s there (told n (inl e)) = absurd (not-told h _ e)
-  goes-on f h was row found s there (told n (inr i)) = told n (in-left ys more _ (subst (λ w. In ys (to_host h (call n (Request.Evicted w f row.tag)))) (sym s.who) (subst (λ t. In ys (to_host h (call n (Request.Evicted was.who f t)))) (sym s.tag) i)))
-  goes-on f h was row found s there (vacated n (inr i)) = vacated n (in-left ys more _ (subst (λ w. In ys (from_host h (call n (Request.Vacated w f row.tag)))) (sym s.who) (subst (λ t. In ys (from_host h (call n (Request.Vacated was.who f t)))) (sym s.tag) i)))
+  goes-on f h was row found s there (told n (inr i)) = told n (in-left ys more _ (subst (λ w. In ys (to_host h (call n (Request.Evicted w f row.tag))))
+      (sym s.who) (subst (λ t. In ys (to_host h (call n (Request.Evicted was.who f t)))) (sym s.tag) i)))
+  goes-on f h was row found s there (vacated n (inr i)) = vacated n (in-left ys more _ (subst (λ w. In ys (from_host h (call n
+      (Request.Vacated w f row.tag)))) (sym s.who) (subst (λ t. In ys (from_host h (call n (Request.Vacated was.who f t)))) (sym s.tag) i)))
   goes-on f h was row found s there (vacated n (inl e)) =
       let m = message-same b h (call x r) (call n (Request.Vacated was.who f was.tag)) (sym is ∙ e) in
       let k = call-same x n r (Request.Vacated was.who f was.tag) m.1 in
@@ -227,16 +239,23 @@ module _ (rows after : List Row) (clients : List Client) (y : Packet) (ys more :
           cc
 
   -- a row that stays passes still
-  passes-on : (going : Bool) → Fate rows after clients y ys more b c → (f h : ℕ) (was row : Row) → find_row f h rows ≡ Some was → caches was.mode ≡ true → IsStill was row → find_row f h after ≡ Some row → Passes going clients (y ∷ ys) f h was → Passes going clients (ys ++ more) f h row
+  passes-on : (going : Bool) → Fate rows after clients y ys more b c → (f h : ℕ) (was row : Row) → find_row f h rows ≡ Some was → caches was.mode ≡ true
+      → IsStill was row → find_row f h after ≡ Some row → Passes going clients (y ∷ ys) f h was → Passes going clients (ys ++ more) f h row
   passes-on going fate f h was row found kind s there (goes may to_go way) = goes may (s.evicts to_go) (goes-on f h was row found s there way)
-  passes-on going (all_on on) f h was row found kind s there (hoped k) = hoped (record { hope = on h k.hope; wished = wished-same (on h k.hope).under f was.mode row.mode s.mode (same-wish k (on h k.hope)) })
+  passes-on going (all_on on) f h was row found kind s there (hoped k) = hoped (record {
+    hope = on h k.hope;
+    wished = wished-same
+        (on h k.hope).under f was.mode row.mode s.mode (same-wish k (on h k.hope));
+  })
     where
       same-wish : (k : Hoped clients (y ∷ ys) f h was) (n : Hopeful clients (ys ++ more) h) → IsWished n.under f was.mode
-      same-wish k n = let one : k.hope.under ≡ n.under = some-same k.hope.under n.under (sym k.hope.opened ∙ ap (λ (z : Client). z.call) (some-same k.hope.client n.client (sym k.hope.at ∙ n.at)) ∙ n.opened) in subst (λ u. IsWished u f was.mode) one k.wished
+      same-wish k n = let one : k.hope.under ≡ n.under = some-same k.hope.under n.under (sym k.hope.opened
+          ∙ ap (λ (z : Client). z.call) (some-same k.hope.client n.client (sym k.hope.at ∙ n.at)) ∙ n.opened) in subst (λ u. IsWished u f was.mode) one k.wished
   passes-on going (off others o) f h was row found kind s there (hoped k) = whose (h == b) refl
     where
       same-wish : (n : Hopeful clients (ys ++ more) h) → IsWished n.under f was.mode
-      same-wish n = let one : k.hope.under ≡ n.under = some-same k.hope.under n.under (sym k.hope.opened ∙ ap (λ (z : Client). z.call) (some-same k.hope.client n.client (sym k.hope.at ∙ n.at)) ∙ n.opened) in subst (λ u. IsWished u f was.mode) one k.wished
+      same-wish n = let one : k.hope.under ≡ n.under = some-same k.hope.under n.under (sym k.hope.opened
+          ∙ ap (λ (z : Client). z.call) (some-same k.hope.client n.client (sym k.hope.at ∙ n.at)) ∙ n.opened) in subst (λ u. IsWished u f was.mode) one k.wished
 
       whose : (e : Bool) → (h == b) ≡ e → Passes going clients (ys ++ more) f h row
       whose true e =
@@ -256,7 +275,11 @@ module _ (rows after : List Row) (clients : List Client) (y : Packet) (ys more :
     at = at;
     opened = opened;
     unpaused = unpaused;
-    safe = λ t asks. inr ((λ o. not-told b _ o.is), safe-none b c t ys (λ z i o. a.unreplied f want w t (Reply.Refused c.who.inc o.status) asks (subst (λ p. In ys p) o.is i) refl));
+    safe = λ t asks. inr (
+      (λ o. not-told b _ o.is),
+      safe-none b c t ys (λ z i o. a.unreplied f want w t (Reply.Refused c.who.inc o.status) asks (subst
+          (λ p. In ys p) o.is i) refl),
+    );
   }
 
   greater-writing : (m : Mode) → is_writing (greater_mode m Mode.Writing) ≡ true
@@ -268,7 +291,9 @@ module _ (rows after : List Row) (clients : List Client) (y : Packet) (ys more :
   fits-wish u f want m writes (read_fits block e) = by_read block e
   fits-wish u f want m writes (write_fits block body e mode) = by_write block body e (writes mode)
 
-  on-for-asker : (f : ℕ) (want : Want) → IsWant r f want → ((h : ℕ) → Hopeful clients (y ∷ ys) h → Hopeful clients (ys ++ more) h) → (u : UnderWay) → c.call ≡ Some u → c.pause ≤ c.now → Fits u f want → (m : Mode) → (want.mode ≡ Mode.Writing → is_writing m ≡ true) → (row : Row) → row.mode ≡ m → Hoped clients (ys ++ more) f b row
+  on-for-asker : (f : ℕ) (want : Want) → IsWant r f want → ((h : ℕ) → Hopeful clients (y ∷ ys) h → Hopeful clients (ys ++ more) h) → (u : UnderWay)
+      → c.call ≡ Some u → c.pause ≤ c.now → Fits u f want → (m : Mode) → (want.mode ≡ Mode.Writing → is_writing m ≡ true) → (row : Row) → row.mode ≡ m
+      → Hoped clients (ys ++ more) f b row
   on-for-asker f want w on u opened unpaused fit m writes row kind =
       let n = on b (asker-hopes f want w u opened unpaused) in
       let one : u ≡ n.under = some-same u n.under (sym opened ∙ ap (λ (z : Client). z.call) (own-client n.client n.at) ∙ n.opened) in
@@ -277,29 +302,44 @@ module _ (rows after : List Row) (clients : List Client) (y : Packet) (ys more :
   -- ---- what is in the way
 
   module _ (going : Bool) (host : ℕ) (before : Clear going rows clients (y ∷ ys) host) where
-    old : (d : Client) (u : UnderWay) (f : ℕ) → slice_get clients host ≡ Some d → d.call ≡ Some u → file_of_call u.call ≡ Some f → (h : ℕ) (was row : Row) → find_row f h rows ≡ Some was → h ≢ host → row.mode ≡ was.mode → mode_conflicts (access_of_call u.call) row.mode ≡ true → Passes going clients (y ∷ ys) f h was
-    old d u f there opened file h was row found apart kind c = before d u f there opened file h was (record { found = found; other = apart; conflicts = subst (λ m. mode_conflicts (access_of_call u.call) m ≡ true) kind c })
+    old : (d : Client) (u : UnderWay) (f : ℕ) → slice_get clients host ≡ Some d → d.call ≡ Some u → file_of_call u.call ≡ Some f → (h : ℕ) (was row : Row)
+        → find_row f h rows ≡ Some was → h ≢ host → row.mode ≡ was.mode → mode_conflicts (access_of_call u.call) row.mode ≡ true
+        → Passes going clients (y ∷ ys) f h was
+    old d u f there opened file h was row found apart kind c = before d u f there opened file h was (record {
+      found = found;
+      other = apart;
+      conflicts =
+          subst (λ m. mode_conflicts (access_of_call u.call) m ≡ true) kind c;
+    })
 
-    still : Fate rows after clients y ys more b c → (d : Client) (u : UnderWay) (f : ℕ) → slice_get clients host ≡ Some d → d.call ≡ Some u → file_of_call u.call ≡ Some f → (h : ℕ) (row : Row) → InWay after host f (access_of_call u.call) h row → (was : Row) → find_row f h rows ≡ Some was → IsStill was row → Passes going clients (ys ++ more) f h row
+    still : Fate rows after clients y ys more b c → (d : Client) (u : UnderWay) (f : ℕ) → slice_get clients host ≡ Some d → d.call ≡ Some u
+        → file_of_call u.call ≡ Some f → (h : ℕ) (row : Row) → InWay after host f (access_of_call u.call) h row → (was : Row)
+        → find_row f h rows ≡ Some was → IsStill was row → Passes going clients (ys ++ more) f h row
     still fate d u f there opened file h row w was found s =
-        passes-on going fate f h was row found (conflict-caches (access_of_call u.call) was.mode (subst (λ m. mode_conflicts (access_of_call u.call) m ≡ true) s.mode w.conflicts)) s w.found
+        passes-on going fate f h was row found (conflict-caches (access_of_call u.call) was.mode (subst (λ m. mode_conflicts
+        (access_of_call u.call) m ≡ true) s.mode w.conflicts)) s w.found
         (old d u f there opened file h was row found w.other s.mode w.conflicts)
 
     shared-not : (u : UnderWay) (row : Row) → mode_conflicts (access_of_call u.call) row.mode ≡ true → caches row.mode ≡ false → ⊥
     shared-not u row w e = let yes = conflict-caches (access_of_call u.call) row.mode w in cc
 
-    from-all : ((h : ℕ) → Hopeful clients (y ∷ ys) h → Hopeful clients (ys ++ more) h) → ((f h : ℕ) (row : Row) → find_row f h after ≡ Some row → RowFrom rows b r f h row) → Clear going after clients (ys ++ more) host
+    from-all : ((h : ℕ) → Hopeful clients (y ∷ ys) h → Hopeful clients (ys ++ more) h) → ((f h : ℕ) (row : Row) → find_row f h after ≡ Some row
+        → RowFrom rows b r f h row) → Clear going after clients (ys ++ more) host
     from-all on from d u f there opened file h row w = by (from f h row w.found)
       where
         at-host : h ≡ b → Hoped clients (ys ++ more) f b row → Passes going clients (ys ++ more) f h row
         at-host same k = hoped (subst (λ n. Hoped clients (ys ++ more) f n row) (sym same) k)
 
-        begun : (want : Want) → h ≡ b → IsWant r f want → find_row f h rows ≡ None → row.mode ≡ want.mode → Wanting rows b c f want → Passes going clients (ys ++ more) f h row
-        begun want same wants none kind (by_call v called unpaused fit) = at-host same (on-for-asker f want wants on v called unpaused fit want.mode (λ e. ap is_writing e) row kind)
+        begun : (want : Want) → h ≡ b → IsWant r f want → find_row f h rows ≡ None → row.mode ≡ want.mode → Wanting rows b c f want
+            → Passes going clients (ys ++ more) f h row
+        begun want same wants none kind (by_call v called unpaused fit) = at-host same (on-for-asker f want wants on v called unpaused fit want.mode
+            (λ e. ap is_writing e) row kind)
         begun want same wants none kind (by_renewal idle own found mode) = none-some own (sym (subst (λ n. find_row f n rows ≡ None) same none) ∙ found)
 
-        renewed : (want : Want) (own : Row) → h ≡ b → IsWant r f want → find_row f h rows ≡ Some own → own.evicting ≡ false → row.mode ≡ greater_mode own.mode want.mode → Wanting rows b c f want → Passes going clients (ys ++ more) f h row
-        renewed want own same wants found quiet_row kind (by_call v called unpaused fit) = at-host same (on-for-asker f want wants on v called unpaused fit (greater_mode own.mode want.mode) (λ e. subst (λ m. is_writing (greater_mode own.mode m) ≡ true) (sym e) (greater-writing own.mode)) row kind)
+        renewed : (want : Want) (own : Row) → h ≡ b → IsWant r f want → find_row f h rows ≡ Some own → own.evicting ≡ false
+            → row.mode ≡ greater_mode own.mode want.mode → Wanting rows b c f want → Passes going clients (ys ++ more) f h row
+        renewed want own same wants found quiet_row kind (by_call v called unpaused fit) = at-host same (on-for-asker f want wants on v called unpaused fit
+            (greater_mode own.mode want.mode) (λ e. subst (λ m. is_writing (greater_mode own.mode m) ≡ true) (sym e) (greater-writing own.mode)) row kind)
         renewed want own same wants found quiet_row kind (by_renewal idle that at_b mode) =
             let one : own ≡ that = some-same own that (sym (subst (λ n. find_row f n rows ≡ Some own) same found) ∙ at_b) in
             let kept : row.mode ≡ own.mode = kind ∙ subst (λ (z : Row). greater_mode z.mode want.mode ≡ z.mode) (sym one) mode in
@@ -345,7 +385,8 @@ module _ (rows after : List Row) (clients : List Client) (y : Packet) (ys more :
       goes refl t.0 (told t.1 (in-right ys more _ (subst (λ g. In more (to_host h (call t.1 (Request.Evicted row.who g row.tag)))) same t.2)))
 
   -- where no row goes, whoever holds a row in the way of one who is put off hopes on
-  pub off-hope : ((h : ℕ) → h ≢ b → Hopeful clients (y ∷ ys) h → Hopeful clients (ys ++ more) h) → IsOff rows after more b c → Clear false rows clients (y ∷ ys) b → (h : ℕ) × Hopeful clients (ys ++ more) h
+  pub off-hope : ((h : ℕ) → h ≢ b → Hopeful clients (y ∷ ys) h → Hopeful clients (ys ++ more) h) → IsOff rows after more b c
+      → Clear false rows clients (y ∷ ys) b → (h : ℕ) × Hopeful clients (ys ++ more) h
   off-hope others o before = by (before c o.u o.f at o.opened o.file o.ch o.clash o.way)
     where
       by : Passes false clients (y ∷ ys) o.f o.ch o.clash → (h : ℕ) × Hopeful clients (ys ++ more) h

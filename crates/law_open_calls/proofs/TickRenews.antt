@@ -43,14 +43,17 @@ abbrev RenewsOnly : ClientStep → Type 0
 RenewsOnly v = Only v.client
 
 -- the file of the leases that pass a test is the file of one of them
-least-passes-in : (p : Lease → Bool) (leases : List Lease) (file : ℕ) → least (map file_of_lease (filter p leases)) ≡ Some file → (l : Lease) × In leases l × (l.file ≡ file) × (p l ≡ true)
+least-passes-in : (p : Lease → Bool) (leases : List Lease) (file : ℕ) → least (map file_of_lease (filter p leases)) ≡ Some file → (l : Lease) × In leases l
+    × (l.file ≡ file) × (p l ≡ true)
 least-passes-in p [] file h = none-some file h
 least-passes-in p (l ∷ leases) file h = by (p l) refl h (least-passes-in p leases file)
   where
     more : (m : Lease) × In leases m × (m.file ≡ file) × (p m ≡ true) → (m : Lease) × In (l ∷ leases) m × (m.file ≡ file) × (p m ≡ true)
     more m = (m.0, inr m.1, m.2, m.3)
 
-    by : (b : Bool) → p l ≡ b → least (map file_of_lease (if b then l ∷ filter p leases else filter p leases)) ≡ Some file → (least (map file_of_lease (filter p leases)) ≡ Some file → (m : Lease) × In leases m × (m.file ≡ file) × (p m ≡ true)) → (m : Lease) × In (l ∷ leases) m × (m.file ≡ file) × (p m ≡ true)
+    by : (b : Bool) → p l ≡ b → least (map file_of_lease (if b then l ∷ filter p leases else filter p leases)) ≡ Some file
+        → (least (map file_of_lease (filter p leases)) ≡ Some file → (m : Lease) × In leases m × (m.file ≡ file) × (p m ≡ true)) → (m : Lease)
+        × In (l ∷ leases) m × (m.file ≡ file) × (p m ≡ true)
     by true e g again = which (least-with-one l.file (least (map file_of_lease (filter p leases))) file g)
       where
         which : (l.file ≡ file) ⊎ (least (map file_of_lease (filter p leases)) ≡ Some file) → (m : Lease) × In (l ∷ leases) m × (m.file ≡ file) × (p m ≡ true)
@@ -112,7 +115,10 @@ module _ (t : ClientStep) (alone : Alone t.client) (settled : Settled t) (none :
         where
           next : (v : ClientStep) → NextSends false t v → RenewsOnly v
           next v (nothing_sent same) = record { only = λ k asks job. none-some k (sym none ∙ ap (λ (z : ClientStep). z.client.ticket) (sym same) ∙ asks) }
-          next v (then_asked ticket free has sends xid after who now first last by_who fits renews) = record { only = λ k has2 job. let bad = renews (ap (λ (z : Ticket). z.job) (some-same ticket k (sym has ∙ has2)) ∙ job) in absurd (cc) }
+          next v (then_asked ticket free has sends xid after who now first last by_who fits renews) = record {
+            only = λ k has2 job. let bad = renews (ap (λ
+                (z : Ticket). z.job) (some-same ticket k (sym has ∙ has2)) ∙ job) in absurd (cc);
+          }
 
       by : (o : Option UnderWay) → t.client.call ≡ o → RenewsOnly (send_next true t)
       by None idle = by-cases (λ unpaused. idle)
@@ -156,7 +162,8 @@ settled-free : (c : Client) → c.ticket ≡ None → (settle (begun (at_time c 
 unfolding at_time
 settled-free c none = same-ticket (begun (at_time c (c.now + 1))) ∙ none
 
-pub tick-renews : (c : Client) → Alone c → AreFound c.leases → c.ticket ≡ None → (k : Ticket) → (client_tick c (c.now + 1)).client.ticket ≡ Some k → k.job ≡ renewing → Renews (client_tick c (c.now + 1)).client k
+pub tick-renews : (c : Client) → Alone c → AreFound c.leases → c.ticket ≡ None → (k : Ticket) → (client_tick c (c.now + 1)).client.ticket ≡ Some k
+    → k.job ≡ renewing → Renews (client_tick c (c.now + 1)).client k
 tick-renews c alone all none = (tick-cases c (c.now + 1) RenewsOnly (record {
   again = λ ticket asks late. absurd (none-some ticket (sym none ∙ asks));
   quiet = λ ticket asks soon. absurd (none-some ticket (sym none ∙ asks));

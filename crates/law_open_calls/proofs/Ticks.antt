@@ -33,23 +33,28 @@ use Rattle.law_open_calls.proofs.Hope.{file_of_call, access_of_call, InWay}
 -- ---- rows
 
 -- a file and a host have one row
-keys-unique : (most : ℕ) (head : Head) (events : List Event) → KeepsBounds most head events → IsWithinSkew head.hosts most events → (run head events).server.phase ≡ serving → HasUniqueKeys (run head events).server.table.rows
-keys-unique most head events bounds within phase = by (subst (λ ph. StandingFits (run head events).server.kept.files ph (run head events).server.table) phase (run-runs most head events bounds within).served.stood)
+keys-unique : (most : ℕ) (head : Head) (events : List Event) → KeepsBounds most head events → IsWithinSkew head.hosts most events
+    → (run head events).server.phase ≡ serving → HasUniqueKeys (run head events).server.table.rows
+keys-unique most head events bounds within phase = by (subst (λ ph. StandingFits (run head events).server.kept.files ph
+    (run head events).server.table) phase (run-runs most head events bounds within).served.stood)
   where
     by : StandingFits (run head events).server.kept.files serving (run head events).server.table → HasUniqueKeys (run head events).server.table.rows
     by fits = fits.unique
 
 -- a row that stands after a tick of a server that serves stood before
-rows-tick : (s : Server) (now : ℕ) → HasUniqueKeys s.table.rows → s.phase ≡ serving → (f h : ℕ) (row : Row) → find_row f h (tick s now).server.table.rows ≡ Some row → find_row f h s.table.rows ≡ Some row
+rows-tick : (s : Server) (now : ℕ) → HasUniqueKeys s.table.rows → s.phase ≡ serving → (f h : ℕ) (row : Row)
+    → find_row f h (tick s now).server.table.rows ≡ Some row → find_row f h s.table.rows ≡ Some row
 unfolding quiet at_time opens ends_writing keeping_with with_table with_rows
-rows-tick s now unique phase = server-ticks s now (λ (t : ServerStep). (f h : ℕ) (row : Row) → find_row f h t.server.table.rows ≡ Some row → find_row f h s.table.rows ≡ Some row) (record {
-  waits = λ until heard last p goes. let two : serving ≡ recovering until heard last = sym phase ∙ p in absurd (cc);
-  opening = λ until heard last p over. let two : serving ≡ recovering until heard last = sym phase ∙ p in absurd (cc);
-  ends_reading = λ p none f h row found. (found-kept (λ r. not (is_over now r)) f h s.table.rows row unique found).0;
-  ending_writing = λ ended p due f h row found.
-      (found-kept (λ r. not (is_over now r)) f h s.table.rows row unique
-      (found-kept (λ r. not (is_row_of ended.file ended.who.host r)) f h (end_reading now s.table.rows) row (unique-filtered (λ r. not (is_over now r)) s.table.rows unique) found).0).0;
-})
+rows-tick s now unique phase = server-ticks s now (λ (t : ServerStep). (f h : ℕ) (row : Row) → find_row f h t.server.table.rows ≡ Some row
+    → find_row f h s.table.rows ≡ Some row) (record {
+      waits = λ until heard last p goes. let two : serving ≡ recovering until heard last = sym phase ∙ p in absurd (cc);
+      opening = λ until heard last p over. let two : serving ≡ recovering until heard last = sym phase ∙ p in absurd (cc);
+      ends_reading = λ p none f h row found. (found-kept (λ r. not (is_over now r)) f h s.table.rows row unique found).0;
+      ending_writing = λ ended p due f h row found.
+          (found-kept (λ r. not (is_over now r)) f h s.table.rows row unique
+          (found-kept (λ r. not (is_row_of ended.file ended.who.host r)) f h (end_reading now s.table.rows) row (unique-filtered (λ r. not
+          (is_over now r)) s.table.rows unique) found).0).0;
+    })
 
 hosts-server : (count h : ℕ) (p : Play) → (play_hosts count h p).world.server ≡ p.world.server
 unfolding after_client
@@ -67,7 +72,8 @@ unfolding at_client_time sends_again
 tick-keeps c = tick-cases c (c.now + 1) (Keeps (Unit {0}) (at_client_time c (c.now + 1))) (record {
   again = λ ticket asks long. record { calls = λ v is. (v, is, refl); now = refl; pause = λ yes. refl };
   quiet = λ ticket asks short. start;
-  free = λ none. sends (Unit {0}) (at_client_time c (c.now + 1)) true (settle (begun (at_client_time c (c.now + 1)))) (settles (Unit {0}) (at_client_time c (c.now + 1)) (begun (at_client_time c (c.now + 1))) start);
+  free = λ none. sends (Unit {0}) (at_client_time c (c.now + 1)) true (settle (begun (at_client_time c (c.now + 1)))) (settles (Unit {0}) (at_client_time c
+      (c.now + 1)) (begun (at_client_time c (c.now + 1))) start);
 })
   where
     start : Keeps (Unit {0}) (at_client_time c (c.now + 1)) (begun (at_client_time c (c.now + 1)))
@@ -83,7 +89,8 @@ tick-pause c = let k = tick-keeps c in (k.now, k.pause tt)
 module _ (most : ℕ) (head : Head) (p : Play) (l : IsLawful most head p) (serves : recovers p.world.server.phase ≡ false) where
   -- no row of these is in the way of a client's call
   FreeOf : ℕ → Client → Type 0
-  FreeOf a c = (u : UnderWay) (f : ℕ) → c.call ≡ Some u → file_of_call u.call ≡ Some f → (h : ℕ) (row : Row) → InWay p.world.server.table.rows a f (access_of_call u.call) h row → ⊥
+  FreeOf a c = (u : UnderWay) (f : ℕ) → c.call ≡ Some u → file_of_call u.call ≡ Some f → (h : ℕ) (row : Row)
+      → InWay p.world.server.table.rows a f (access_of_call u.call) h row → ⊥
 
   free-ticked : (a : ℕ) (c : Client) → FreeOf a c → FreeOf a (client_tick c (c.now + 1)).client
   unfolding FreeOf
@@ -96,7 +103,8 @@ module _ (most : ℕ) (head : Head) (p : Play) (l : IsLawful most head p) (serve
   rows-after f h row found =
       let q = play_hosts (length p.world.clients) 0 p in
       let same = hosts-server (length p.world.clients) 0 p in
-      let keys : HasUniqueKeys p.world.server.table.rows = subst (λ (u : World). HasUniqueKeys u.server.table.rows) (sym l.is_run) (keys-unique most head p.events l.bounds l.within (ap (λ (u : World). u.server.phase) (sym l.is_run) ∙ serves-is p.world.server.phase serves)) in
+      let keys : HasUniqueKeys p.world.server.table.rows = subst (λ (u : World). HasUniqueKeys u.server.table.rows) (sym l.is_run)
+      (keys-unique most head p.events l.bounds l.within (ap (λ (u : World). u.server.phase) (sym l.is_run) ∙ serves-is p.world.server.phase serves)) in
       rows-tick p.world.server (p.world.server.now + 1) keys (serves-is p.world.server.phase serves) f h row
       (subst (λ (s : Server). find_row f h (tick s (s.now + 1)).server.table.rows ≡ Some row) same found)
 
@@ -105,7 +113,8 @@ module _ (most : ℕ) (head : Head) (p : Play) (l : IsLawful most head p) (serve
   ticks-free a none c u f at has file h row way =
       let inside = get-below (play_rounds 1 p).world.clients a c at in
       let next = round most head p l in
-      let many : length (play_rounds 1 p).world.clients ≡ head.hosts = ap (λ (w : World). length w.clients) next.is_run ∙ client-count head (play_rounds 1 p).events in
+      let many : length (play_rounds 1 p).world.clients ≡ head.hosts = ap (λ (w : World). length w.clients) next.is_run
+      ∙ client-count head (play_rounds 1 p).events in
       let before : length p.world.clients ≡ head.hosts = ap (λ (w : World). length w.clients) l.is_run ∙ client-count head p.events in
       ticked most head a (FreeOf a) (FreeOf a) (free-ticked a) p (omega arith) (λ d there v g is of k r w. none d v g there is of k r w) c at u f has file h row
       (record { found = rows-after f h row way.found; other = way.other; conflicts = way.conflicts })

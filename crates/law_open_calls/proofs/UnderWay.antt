@@ -32,15 +32,19 @@ pub record InOrder (p : Play) (host : ℕ) (c : Client) : Type 0 where
   -- its sequence was not decided yet
   pub fresh : (x n : ℕ) (r : Request) → Comes p (from_host host (call x r)) → sequence_of r ≡ Some n → (host_row p.world.server.kept host).seq < n
   -- one that wants a lease comes before each reply to the request under way
-  pub unreplied : (x f : ℕ) (r : Request) (want : Want) (t : Ticket) (a : Reply) → Comes p (from_host host (call x r)) → IsWant r f want → c.ticket ≡ Some t → Comes p (to_host host (reply t.xid a)) → inc_of a ≡ c.who.inc → ⊥
+  pub unreplied : (x f : ℕ) (r : Request) (want : Want) (t : Ticket) (a : Reply) → Comes p (from_host host (call x r)) → IsWant r f want
+      → c.ticket ≡ Some t → Comes p (to_host host (reply t.xid a)) → inc_of a ≡ c.who.inc → ⊥
   -- numbers rise
-  pub rises : (x y : ℕ) (r s : Request) (first : Comes p (from_host host (call x r))) (later : Comes p (from_host host (call y s))) → first.number < later.number → x < y
+  pub rises : (x y : ℕ) (r s : Request) (first : Comes p (from_host host (call x r))) (later : Comes p (from_host host (call y s)))
+      → first.number < later.number → x < y
 
 -- what is known of tags: none that a host was told on a file is later than its row's
 pub record TagsFit (w : World) (host : ℕ) (c : Client) : Type 0 where
   pub held : (f : ℕ) (row : Row) → find_row f host w.server.table.rows ≡ Some row → holds_later row.tag (lease_on f c.leases) ≡ false
-  pub noted : (f : ℕ) (row : Row) (n : Notice) → find_row f host w.server.table.rows ≡ Some row → notice_on f c.notices ≡ Some n → tag_below row.tag n.tag ≡ false
-  pub named : (f x : ℕ) (row : Row) (tag : Tag) → find_row f host w.server.table.rows ≡ Some row → Told w.packets host (call x (Request.Evicted c.who f tag)) → tag_below row.tag tag ≡ false
+  pub noted : (f : ℕ) (row : Row) (n : Notice) → find_row f host w.server.table.rows ≡ Some row → notice_on f c.notices ≡ Some n
+      → tag_below row.tag n.tag ≡ false
+  pub named : (f x : ℕ) (row : Row) (tag : Tag) → find_row f host w.server.table.rows ≡ Some row
+      → Told w.packets host (call x (Request.Evicted c.who f tag)) → tag_below row.tag tag ≡ false
 
 -- a request that wants a lease, under way
 pub data WantedNow (rows : List Row) (q : List Packet) (host : ℕ) (c : Client) (x f : ℕ) (want : Want) : Type 0 where
@@ -64,7 +68,8 @@ Wants w q =
 
 -- nobody with an open call renews a lease
 abbrev pub NoneRenew : World → Type 0
-NoneRenew w = (host : ℕ) (c : Client) (t : Ticket) (u : UnderWay) → slice_get w.clients host ≡ Some c → c.ticket ≡ Some t → c.call ≡ Some u → t.job ≡ renewing → ⊥
+NoneRenew w = (host : ℕ) (c : Client) (t : Ticket) (u : UnderWay) → slice_get w.clients host ≡ Some c → c.ticket ≡ Some t → c.call ≡ Some u
+    → t.job ≡ renewing → ⊥
 
 -- what a step leaves of hopes and rows
 pub data Moves (w v : World) (q q' : List Packet) : Type 0 where
@@ -90,7 +95,8 @@ Paused w v =
 
 -- ---- what a client sends
 
-vacated-numbers : (who : Who) (first : ℕ) (ms : List Message) → VacatedFrom who first ms → (x : ℕ) (r : Request) → In ms (call x r) → (first ≤ x) × ((f : ℕ) (want : Want) → IsWant r f want → ⊥)
+vacated-numbers : (who : Who) (first : ℕ) (ms : List Message) → VacatedFrom who first ms → (x : ℕ) (r : Request) → In ms (call x r) → (first ≤ x)
+    × ((f : ℕ) (want : Want) → IsWant r f want → ⊥)
 vacated-numbers who first [] v x r i = absurd i
 vacated-numbers who first (m ∷ ms) v x r (inl e) =
     let k = call-same first x (Request.Vacated who v.0.0 v.0.1) r (sym v.0.2 ∙ e) in
@@ -105,11 +111,18 @@ vacated-numbers who first (m ∷ ms) v x r (inr i) = let rest = vacated-numbers 
 -- a message that is sent has a new number; and one that wants a lease is the request under way
 pub record Sent (c : Client) (t : ClientStep) (x : ℕ) (r : Request) : Type 0 where
   pub above : c.xid ≤ x
-  pub asked : (f : ℕ) (want : Want) → IsWant r f want → (k : Ticket) × (t.client.ticket ≡ Some k) × (k.request ≡ r) × (fits_job k.job k.request ≡ true) × (k.job ≡ renewing → ⊥)
+  pub asked : (f : ℕ) (want : Want) → IsWant r f want → (k : Ticket) × (t.client.ticket ≡ Some k) × (k.request ≡ r) × (fits_job k.job k.request ≡ true)
+      × (k.job ≡ renewing → ⊥)
 
-step-sent : (c : Client) (old : Option Ticket) (t : ClientStep) → StepSends c.who c.xid c.now false old t → (x : ℕ) (r : Request) → In t.sends (call x r) → Sent c t x r
-step-sent c old t (only_gives g) x r i = let v = vacated-numbers c.who c.xid t.sends g.vacated x r i in record { above = v.0; asked = λ f want w. absurd (v.1 f want w) }
-step-sent c old t (then_asks given ticket vs none has sends xid after who now at last by fits renews) x r i = from (in-append given (call ticket.xid ticket.request ∷ []) (call x r) (subst (λ ms. In ms (call x r)) sends i))
+step-sent : (c : Client) (old : Option Ticket) (t : ClientStep) → StepSends c.who c.xid c.now false old t → (x : ℕ) (r : Request) → In t.sends (call x r)
+    → Sent c t x r
+step-sent c old t (only_gives g) x r i = let v = vacated-numbers c.who c.xid t.sends g.vacated x r i in record {
+  above = v.0;
+  asked = λ f want w. absurd
+      (v.1 f want w);
+}
+step-sent c old t (then_asks given ticket vs none has sends xid after who now at last by fits renews) x r i = from (in-append given
+    (call ticket.xid ticket.request ∷ []) (call x r) (subst (λ ms. In ms (call x r)) sends i))
   where
     from : In given (call x r) ⊎ ((call ticket.xid ticket.request ≡ call x r) ⊎ ⊥) → Sent c t x r
     from (inl j) = let v = vacated-numbers c.who c.xid given vs x r j in record { above = v.0; asked = λ f want w. absurd (v.1 f want w) }
@@ -124,17 +137,20 @@ hear-sent c m t (told_sends r0 ticket e has inc counts s) x r i = step-sent c No
 hear-sent c m t (noticed_sends n file tag e s) x r i = step-sent c (cancelled file c.ticket) t s x r i
 
 -- a client that heard does not renew with an open call, where it did not before
-pub none-renews : (c : Client) (m : Message) (t : ClientStep) → HearSends c m t → ((k : Ticket) → c.ticket ≡ Some k → k.job ≡ renewing → ⊥) → (k : Ticket) → t.client.ticket ≡ Some k → k.job ≡ renewing → ⊥
+pub none-renews : (c : Client) (m : Message) (t : ClientStep) → HearSends c m t → ((k : Ticket) → c.ticket ≡ Some k → k.job ≡ renewing → ⊥) → (k : Ticket)
+    → t.client.ticket ≡ Some k → k.job ≡ renewing → ⊥
 none-renews c m t (told_sends r0 ticket e has inc counts s) before k asks job = by s
   where
     by : StepSends c.who c.xid c.now false None t → ⊥
     by (only_gives g) = none-some k (sym g.asking ∙ asks)
-    by (then_asks given ticket vs none has sends xid after who now at last asker_is fits renews) = let bad = renews (ap (λ (z : Ticket). z.job) (some-same ticket k (sym has ∙ asks)) ∙ job) in cc
+    by (then_asks given ticket vs none has sends xid after who now at last asker_is fits renews) = let bad = renews (ap (λ (z : Ticket). z.job)
+        (some-same ticket k (sym has ∙ asks)) ∙ job) in cc
 none-renews c m t (noticed_sends n file tag e s) before k asks job = by s
   where
     by : StepSends c.who c.xid c.now false (cancelled file c.ticket) t → ⊥
     by (only_gives g) = before k (keeps-or-cancels file c.ticket k (sym g.asking ∙ asks)).0 job
-    by (then_asks given ticket vs none has sends xid after who now at last asker_is fits renews) = let bad = renews (ap (λ (z : Ticket). z.job) (some-same ticket k (sym has ∙ asks)) ∙ job) in cc
+    by (then_asks given ticket vs none has sends xid after who now at last asker_is fits renews) = let bad = renews (ap (λ (z : Ticket). z.job)
+        (some-same ticket k (sym has ∙ asks)) ∙ job) in cc
 
 pub serves-is : (ph : Phase) → recovers ph ≡ false → ph ≡ serving
 serves-is serving e = refl

@@ -35,7 +35,9 @@ SyncsInTime =
     → (under_way : List ℕ) (more host file : ℕ)
     → AreUnderWay (length (run head events).packets) under_way
     → IsSmall (calm_rounds (rounds_for most (open_calls (run head events).clients) + more) (calmed head events under_way))
-    → IsSmall (all_delivered (play (calm_rounds (rounds_for most (open_calls (run head events).clients) + more) (calmed head events under_way)) (Event.Call host (Call.Sync file))))
+    → IsSmall (all_delivered (play (calm_rounds (rounds_for most (open_calls (run head events).clients) + more) (calmed head events under_way))
+    (Event.Call host (Call.Sync file))))
     → All
     IsAnswered
-    (calm_rounds 1 (play (calm_rounds (rounds_for most (open_calls (run head events).clients) + more) (calmed head events under_way)) (Event.Call host (Call.Sync file)))).world.clients
+    (calm_rounds 1 (play (calm_rounds (rounds_for most (open_calls (run head events).clients) + more) (calmed head events under_way)) (Event.Call host
+    (Call.Sync file)))).world.clients
