@@ -42,6 +42,7 @@ use Rattle.walk_server.proofs.Rows.{found-row, same-number, number-same}
 use Rattle.walk_tables.proofs.ServerFacts.{IncsFit, AreCurrent}
 use Rattle.walk_server.proofs.ServerMoves.{tick-moves}
 use Rattle.walk_tables.proofs.ServerTables.{StandingFits, NoneRecovering}
+use Rattle.law_queues.specs.NoTagIsLater.{NoTagIsLater, RowNoticesAreHeard}
 use Rattle.law_queues.proofs.InLine.{said-no-call}
 use Rattle.law_queues.proofs.QueueRounds.{silent}
 use Rattle.law_queues.proofs.TagSteps.{Knows, KnowsOf, Leaves, call-leaves, tick-leaves, hear-leaves, restart-leaves}
@@ -413,3 +414,18 @@ row-notice-heard most head events bounds within host file k xid c row serves at 
         by : (o : Option Lease) → lease_on file c.leases ≡ o → holds_later row.tag o ≡ false
         by None e = refl
         by (Some l) e = (run-no-later most head events bounds within host c at).knows.leased file l e row found
+
+pub no-tag-is-later : NoTagIsLater
+no-tag-is-later most head events bounds within host file c row at found =
+    let h = run-no-later most head events bounds within host c at in
+    record {
+      leased = λ l e. h.knows.leased file l e row found;
+      noticed = λ n e. h.knows.noticed file n e row found;
+      told = λ k xid who named sent. h.told xid who file named (in-get (run head events).packets k _ sent) row found;
+      given_up = λ k xid who named sent. h.asked xid who file named (in-get (run head events).packets k _ sent) row found;
+    }
+
+pub row-notices-heard : RowNoticesAreHeard
+row-notices-heard most head events bounds within host file k xid c row serves at on found =
+    let h = row-notice-heard most head events bounds within host file k xid c row serves at on found in
+    (goes_on (evicted (cancels (begun c) file) file row.tag), h.1)
