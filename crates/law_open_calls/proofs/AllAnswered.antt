@@ -1,15 +1,9 @@
 -- Every call is answered once the network is calm.
-use Rattle.std.proofs.Common.{◌≡◌, ◌≤◌, ◌<◌, ◌⊎◌, ℕ, ◌+◌, ◌*◌, true, false, zero, suc, List, [], ◌∷◌, Some, None, length, refl, sym, subst, ap, ◌∙◌, arith, inl, inr}
+use Rattle.std.proofs.Common.{◌≡◌, ◌≤◌, ◌⊎◌, ℕ, ◌+◌, ◌*◌, false, zero, suc, List, Some, length, refl, sym, subst, ap, ◌∙◌, arith, inl, inr}
 use Rattle.std.specs.Prelude.{All, slice_get}
 use Rattle.nq_base.specs.declared.Event.{Event}
 use Rattle.nq_model.specs.Client.{Client}
-use Rattle.nq_model.specs.ServerStep.{receive}
-use Rattle.nq_model.specs.Server.{serving}
-use Rattle.nq_model.specs.Message.{call, datagram_of, asker, sequence_of}
-use Rattle.nq_model.specs.Kept.{host_row}
-use Rattle.nq_base.specs.declared.Who.{Who}
-use Rattle.nq_base.specs.declared.Request.{Request}
-use Rattle.nq_model.specs.Lines.{Play, play, play_rounds}
+use Rattle.nq_model.specs.Lines.{Play}
 use Rattle.nq_model.specs.Profile.{skew, write_slack}
 use Rattle.nq_model.specs.World.{Head, run}
 use Rattle.nq_model.specs.Skew.{IsWithinSkew}
@@ -29,9 +23,8 @@ use Rattle.law_answered.proofs.EndRounds.{fresh-quiet}
 use Rattle.law_answered.proofs.Hosts.{all-found}
 use Rattle.law_open_calls.specs.CallsAnswered.{rounds_for}
 use Rattle.law_open_calls.proofs.Counts.{open_calls, none-open}
-use Rattle.law_open_calls.proofs.UnderWay.{InOrder, TagsFit}
-use Rattle.law_open_calls.proofs.Served.{IsServed}
-use Rattle.law_open_calls.proofs.Rounds.{Round, rounds-less, blocks, attached-next}
+use Rattle.law_open_calls.proofs.FourRounds.{rounds-less, blocks, attached-next}
+use Rattle.law_open_calls.proofs.Rounds.{Round}
 
 left-over : (m k : ℕ) → k ≤ m → (r : ℕ) × (k + r ≡ m)
 left-over m zero below = (m, omega arith)

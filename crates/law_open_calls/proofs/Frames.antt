@@ -3,28 +3,21 @@
 use Rattle.std.proofs.Common.{◌≡◌, ◌≤◌, ◌<◌, ◌⊎◌, ℕ, ◌==◌, Bool, true, false, zero, suc, List, [], ◌∷◌, Some, refl, sym, subst, ap, ◌∙◌, arith, inl, inr}
 use Rattle.std.specs.Prelude.{slice_get}
 use Rattle.nq_base.specs.declared.Event.{Event}
-use Rattle.nq_base.specs.declared.Request.{Request}
 use Rattle.nq_base.specs.declared.Row.{Row}
-use Rattle.nq_base.specs.declared.Who.{Who}
 use Rattle.nq_model.specs.Client.{Client, UnderWay}
-use Rattle.nq_model.specs.Kept.{host_row}
 use Rattle.nq_model.specs.Lines.{Play, play, play_flow, flow_first}
-use Rattle.nq_model.specs.Message.{Packet, call, datagram_of, asker, sequence_of}
-use Rattle.nq_model.specs.Server.{serving}
-use Rattle.nq_model.specs.ServerStep.{receive}
+use Rattle.nq_model.specs.Message.{Packet}
 use Rattle.nq_model.specs.World.{Head, World}
 use Rattle.law_progress.specs.CalmRoundsAreLawful.{IsLawful}
-use Rattle.law_progress.proofs.CalmEnds.{IsRising}
 use Rattle.law_progress.proofs.CalmIsLawful.{flows}
 use Rattle.law_rounds.specs.RoundsEndQuiet.{IsQuiet}
 use Rattle.walk_client.proofs.ClientMoves.{none-some}
 use Rattle.walk_server.proofs.Rows.{same-number, number-same}
 use Rattle.law_open_calls.proofs.Counts.{open_calls, first-less, flow-less}
 use Rattle.law_open_calls.proofs.Delivery.{State, Delivered, fewer, goes_on_so, delivers}
-use Rattle.law_open_calls.proofs.UnderWay.{InOrder, TagsFit, Moves, all_move, all_but, Paused}
+use Rattle.law_open_calls.proofs.UnderWay.{Moves, all_move, all_but, Paused}
 use Rattle.law_open_calls.proofs.Hope.{file_of_call, access_of_call, Hopeful, told, waits, vacated, Passes, goes, hoped, InWay, Clear}
 use Rattle.law_open_calls.proofs.Queue.{queue}
-use Rattle.law_open_calls.proofs.Served.{IsServed}
 
 -- ---- what the frames keep
 

@@ -14,6 +14,7 @@ pub mod TickRenews
 pub mod Begin
 pub mod Ticks
 pub mod Rounds
+pub mod FourRounds
 pub mod AllAnswered
 pub mod InTime
 pub mod SomeCalls

@@ -75,6 +75,8 @@ pub use law_progress::some_need_half;
 pub use law_progress::spared_deliveries_end;
 pub use law_progress::stores_stay;
 pub use law_progress::writers_get_leases_of_use;
+pub use law_queues::no_tag_is_later;
+pub use law_queues::row_notices_are_heard;
 pub use law_refused::only_busy_refuses;
 pub use law_refused::only_calls_refuse;
 pub use law_refused::only_deeds_refuse;
