@@ -73,9 +73,6 @@ NoWay w a =
     → InWay w.server.table.rows a f (access_of_call u.call) h row
     → ⊥
 
-AllQuiet : World → Type 0
-AllQuiet w = (host : ℕ) (c : Client) → slice_get w.clients host ≡ Some c → IsQuiet c
-
 pub no-hope : (w : World) (q : List Packet) → ((host : ℕ) (c : Client) → slice_get w.clients host ≡ Some c → IsQuiet c) → (h : ℕ) → Hopeful w.clients q h → ⊥
 no-hope w q quiet h x =
     let late = ((quiet h x.client x.at).waits x.under x.opened).0 in

@@ -5,7 +5,6 @@ use Rattle.std.specs.Prelude.{slice_get}
 use Rattle.nq_base.specs.declared.Access.{Access}
 use Rattle.nq_base.specs.declared.Call.{Call}
 use Rattle.nq_base.specs.declared.Mode.{Mode}
-use Rattle.nq_base.specs.declared.Party.{Party}
 use Rattle.nq_base.specs.declared.Refusal.{Refusal}
 use Rattle.nq_base.specs.declared.Reply.{Reply}
 use Rattle.nq_base.specs.declared.Request.{Request}
@@ -151,10 +150,3 @@ safe-fewer h c d t (y ∷ ys) who less (inr s) = inr (never, safe-fewer h c d t 
       counts =
           o.counts;
     })
-
--- packets of another direction, or to another host
-pub to-other : (h g : ℕ) (m n : _) → h ≢ g → to_host h m ≡ to_host g n → ⊥
-to-other h g m n apart e = apart (same (ap (λ (p : Packet). p.to) e))
-  where
-    same : Party.Client h ≡ Party.Client g → h ≡ g
-    same f = cc

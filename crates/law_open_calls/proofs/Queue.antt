@@ -61,21 +61,9 @@ in-numbers ps (k ∷ ks) y i = by (λ j. in-numbers ps ks y j) (slice_get ps k) 
     by again (Some q) e (inl same) = record { number = k; among = inl refl; is = e ∙ ap Some same }
     by again (Some q) e (inr j) = more (again j)
 
-pub number-in : (ps : List Packet) (ks : List ℕ) (k : ℕ) (y : Packet) → In ks k → slice_get ps k ≡ Some y → In (packets_of ps ks) y
-number-in ps [] k y i is = absurd i
-number-in ps (n ∷ ks) k y (inl e) is = subst (λ o. In (with_packet o (packets_of ps ks)) y) (sym (ap (slice_get ps) e ∙ is)) (inl refl)
-number-in ps (n ∷ ks) k y (inr i) is = by (number-in ps ks k y i is) (slice_get ps n)
-  where
-    by : In (packets_of ps ks) y → (o : Option Packet) → In (with_packet o (packets_of ps ks)) y
-    by j None = j
-    by j (Some q) = inr j
-
--- what is in the queue is under way, and the other way round
+-- what is in the queue is under way
 pub in-comes : (p : Play) (y : Packet) → In (queue p) y → Comes p y
 in-comes p y i = let h = in-numbers p.world.packets p.fresh y i in record { number = h.number; fresh = h.among; is = h.is }
-
-pub comes-in : (p : Play) (y : Packet) → Comes p y → In (queue p) y
-comes-in p y c = number-in p.world.packets p.fresh c.number y c.fresh c.is
 
 -- ---- a delivery
 

@@ -107,9 +107,6 @@ module _ (most : ℕ) (head : Head) where
     pub quiet : (host : ℕ) (c : Client) → slice_get (all_delivered r).world.clients host ≡ Some c → IsQuiet c
 
   module _ (r : Play) (k : Round r) where
-    abbrev done : Play
-    done = play_flow (enough_deliveries r) r
-
     pub done-lawful : IsLawful most head (play_flow (enough_deliveries r) r)
     done-lawful = flows most head (enough_deliveries r) r k.lawful
 
