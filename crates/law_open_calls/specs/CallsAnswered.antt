@@ -1,5 +1,5 @@
 -- Once the network is calm every call is answered, and every client is attached: after as many rounds as a formula tells, in every run.
-use Rattle.std.specs.Prelude.{ℕ, ◌+◌, ◌*◌, List, [], ◌∷◌, Option, Some, None, All, length}
+use Rattle.std.specs.Prelude.{◌≤◌, ℕ, ◌+◌, ◌*◌, List, [], ◌∷◌, Option, Some, None, All, length}
 use Rattle.nq_base.specs.declared.Event.{Event}
 use Rattle.nq_promises.specs.Bounds.{KeepsBounds}
 use Rattle.nq_model.specs.Client.{Client, UnderWay}
@@ -7,7 +7,7 @@ use Rattle.nq_model.specs.Profile.{skew, write_slack}
 use Rattle.nq_model.specs.Skew.{IsWithinSkew}
 use Rattle.nq_model.specs.World.{Head, run}
 use Rattle.law_deliveries.specs.DeliveryEnds.{AreUnderWay, calmed}
-use Rattle.law_progress.specs.CallsAreAnswered.{IsAnswered}
+use Rattle.law_progress.specs.CallsAreAnswered.{IsAnswered, rounds_enough}
 use Rattle.law_progress.specs.CalmRound.{calm_rounds}
 use Rattle.law_rounds.specs.RoundsEndQuiet.{IsSmall}
 
@@ -36,3 +36,17 @@ CallsAnswered =
     → AreUnderWay (length (run head events).packets) under_way
     → IsSmall (calm_rounds (rounds_for most (open_calls (run head events).clients) + more) (calmed head events under_way))
     → All IsAnswered (calm_rounds (rounds_for most (open_calls (run head events).clients) + more) (calmed head events under_way)).world.clients
+
+-- so where few calls are open, as many rounds are enough as a search suggests for any number of them: that is at most twice what some schedule
+-- needs
+abbrev pub FewCallsAnswered : Type 0
+FewCallsAnswered =
+    (most : ℕ) (head : Head) (events : List Event)
+    → KeepsBounds most head events
+    → IsWithinSkew head.hosts most events
+    → (under_way : List ℕ) (count : ℕ)
+    → AreUnderWay (length (run head events).packets) under_way
+    → 4 * open_calls (run head events).clients ≤ most + 17
+    → rounds_enough most ≤ count
+    → IsSmall (calm_rounds count (calmed head events under_way))
+    → All IsAnswered (calm_rounds count (calmed head events under_way)).world.clients

@@ -60,6 +60,7 @@ pub use law_leases::lease_interval_is_met_in_recovery;
 pub use law_legal::reads_are_legal_in_every_run;
 pub use law_legal::reads_are_met;
 pub use law_open_calls::calls_answered;
+pub use law_open_calls::few_calls_answered;
 pub use law_open_calls::open_calls_are_met;
 pub use law_open_calls::stored_in_time;
 pub use law_open_calls::syncs_in_time;
