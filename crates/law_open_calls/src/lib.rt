@@ -7,7 +7,7 @@ ghost use Rattle.law_open_calls.specs.Met.{OpenCallsAreMet};
 ghost use Rattle.law_open_calls.specs.StoredInTime.{StoredInTime, SyncsInTime};
 
 /// In every run, whatever is under way: all clients are attached, and no call is open, after as many calm rounds as the longest term of all
-/// boots, 9 more, and 4 for each host; and after any number more.
+/// boots has ticks, 9 more, and 4 for each call that was open at first; and after any number more.
 pub fn calls_answered()
     ensures { CallsAnswered }
 {}
