@@ -28,8 +28,8 @@ pub fn refusals_have_causes()
 
 /// After every schedule within skew, what an answer that refuses says stood at the server at some moment, and that not after the answer:
 /// `noentry` that no file of the name was kept, `stale` that no file of the id was, `exists` that one of the name was, and `nospace` that
-/// there was no room. `range` is said to a call that reads or writes a block, and to `create` and `resize` with a length that no file can
-/// have.
+/// there was no room. `range` is said to a call that reads or writes a block where the file had no such block, and to `create` and `resize`
+/// with a length that no file can have.
 pub fn answers_have_causes()
     ensures { AnswersHaveCauses }
 {}

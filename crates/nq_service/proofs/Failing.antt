@@ -27,7 +27,8 @@ right_of told kept = λ bytes is. right-on bytes (kept bytes is)
 
 -- ---- counts
 
-risen : (before now : ℕ) → Rose before now → HasRisen before now
+-- a count that rose has risen
+pub risen : (before now : ℕ) → Rose before now → HasRisen before now
 risen before now (inl more) = inl more
 risen before now (inr end) = let last = end.1 in inr (omega arith)
 
@@ -67,6 +68,14 @@ module _ {D : Type 0} (faults : D → ℕ) (follows : D → D → Type 0) where
       (subst (λ (n : ℕ). Rose (counted (faults store.disk) 0) (counted (faults served.disk) n)) zero
       (subst (λ (n : ℕ). Rose (counted (faults store.disk) n) (faults_of faults served)) none rose))
 
+  -- where a store that was fresh failed, its disk failed
+  pub risen_over : (disk : D) (store served : StoredStore D) → ((first last : D) → follows first last → faults first ≤ faults last)
+      → IsFresh store → faults store.disk ≡ faults disk → GoesOn faults follows store served → Rose (faults_of faults store) (faults_of faults served)
+      → HasRisen (faults disk) (faults served.disk)
+  risen_over disk store served rises fresh counts goes rose =
+      subst (λ (n : ℕ). HasRisen n (faults served.disk)) counts
+      (by-cause store served (rises store.disk served.disk goes.disk) fresh.none rose (goes.cause fresh.goes_on))
+
   -- where the status says that the keeper failed, the disk failed
   pub failed_by : (end : Ending) (code : ℕ) (disk : D) (store served : StoredStore D) (content : Option Kept) (link link' : ℕ)
       (held now : Option (List ℕ)) (w w' between : ℕ)
@@ -74,6 +83,5 @@ module _ {D : Type 0} (faults : D → ℕ) (follows : D → D → Type 0) where
       → GoesOn faults follows store served → EndsBy end content (faults_of faults store) (faults_of faults served) link link' w between
       → PrintsBehind end code held now between w' → code ≡ status_of Ending.KeepFault → HasRisen (faults disk) (faults served.disk)
   failed_by end code disk store served content link link' held now w w' between rises fresh counts goes ends prints six =
-      let rose = rose-by end code content (faults_of faults store) (faults_of faults served) link link' w w' between held now ends prints six in
-      subst (λ (n : ℕ). HasRisen n (faults served.disk)) counts
-      (by-cause store served (rises store.disk served.disk goes.disk) fresh.none rose (goes.cause fresh.goes_on))
+      risen_over disk store served rises fresh counts goes
+      (rose-by end code content (faults_of faults store) (faults_of faults served) link link' w w' between held now ends prints six)

@@ -1,3 +1,3 @@
-mod Failing
+pub mod Failing
 pub mod Refusing
 pub mod Surviving
