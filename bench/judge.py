@@ -1,15 +1,19 @@
 #!/usr/bin/env python3
 """Times `nqnfs check` on sound journals that no run gives, and that cost more than their length.
 
-    bench/judge.py PROGRAM LINES..
+    bench/judge.py [--program FILE] LINES..
 
-For each kind of journal and each number of lines it prints the processor time in seconds and what was said.
+For each kind of journal and each number of lines it prints the processor time in seconds, and what was said. With 64,000 lines a kind takes
+up to some minutes.
 """
-
+import argparse
+import os
 import random
 import resource
 import subprocess
 import sys
+
+TOP = os.path.normpath(os.path.join(os.path.dirname(os.path.abspath(__file__)), ".."))
 
 
 def delayed(number, turn):
@@ -123,12 +127,18 @@ def judged(program, kind, lines):
 
 
 def main():
-    program, counts = sys.argv[1], [int(word) for word in sys.argv[2:]]
+    words = argparse.ArgumentParser(description=__doc__.splitlines()[0])
+    words.add_argument("--program", default=os.path.join(TOP, "crates/nqnfs/out/nqnfs"))
+    words.add_argument("lines", nargs="+", type=int)
+    given = words.parse_args()
+    failed = False
     for kind in KINDS:
-        for lines in counts:
-            took, said = judged(program, kind, lines)
+        for lines in given.lines:
+            took, said = judged(given.program, kind, lines)
+            failed = failed or said != "yes"
             print(f"{kind.__name__.replace('_', ' '):32} {lines:9,} {took:8.2f} {said}", flush=True)
+    return 1 if failed else 0
 
 
 if __name__ == "__main__":
-    main()
+    sys.exit(main())
