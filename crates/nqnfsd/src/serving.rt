@@ -22,6 +22,7 @@ const PORT: u16 = 20560;
 const BEYOND: u32 = 8;
 
 /// A watcher who also says what the server begins with.
+#[derive(Drop)]
 struct Teller<'a, R> {
     rt: &'a HostRuntime,
     image: &'a str,
