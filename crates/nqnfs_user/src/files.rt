@@ -1,5 +1,7 @@
 //! Whole files of the machine, in blocks.
 
+ghost use Rattle.std.specs.Prelude.{◌<◌};
+
 use crate::desk::UserDesk;
 use nq_base::{Answer, Block, BlockNo, Call, FileId, Name, NoMemory, Value};
 use nq_ending::Halt;
