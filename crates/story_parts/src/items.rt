@@ -56,28 +56,3 @@ fn push_opaque(writer: &mut Writer, text: &[u8]) -> Result<()> {
     }
     Ok(())
 }
-
-/// Numbers with their highest byte first.
-const NUMBERS: [u8; 21] = [
-    0x20, 0x00, 0x4e, 0x51, 1, 2, 3, 4, 5, 6, 7, 8, 0, 0, 0, 1, 0, 0, 0, 0, 9,
-];
-
-/// Reads a number, a long one and two booleans, and prints what is read, what is left, and whether it is written so.
-pub(crate) fn numbers(rt: &HostRuntime) -> Result<()> {
-    let mut reader = Reader::new(&NUMBERS);
-    let (short, long) = (reader.u32()?, reader.u64()?);
-    let (yes, no) = (reader.boolean()?, reader.boolean()?);
-    let mut writer = Writer::new(rt.alloc())?;
-    writer.u32(short)?;
-    writer.u64(long)?;
-    writer.boolean(yes)?;
-    writer.boolean(no)?;
-    writer.append(reader.rest())?;
-    let written = again(writer.as_bytes(), &NUMBERS);
-    println!(rt;
-        "{short:x} {long:x} {yes} {no} {:?} {written}",
-        reader.rest()
-    )?;
-    println!(rt; "{:?} {:?}", reader.u64().err(), reader.end().err())?;
-    Ok(())
-}

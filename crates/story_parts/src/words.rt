@@ -65,3 +65,47 @@ pub(crate) fn again(written: &[u8], read: &[u8]) -> &'static str {
         "written otherwise"
     }
 }
+
+/// Adds the words of a datagram to a text, where a block that repeats a word stands as that word behind a star.
+pub(crate) fn push_words(text: &mut String, datagram: &[u8]) -> Result<()> {
+    let mut skipped = 0;
+    for place in 0..datagram.len() / 4 {
+        if skipped > 0 {
+            skipped -= 1;
+            continue;
+        }
+        let rest = datagram.get(4 * place..).unwrap_or(&[]);
+        let word = first_word(rest).unwrap_or(0);
+        if is_block(rest) {
+            skipped = WORDS_OF_BLOCK - 1;
+            write!(text, " *{word:x}")?;
+        } else {
+            write!(text, " {word:x}")?;
+        }
+    }
+    Ok(())
+}
+
+/// Whether a block stands at the front that repeats a word.
+fn is_block(bytes: &[u8]) -> bool {
+    match (bytes.get(..4092), bytes.get(4..4096)) {
+        (Some(front), Some(behind)) => front == behind,
+        _ => false,
+    }
+}
+
+/// The word at the front.
+fn first_word(bytes: &[u8]) -> Option<u32> {
+    match bytes {
+        [a, b, c, d, ..] => Some(u32::from_be_bytes([*a, *b, *c, *d])),
+        _ => None,
+    }
+}
+
+/// The word at a place of a datagram; 0 where there is none.
+pub(crate) fn word_at(datagram: &[u8], place: usize) -> u32 {
+    match datagram.get(place..) {
+        Some([a, b, c, d, ..]) => u32::from_be_bytes([*a, *b, *c, *d]),
+        _ => 0,
+    }
+}

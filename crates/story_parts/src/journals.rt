@@ -3,11 +3,14 @@
 ghost use Rattle.nq_journal.specs.Text.{IsVersion};
 
 use crate::words::{again, text_of};
-use anyhow::{Context, Result};
+use anyhow::{Context, Result, bail};
 use nq_base::{Entry, Host, Inc, Journal, Who};
 use nq_io::MemSink;
 use nq_journal::{JournalFault, Printed, is_in, parse, print};
 use std::alloc::Global;
+
+/// The most bytes of what a party tells.
+const ROOM: usize = 100_000;
 
 /// Whether a text is parsed and printed again in a version, or its first faulty line.
 pub(crate) fn journal(alloc: Global, rest: &str) -> Result<String> {
@@ -60,4 +63,14 @@ pub(crate) fn long(rt: &HostRuntime) -> Result<()> {
         println!(rt; "{printed:?} behind {} bytes", sink.bytes().len())?;
     }
     Ok(())
+}
+
+/// The text of what a party told, in version 2.
+pub(crate) fn told(alloc: Global, log: &Journal) -> Result<MemSink> {
+    if !is_in(log, 2) {
+        bail!("no journal of this version");
+    }
+    let mut sink = MemSink::new(alloc, ROOM, Vec::new(alloc))?;
+    print(alloc, log, 2, &mut sink);
+    Ok(sink)
 }

@@ -1,6 +1,6 @@
 //! A client to which calls, datagrams and ticks come.
 
-use crate::journals::text_of;
+use crate::journals::told;
 use crate::words::{bytes_of, word_at};
 use anyhow::{Context, Result, bail};
 use nq_base::{Answer, BlockNo, FileId, Host, Inc, Journal, Spare, Ticks};
@@ -108,7 +108,7 @@ impl Desk {
                 println!(rt; "sent {xid} by {procedure}")?;
             }
         }
-        let journal = text_of(self.alloc, &self.log)?;
+        let journal = told(self.alloc, &self.log)?;
         print!(rt; "{}", str::from_utf8(journal.bytes())?)?;
         Ok(())
     }
@@ -127,8 +127,10 @@ fn cached(alloc: Global, client: &mut Client, place: &str) -> Result<String> {
     })
 }
 
-/// Plays a story of a client, and prints what comes of it.
+/// Plays a story of a client, its name in front, and prints what comes of it.
 pub(crate) fn play(rt: &HostRuntime, story: &str) -> Result<()> {
+    let (name, story) = story.split_once(": ").context("no name")?;
+    println!(rt; "== {name}")?;
     let mut desk = Desk::new(rt.alloc())?;
     let (head, items) = story.split_once("; ").context("nothing happens")?;
     let mut client = desk.begun(head)?;
