@@ -1,0 +1,4 @@
+pub mod Kinds
+pub mod Making
+pub mod Playing
+pub mod Saying
