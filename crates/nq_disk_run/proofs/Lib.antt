@@ -1,4 +1,4 @@
-pub mod Kinds
+pub mod OtherKinds
 pub mod Making
 pub mod Playing
 pub mod Saying

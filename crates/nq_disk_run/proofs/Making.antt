@@ -1,5 +1,5 @@
 -- A storm and a loop over a disk, from what they do over the store of that disk.
-use Rattle.std.proofs.Common.{◌≡◌, ◌≤◌, ℕ, Bool, List, Option, inl, inr, refl, subst}
+use Rattle.std.proofs.Common.{◌≡◌, ◌≤◌, ℕ, Bool, List, Option, inl, inr, refl, subst, sym}
 use Rattle.nq_blank.specs.Emptying.{EmptiesNot}
 use Rattle.nq_disk_run.proofs.Playing.{kept_while, rose_by}
 use Rattle.nq_disk_run.specs.Running.{LoopsOn, OverStore, StartsNot, StormsOn}
@@ -65,33 +65,35 @@ loops-kept code hosts turns clock clock' links links' held now w w' k k' ended b
 -- ---- over a store
 
 module _ {D : Type 0} (told : D → Option (List ℕ)) (faults : D → ℕ) (follows : D → D → Type 0) where
-  pub storms_on : (code kind start count : ℕ) (rules : List (Option Rule)) (old new : List FateTold) (held now : Option (List ℕ)) (w w' : ℕ) (disk : D) (store served : StoredStore D)
-      → ((first last : D) → follows first last → faults first ≤ faults last) → IsFresh store → faults store.disk ≡ faults disk → GoesOn faults follows store served
+  pub storms_on : (code kind start count : ℕ) (rules : List (Option Rule)) (old new : List FateTold) (held now : Option (List ℕ)) (w w' : ℕ) (disk : D) (store served : StoredStore D) (left : D)
+      → left ≡ served.disk → ((first last : D) → follows first last → faults first ≤ faults last) → IsFresh store → faults store.disk ≡ faults disk → GoesOn faults follows store served
       → StormsFor code kind start count rules old new held now w w' (faults_of faults store) (faults_of faults served) (content_of told served)
-      → StormsOn code kind start count rules old new held now w w' (faults disk) (faults served.disk) (told served.disk)
-  storms_on code kind start count rules old new held now w w' disk store served rises fresh same goes s =
+      → StormsOn code kind start count rules old new held now w w' (faults disk) (faults left) (told left)
+  storms_on code kind start count rules old new held now w w' disk store served left handed rises fresh same goes s =
       let k = faults_of faults store in
       let k' = faults_of faults served in
-      inr (record {
+      subst (λ d. StormsOn code kind start count rules old new held now w w' (faults disk) (faults d) (told d)) (sym handed)
+      (inr (record {
         first = k;
         last = k';
         does = storms-kept code kind start count rules old new held now w w' k k' served.ended (told served.disk) s;
         failed = λ six. risen_over faults follows disk store served rises fresh same goes (rose_by s.end code k k' s.status s.counts six);
-      })
+      }))
 
-  pub loops_on : (code hosts turns : ℕ) (clock clock' : ClockTold) (links links' : List LinkTold) (held now : Option (List ℕ)) (w w' : ℕ) (disk : D) (store served : StoredStore D)
-      → ((first last : D) → follows first last → faults first ≤ faults last) → IsFresh store → faults store.disk ≡ faults disk → GoesOn faults follows store served
+  pub loops_on : (code hosts turns : ℕ) (clock clock' : ClockTold) (links links' : List LinkTold) (held now : Option (List ℕ)) (w w' : ℕ) (disk : D) (store served : StoredStore D) (left : D)
+      → left ≡ served.disk → ((first last : D) → follows first last → faults first ≤ faults last) → IsFresh store → faults store.disk ≡ faults disk → GoesOn faults follows store served
       → LoopsFor code hosts turns clock clock' links links' held now w w' (faults_of faults store) (faults_of faults served) (content_of told served)
-      → LoopsOn code hosts turns clock clock' links links' held now w w' (faults disk) (faults served.disk) (told served.disk)
-  loops_on code hosts turns clock clock' links links' held now w w' disk store served rises fresh same goes s =
+      → LoopsOn code hosts turns clock clock' links links' held now w w' (faults disk) (faults left) (told left)
+  loops_on code hosts turns clock clock' links links' held now w w' disk store served left handed rises fresh same goes s =
       let k = faults_of faults store in
       let k' = faults_of faults served in
-      inr (record {
+      subst (λ d. LoopsOn code hosts turns clock clock' links links' held now w w' (faults disk) (faults d) (told d)) (sym handed)
+      (inr (record {
         first = k;
         last = k';
         does = loops-kept code hosts turns clock clock' links links' held now w w' k k' served.ended (told served.disk) s;
         failed = λ six. risen_over faults follows disk store served rises fresh same goes (rose_by s.end code k k' s.status s.counts six);
-      })
+      }))
 
 -- ---- where no empty store was made
 

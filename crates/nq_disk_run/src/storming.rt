@@ -38,12 +38,12 @@ pub(crate) fn run_emptied<S: Source, K: Sink, D: Disk + Drop, L: Link, C: Clock>
 ) -> Ended<D>
     requires tells { (bytes : List ℕ) × (D.told disk ≡ Some bytes) }
     requires links { (hosts turns : ℕ) → command_of words.now ≡ Some (Command.Loop hosts turns) → length links.old ≡ hosts + 1 }
-    ensures usage { result.status ≡ status_of Ending.Usage → RunsNothing (command_of words.now) (map (λ fate. told fate) fates.old) }
+    ensures usage { result.status ≡ status_of Ending.Usage → RunsNothing (command_of words.now) (map (λ fate. (Fate-box fate).told fate.value) fates.old) }
     ensures nothing { result.status ≡ status_of Ending.Usage
         → (S.left input.new ≡ S.left input.old) × PrintsLine usage_line (K.held out.old) (K.held out.new) (K.faults out.old) (K.faults out.new) }
     ensures storms { (kind start events : ℕ) → command_of words.now ≡ Some (Command.Storm kind start events)
-        → StormsOn result.status kind start events (map (λ fate. told fate) fates.old)
-        (map (λ fate. fate_told (told fate) (asks fate)) fates.old) (map (λ fate. fate_told (told fate) (asks fate)) fates.new)
+        → StormsOn result.status kind start events (map (λ fate. (Fate-box fate).told fate.value) fates.old)
+        (map (λ fate. fate_told ((Fate-box fate).told fate.value) (asks fate)) fates.old) (map (λ fate. fate_told ((Fate-box fate).told fate.value) (asks fate)) fates.new)
         (K.held out.old) (K.held out.new) (K.faults out.old) (K.faults out.new) (D.faults disk) (D.faults result.disk) (D.told result.disk) }
     ensures loops { (hosts turns : ℕ) → command_of words.now ≡ Some (Command.Loop hosts turns)
         → LoopsOn result.status hosts turns (clock_told C.floor C.readings clock.old) (clock_told C.floor C.readings clock.new)

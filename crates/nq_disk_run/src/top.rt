@@ -59,8 +59,8 @@ pub fn run_disk<S: Source, K: Sink, D: Disk + Drop, L: Link, C: Clock>(
 ) -> Ended<D>
     requires tells { makes_a_run (command_of words.now) ≡ true → (bytes : List ℕ) × (D.told disk ≡ Some bytes) }
     requires links { (hosts turns : ℕ) → command_of words.now ≡ Some (Command.Loop hosts turns) → length links.old ≡ hosts + 1 }
-    ensures usage { result.status ≡ status_of Ending.Usage → SaysNothing (command_of words.now) (map (λ fate. told fate) fates.old) }
-    ensures never { NeverSays (command_of words.now) (map (λ fate. told fate) fates.old) → result.status ≡ status_of Ending.Usage }
+    ensures usage { result.status ≡ status_of Ending.Usage → SaysNothing (command_of words.now) (map (λ fate. (Fate-box fate).told fate.value) fates.old) }
+    ensures never { NeverSays (command_of words.now) (map (λ fate. (Fate-box fate).told fate.value) fates.old) → result.status ≡ status_of Ending.Usage }
     ensures nothing { result.status ≡ status_of Ending.Usage
         → (S.left input.new ≡ S.left input.old) × PrintsLine usage_line (K.held out.old) (K.held out.new) (K.faults out.old) (K.faults out.new) }
     ensures formats { IsFormat words.now → Formats D.faults D.told D.may_leave result.status disk result.disk }
@@ -76,8 +76,8 @@ pub fn run_disk<S: Source, K: Sink, D: Disk + Drop, L: Link, C: Clock>(
         (S.faults input.old) (S.faults input.new) (K.faults out.old) (K.faults out.new) (D.faults disk) (D.faults result.disk)
         (D.told result.disk) disk result.disk }
     ensures storms { (kind start events : ℕ) → command_of words.now ≡ Some (Command.Storm kind start events)
-        → StormsOn result.status kind start events (map (λ fate. told fate) fates.old)
-        (map (λ fate. fate_told (told fate) (asks fate)) fates.old) (map (λ fate. fate_told (told fate) (asks fate)) fates.new)
+        → StormsOn result.status kind start events (map (λ fate. (Fate-box fate).told fate.value) fates.old)
+        (map (λ fate. fate_told ((Fate-box fate).told fate.value) (asks fate)) fates.old) (map (λ fate. fate_told ((Fate-box fate).told fate.value) (asks fate)) fates.new)
         (K.held out.old) (K.held out.new) (K.faults out.old) (K.faults out.new) (D.faults disk) (D.faults result.disk) (D.told result.disk) }
     ensures loops { (hosts turns : ℕ) → command_of words.now ≡ Some (Command.Loop hosts turns)
         → LoopsOn result.status hosts turns (clock_told C.floor C.readings clock.old) (clock_told C.floor C.readings clock.new)
@@ -99,7 +99,7 @@ pub fn run_disk<S: Source, K: Sink, D: Disk + Drop, L: Link, C: Clock>(
         (link_told L.sent L.waiting L.faults L.receives link.new) }
     ensures follows { D.follows disk result.disk }
     ensures disk { uses_disk (command_of words.now) ≡ false → result.disk ≡ disk }
-    ensures untouched { NeverSays (command_of words.now) (map (λ fate. told fate) fates.old) → result.disk ≡ disk }
+    ensures untouched { NeverSays (command_of words.now) (map (λ fate. (Fate-box fate).told fate.value) fates.old) → result.disk ≡ disk }
     ensures input { reads_input (command_of words.now) ≡ false → input.new ≡ input.old }
     ensures link { uses_link (command_of words.now) ≡ false → link.new ≡ link.old }
     ensures hosts { uses_links (command_of words.now) ≡ false → links.new ≡ links.old }

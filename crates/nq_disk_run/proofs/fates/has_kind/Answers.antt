@@ -1,4 +1,4 @@
-use Rattle.nq_disk_run.proofs.Kinds.{not_others}
+use Rattle.nq_disk_run.proofs.OtherKinds.{not_others}
 use Rattle.nq_run.proofs.Finding.{is_of_kind, lack_kind, not_of, passed_one}
 use Rattle.nq_disk_run.proofs.fates.has_kind.Goals as goal
 

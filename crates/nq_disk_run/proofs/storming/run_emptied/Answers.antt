@@ -1,6 +1,5 @@
-use Rattle.std.proofs.Common.{map, subst, sym}
+use Rattle.std.proofs.Common.{subst, sym}
 use Rattle.nq_disk_run.proofs.Making.{loops_not, loops_on, starts_usage, storms_not, storms_on}
-use Rattle.nq_disk_run.specs.Running.{LoopsOn, StormsOn}
 use Rattle.nq_disk_run.proofs.storming.run_emptied.Goals as goal
 
 pub returns-in-Ok-clause-storms : goal.returns-in-Ok-clause-storms
@@ -8,18 +7,16 @@ returns-in-Ok-clause-storms g c = λ kind start events is.
     let disk = c.args.disk in
     let code = c.run-ran.result.status in
     let served = c.run-ran.result.keeper in
-    subst (λ d. StormsOn code kind start events _ _ _ _ _ _ _ (g.D.Disk.faults disk) (g.D.Disk.faults d) (g.D.Disk.told d)) (sym c.into_disk.ensures)
-    (storms_on g.D.Disk.told g.D.Disk.faults g.D.Disk.follows code kind start events _ _ _ _ _ _ _ disk c.in-Ok.store served
-    g.met.D.Disk.rises c.in-Ok.ensures.fresh c.in-Ok.ensures.counts c.run-ran.ensures.follows (c.run-ran.ensures.storms kind start events is))
+    storms_on g.D.Disk.told g.D.Disk.faults g.D.Disk.follows code kind start events _ _ _ _ _ _ _ disk c.in-Ok.store served c.into_disk.result c.into_disk.ensures
+    g.met.D.Disk.rises c.in-Ok.ensures.fresh c.in-Ok.ensures.counts c.run-ran.ensures.follows (c.run-ran.ensures.storms kind start events is)
 
 pub returns-in-Ok-clause-loops : goal.returns-in-Ok-clause-loops
 returns-in-Ok-clause-loops g c = λ hosts turns is.
     let disk = c.args.disk in
     let code = c.run-ran.result.status in
     let served = c.run-ran.result.keeper in
-    subst (λ d. LoopsOn code hosts turns _ _ _ _ _ _ _ _ (g.D.Disk.faults disk) (g.D.Disk.faults d) (g.D.Disk.told d)) (sym c.into_disk.ensures)
-    (loops_on g.D.Disk.told g.D.Disk.faults g.D.Disk.follows code hosts turns _ _ _ _ _ _ _ _ disk c.in-Ok.store served
-    g.met.D.Disk.rises c.in-Ok.ensures.fresh c.in-Ok.ensures.counts c.run-ran.ensures.follows (c.run-ran.ensures.loops hosts turns is))
+    loops_on g.D.Disk.told g.D.Disk.faults g.D.Disk.follows code hosts turns _ _ _ _ _ _ _ _ disk c.in-Ok.store served c.into_disk.result c.into_disk.ensures
+    g.met.D.Disk.rises c.in-Ok.ensures.fresh c.in-Ok.ensures.counts c.run-ran.ensures.follows (c.run-ran.ensures.loops hosts turns is)
 
 pub returns-in-Ok-clause-follows : goal.returns-in-Ok-clause-follows
 returns-in-Ok-clause-follows g c =

@@ -111,8 +111,8 @@ returns-in-Some-Replay-clause-replays g c = λ is. c.replay_disk.ensures.replays
 pub run_emptied-requires-clause-tells : goal.run_emptied-requires-clause-tells
 run_emptied-requires-clause-tells g c = c.requires.tells (ap makes_a_run (sym c.command.ensures.says ∙ c.in-Some-Storm.is ∙ ap Some c.in-Some-Storm.field-0-is))
 
-pub run_emptied-in-Some-Loop-requires-clause-tells : goal.run_emptied-in-Some-Loop-requires-clause-tells
-run_emptied-in-Some-Loop-requires-clause-tells g c = c.requires.tells (ap makes_a_run (sym c.command.ensures.says ∙ c.in-Some-Loop.is ∙ ap Some c.in-Some-Loop.field-0-is))
+pub run_emptied-requires-in-Some-Loop-clause-tells : goal.run_emptied-requires-in-Some-Loop-clause-tells
+run_emptied-requires-in-Some-Loop-clause-tells g c = c.requires.tells (ap makes_a_run (sym c.command.ensures.says ∙ c.in-Some-Loop.is ∙ ap Some c.in-Some-Loop.field-0-is))
 
 pub returns-in-Some-Storm-clause-usage : goal.returns-in-Some-Storm-clause-usage
 returns-in-Some-Storm-clause-usage g c = λ none. makes_nothing (command_of c.args.words.now) _ (ap makes_a_run (sym c.command.ensures.says ∙ c.in-Some-Storm.is ∙ ap Some c.in-Some-Storm.field-0-is)) (c.run_emptied.ensures.usage none)

@@ -13,6 +13,6 @@ both-kinds kind (Some rule) other is = other is
 pub not_others : {X : Type 0} (told : X → Option Rule) (kind place : ℕ) (fates : List X) (fate : X) → place < length fates → fate ≡ slice_index_or fates place fate
     → IfSome (told fate) (λ rule. rule.kind ≡ kind) → TellOthers kind (map told fates) → ⊥
 not_others told kind place fates fate within is here others =
-    let there : place < length (map told fates) = subst (λ n. place < n) (sym (length-map told fates)) within in
+    let there : place < length (map told fates) = subst (λ n. place < n) (sym (length-map fates told)) within in
     let other = others place (told fate) there in
     both-kinds kind (told fate) (subst (λ t. IsSomeAnd t (λ rule. rule.kind ≢ kind)) (get_or-map told fates place fate (told fate) within ∙ ap told (sym is)) other) here
