@@ -2,7 +2,7 @@
 use Rattle.std.proofs.Common.{◌≡◌, ◌≤◌, ℕ, Bool, List, Option, inl, inr, refl, subst, sym}
 use Rattle.nq_blank.specs.Emptying.{EmptiesNot}
 use Rattle.nq_disk_run.proofs.Playing.{kept_while, rose_by}
-use Rattle.nq_disk_run.specs.Running.{LoopsOn, OverStore, StartsNot, StormsOn}
+use Rattle.nq_disk_run.specs.Running.{LoopsOn, StartsNot, StormsOn}
 use Rattle.nq_ending.proofs.Ends.{one_end}
 use Rattle.nq_ending.specs.Status.{status_of}
 use Rattle.nq_ending.specs.declared.Ending.{Ending}

@@ -1,7 +1,7 @@
 -- A replay over a disk, from what it does over the store of that disk.
 use Rattle.std.proofs.Common.{◌≡◌, ◌<◌, ◌≤◌, ℕ, List, Bool, true, false, Option, Some, Err, inl, inr, refl, subst, length}
 use Rattle.nq_blank.specs.Emptying.{EmptiesNot}
-use Rattle.nq_disk_run.specs.Running.{OverStore, PlaysOn, ReplaysOn}
+use Rattle.nq_disk_run.specs.Running.{PlaysOn, ReplaysOn}
 use Rattle.nq_ending.proofs.Ends.{one_end}
 use Rattle.nq_ending.specs.Status.{status_of}
 use Rattle.nq_ending.specs.declared.Ending.{Ending}

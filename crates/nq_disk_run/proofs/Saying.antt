@@ -1,9 +1,9 @@
 -- What words say, and which status does not come where they say something.
-use Rattle.std.proofs.Common.{◌≡◌, ◌⊎◌, ℕ, Bool, true, false, List, Option, Some, None, inl, inr, refl, subst, sym, ◌∙◌, ⊎_elim, arith}
+use Rattle.std.proofs.Common.{◌≡◌, ℕ, true, false, List, Option, Some, None, inl, inr, refl, subst, sym, ◌∙◌, ⊎_elim, arith}
 use Rattle.nq_command.specs.Commands.{IsFormat, alone_of, command_of}
 use Rattle.nq_command.specs.declared.Command.{Command}
 use Rattle.nq_disk_run.specs.Commands.{NeverSays, SaysNothing, uses_disk}
-use Rattle.nq_disk_run.specs.Running.{OverStore, StormsOn}
+use Rattle.nq_disk_run.specs.Running.{StormsOn}
 use Rattle.nq_ending.specs.Status.{status_of}
 use Rattle.nq_ending.specs.declared.Ending.{Ending}
 use Rattle.nq_hosts.specs.Serving.{EndsBy}
@@ -17,7 +17,6 @@ use Rattle.nq_run.specs.Frames.{makes_a_run}
 use Rattle.nq_run.specs.Storming.{NeverRuns, RunsNothing}
 use Rattle.nq_service.specs.Formatting.{Formats}
 use Rattle.nq_service.specs.Serving.{IsNotOpened, PrintsBehind, ServesDisk}
-use Rattle.nq_storm.specs.Kinds.{LackKind, TellOthers}
 use Rattle.nq_storm_rules.specs.Rules.{Rule}
 use Rattle.nq_store.specs.Storing.{kept_told}
 

@@ -1,4 +1,4 @@
-use Rattle.std.proofs.Common.{Some, ap, refl, subst, sym, ◌∙◌, ◌≡◌, true, false}
+use Rattle.std.proofs.Common.{Some, ap, refl, sym, ◌∙◌}
 use Rattle.nq_command.specs.Commands.{command_of}
 use Rattle.nq_command.specs.declared.Command.{Command}
 use Rattle.nq_disk_run.proofs.Playing.{replays_usage}

@@ -1,5 +1,5 @@
 use Rattle.nq_command.specs.Commands.{command_of}
-use Rattle.nq_disk_run.proofs.Saying.{never_runs, no_loop, no_run, says_nothing}
+use Rattle.nq_disk_run.proofs.Saying.{never_runs, says_nothing}
 use Rattle.nq_disk_run.proofs.without.run_without.Goals as goal
 
 pub returns-clause-usage : goal.returns-clause-usage
