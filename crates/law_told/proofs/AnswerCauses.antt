@@ -21,7 +21,7 @@ use Rattle.nq_promises.specs.AnswersTellWhatWas.{HasNamed, HasLength, ToldSo}
 use Rattle.nq_promises.specs.RepliesTellWhatWas.{Once, KeepsNamed}
 use Rattle.law_calm.specs.RequestsAreMeant.{IsWriteTo}
 use Rattle.law_synchronized.proofs.OkFacts.{IsFor}
-use Rattle.law_told.specs.RefusalsHaveCauses.{LacksName, HasName, LacksFile, HasNoRoom, CannotGrow, IsNoLength, IsAnsweredSo}
+use Rattle.law_told.specs.RefusalsHaveCauses.{LacksName, HasName, LacksFile, HasNoRoom, CannotGrow, LacksBlock, IsNoLength, IsAnsweredSo}
 use Rattle.law_told.proofs.RunTells.{once-map, HadSo}
 use Rattle.walk_client.proofs.RepliedCases.{IsNamed, looked_up, created, attributes}
 use Rattle.walk_client.proofs.SettleCases.{IsRead}
@@ -59,20 +59,30 @@ later-says head event earlier Said.NoSpace (Some (Told.Resize file blocks)) so =
 later-says head event earlier Said.NoSpace other so = absurd so
 later-says head event earlier Said.Range (Some (Told.Create name blocks)) so = so
 later-says head event earlier Said.Range (Some (Told.Resize file blocks)) so = so
-later-says head event earlier Said.Range (Some (Told.Read file block)) so = tt
-later-says head event earlier Said.Range (Some (Told.Fetch file block)) so = tt
-later-says head event earlier Said.Range (Some (Told.Write file block value)) so = tt
-later-says head event earlier Said.Range (Some (Told.WriteSync file block value)) so = tt
+later-says head event earlier Said.Range (Some (Told.Read file block)) so = inr so
+later-says head event earlier Said.Range (Some (Told.Fetch file block)) so = inr so
+later-says head event earlier Said.Range (Some (Told.Write file block value)) so = inr so
+later-says head event earlier Said.Range (Some (Told.WriteSync file block value)) so = inr so
 later-says head event earlier Said.Range other so = absurd so
 later-says head event earlier answer o so = tt
 
--- `range` is said to any call that reads or writes a block
-pub range-of-block : (head : Head) (events : List Event) (op : Call) → IsOfBlock op → Says head events Said.Range (Some (told op))
-range-of-block head events (Call.Read file block) of_block = tt
-range-of-block head events (Call.Fetch file block) of_block = tt
-range-of-block head events (Call.Write file block body) of_block = tt
-range-of-block head events (Call.WriteSync file block body) of_block = tt
-range-of-block head events other of_block = absurd of_block
+-- at some moment the file had no such block
+abbrev pub HadNoBlock : Head → List Event → (file block : ℕ) → Type 0
+HadNoBlock head events file block = Once (λ w. LacksBlock w.server.kept.files file block) head events
+
+same-block : (head : Head) (events : List Event) (file block f b : ℕ) → (f ≡ file) × (b ≡ block) → HadNoBlock head events file block
+    → HadNoBlock head events f b
+same-block head events file block f b same had =
+    subst (λ n. HadNoBlock head events n b) (sym same.0) (subst (λ n. HadNoBlock head events file n) (sym same.1) had)
+
+-- `range` is said to a call that reads or writes a block which its file had not
+pub range-of-block : (head : Head) (events : List Event) (file block : ℕ) (op : Call) → IsOfBlock file block op → HadNoBlock head events file block
+    → Says head events Said.Range (Some (told op))
+range-of-block head events file block (Call.Read f b) of_block had = same-block head events file block f b of_block had
+range-of-block head events file block (Call.Fetch f b) of_block had = same-block head events file block f b of_block had
+range-of-block head events file block (Call.Write f b body) of_block had = same-block head events file block f b of_block had
+range-of-block head events file block (Call.WriteSync f b body) of_block had = same-block head events file block f b of_block had
+range-of-block head events file block other of_block had = absurd of_block
 
 -- ---- the refusal that is answered with
 
@@ -130,8 +140,12 @@ module _ (head : Head) (events : List Event) (host xid inc : ℕ) (u : UnderWay)
       at-no-moment (IsNoLength blocks) head events
       (once-map (HadSo host xid (Reply.Refused inc Refusal.Inval) r) (λ w. IsNoLength blocks) head events f had)
 
-  of-block : (op : Call) → u.call ≡ op → IsOfBlock op → Answered Refusal.Inval
-  of-block op is block = range-of-block head events u.call (subst IsOfBlock (sym is) block)
+  of-block : (r : Request) (file block : ℕ) (op : Call) → u.call ≡ op → IsOfBlock file block op
+      → ((w : World) → HadSo host xid (Reply.Refused inc Refusal.Inval) r w → LacksBlock w.server.kept.files file block) → Had Refusal.Inval r
+      → Answered Refusal.Inval
+  of-block r file block op is of_block lacks had =
+      range-of-block head events file block u.call (subst (IsOfBlock file block) (sym is) of_block)
+      (once-map (HadSo host xid (Reply.Refused inc Refusal.Inval) r) (λ w. LacksBlock w.server.kept.files file block) head events lacks had)
 
   out-of-range : (r : Request) → IsFor u dirty push r → Had Refusal.Inval r → Answered Refusal.Inval
   out-of-range (Request.Create who seq name blocks) is had =
@@ -140,10 +154,14 @@ module _ (head : Head) (events : List Event) (host xid inc : ℕ) (u : UnderWay)
   out-of-range (Request.Resize who seq q file blocks) is had =
       subst (λ k. Says head events Said.Range (Some (told k))) (sym is.0)
       (no-length (Request.Resize who seq q file blocks) blocks (λ w so. so.1.1) had)
-  out-of-range (Request.Read who q file block want) (inl is) had = of-block (Call.Read file block) is tt
-  out-of-range (Request.Read who q file block want) (inr is) had = of-block (Call.Fetch file block) is tt
-  out-of-range (Request.Write who seq file block first last base body) (inl is) had = of-block (Call.Write file block body) is tt
-  out-of-range (Request.Write who seq file block first last base body) (inr is) had = of-block (Call.WriteSync file block body) is tt
+  out-of-range (Request.Read who q file block want) (inl is) had =
+      of-block (Request.Read who q file block want) file block (Call.Read file block) is (refl, refl) (λ w so. so.1.1) had
+  out-of-range (Request.Read who q file block want) (inr is) had =
+      of-block (Request.Read who q file block want) file block (Call.Fetch file block) is (refl, refl) (λ w so. so.1.1) had
+  out-of-range (Request.Write who seq file block first last base body) (inl is) had =
+      of-block (Request.Write who seq file block first last base body) file block (Call.Write file block body) is (refl, refl) (λ w so. so.1.1) had
+  out-of-range (Request.Write who seq file block first last base body) (inr is) had =
+      of-block (Request.Write who seq file block first last base body) file block (Call.WriteSync file block body) is (refl, refl) (λ w so. so.1.1) had
   out-of-range r is had = absurd (causeless Refusal.Inval r (λ w so. so.1.1) had)
 
   -- ---- what a reply names

@@ -13,18 +13,20 @@ use Rattle.nq_model.specs.Kept.{File, blocks_of, blocks_in_all, find_file}
 use Rattle.nq_model.specs.LeaseInterval.{requested_file}
 use Rattle.nq_model.specs.Profile.{most_blocks, most_blocks_of_file, most_files, most_ids}
 use Rattle.nq_model.specs.Server.{Server}
-use Rattle.nq_promises.specs.RepliesTellWhatWas.{IsSo}
+use Rattle.nq_promises.specs.RepliesTellWhatWas.{IsSo, KeepsAt}
 use Rattle.law_told.specs.RefusalsHaveCauses.{HasNoRoom, LacksNamed, IsCause, file_named}
 use Rattle.walk_client.proofs.ClientMoves.{some-same}
 use Rattle.walk_server.proofs.ServerOutcomes.{file_changed_by, IsDeclined, bad_length, name_taken, no_room, not_kept, outside, no_row, not_under, not_over, not_while_recovering, bad_size, no_room_to_grow}
 use Rattle.walk_server.proofs.Tests.{there-is}
 
--- a refusal has its cause
+-- a refusal has its cause, and a grant tells the length of its file
 abbrev pub IsCaused : List File → (next : ℕ) → Reply → Request → Type 0
 IsCaused files next (Reply.Refused inc status) r = IsCause files next status r
+IsCaused files next (Reply.Read inc rev body (Some g)) (Request.Read who q file block want) = KeepsAt files file g.blocks g.rev
+IsCaused files next (Reply.GetLease inc (Some g)) (Request.GetLease who file want) = KeepsAt files file g.blocks g.rev
 IsCaused files next other r = ⊤
 
--- what a reply tells is so, and a refusal has its cause
+-- what a reply tells is so, a refusal has its cause, and a grant tells the length of its file
 abbrev pub IsTold : List File → (next : ℕ) → Reply → Request → Type 0
 IsTold files next a r = IsSo files a r × IsCaused files next a r
 

@@ -1,6 +1,7 @@
 pub mod AnswerCauses
 pub mod Causes
 pub mod ClientRests
+pub mod LeaseLengths
 pub mod RunAnswers
 pub mod RunTells
 pub mod ServerEntries

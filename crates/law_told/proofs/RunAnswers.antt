@@ -1,5 +1,5 @@
 -- In every run what an answer says was so at the server: what it tells of files, and its cause where it refuses.
-use Rattle.std.proofs.Common.{◌≡◌, ℕ, ◌+◌, List, [], ◌∷◌, ◌++◌, Option, Some, None, length, refl, sym, subst, ◌∙◌, inl, inr}
+use Rattle.std.proofs.Common.{◌≡◌, ◌≤◌, ℕ, ◌+◌, List, [], ◌∷◌, ◌++◌, Option, Some, None, length, refl, sym, subst, ◌∙◌, inl, inr, arith}
 use Rattle.std.specs.Prelude.{slice_get}
 use Rattle.nq_base.specs.declared.Answer.{Answer}
 use Rattle.nq_base.specs.declared.Entry.{Entry}
@@ -23,25 +23,26 @@ use Rattle.nq_model.specs.ServerStep.{receive, tick, crash}
 use Rattle.nq_model.specs.Settle.{said}
 use Rattle.nq_model.specs.Skew.{IsWithinSkew}
 use Rattle.nq_model.specs.World.{Head, World, after_server, after_client, at_client, after_hearing, sending_host, deliver_to_client, deliver_to, deliver, start, run}
-use Rattle.nq_promises.specs.AnswersTellWhatWas.{ToldSo, TellsSoAt, AnswersTellWhatWas}
+use Rattle.nq_promises.specs.AnswersTellWhatWas.{HasLength, ToldSo, TellsSoAt, AnswersTellWhatWas}
 use Rattle.nq_promises.specs.Bounds.{KeepsBounds, InEveryRun}
 use Rattle.nq_promises.specs.RepliesTellWhatWas.{Once}
 use Rattle.walk_calls.proofs.CallFacts.{CallsAt}
 use Rattle.walk_calls.proofs.Placed.{Placed, call-told, call-later}
-use Rattle.walk_entries.proofs.ClientEntries.{IsTelling}
+use Rattle.walk_entries.proofs.ClientEntries.{IsTelling, Lent}
 use Rattle.walk_run.proofs.Clocks.{within-before}
 use Rattle.walk_run.proofs.NoCrash.{bounds-before}
-use Rattle.walk_run.proofs.Packets.{In, in-get, Asked, Told as ToldTo}
+use Rattle.walk_run.proofs.Packets.{In, in-get, Told as ToldTo}
 use Rattle.walk_run.proofs.RunCases.{client_at}
-use Rattle.walk_run.proofs.Worlds.{Holds, IsAt, to-told, run-holds}
+use Rattle.walk_run.proofs.Worlds.{Holds, to-told, run-holds}
 use Rattle.law_calm.proofs.Meant.{requests-are-meant}
 use Rattle.law_calls.proofs.RunCalls.{calls-known}
 use Rattle.law_synchronized.proofs.OkFacts.{KeepsOf}
 use Rattle.law_synchronized.proofs.Standings.{oks-in-every-run}
-use Rattle.law_told.specs.RefusalsHaveCauses.{HasCauseAt, AnswersHaveCauses}
-use Rattle.law_told.proofs.AnswerCauses.{Says, SaysAt, Leases, later-says, range-of-block, telling-says}
+use Rattle.law_told.specs.RefusalsHaveCauses.{LacksBlock, HasCauseAt, AnswersHaveCauses}
+use Rattle.law_told.proofs.AnswerCauses.{Says, SaysAt, Leases, HadNoBlock, later-says, range-of-block, telling-says}
 use Rattle.law_told.proofs.ClientRests.{IsCachedNext, IsOutside, Rests, AllRest, call-rests, tick-rests, hear-rests, restart-rests}
-use Rattle.law_told.proofs.RunTells.{HadSo, IsTrue, all-true}
+use Rattle.law_told.proofs.LeaseLengths.{HadLength, granted-length, leases-lent, own-reply}
+use Rattle.law_told.proofs.RunTells.{once-map, HadSo}
 use Rattle.law_told.proofs.ServerEntries.{IsNoAnswer, NoneAnswers, receive-answers-none, tick-answers-none, crash-answers-none}
 
 -- ---- facts of later schedules
@@ -103,11 +104,21 @@ caused-so : (head : Head) (events : List Event) (who : Who) (q : ℕ) (answer : 
 caused-so head events who q answer entries journal cause =
     subst (Says head events answer) (sym (call-later entries journal who q cause.asks cause.call)) cause.so
 
-outside-so : (head : Head) (events : List Event) (who : Who) (q : ℕ) (journal : List Entry) → IsOutside who q journal
-    → Says head events Said.Range (call_of journal who q)
-outside-so head events who q journal out = subst (Says head events Said.Range) (sym out.tells) (range-of-block head events out.op out.of_block)
+-- a file of so many blocks has none behind them
+had-no-block : (head : Head) (events : List Event) (file blocks block : ℕ) → blocks ≤ block → HadLength head events file blocks
+    → HadNoBlock head events file block
+had-no-block head events file blocks block beyond had =
+    once-map (HasLength file blocks) (λ w. LacksBlock w.server.kept.files file block) head events
+    (λ w has. let same = has.1.has_length in record { file = has.1.file; found = has.1.found; beyond = omega arith }) had
 
-rests-so : (head : Head) (events : List Event) (e : Entry) (entries journal : List Entry) → Rests (TellsOf head events journal) journal e entries
+outside-so : (head : Head) (events : List Event) (who : Who) (q : ℕ) (journal : List Entry) → IsOutside (HadLength head events) who q journal
+    → Says head events Said.Range (call_of journal who q)
+outside-so head events who q journal out =
+    let p = out.past in
+    subst (Says head events Said.Range) (sym out.tells)
+    (range-of-block head events p.file p.block out.op p.of_block (had-no-block head events p.file p.blocks p.block p.beyond p.had))
+
+rests-so : (head : Head) (events : List Event) (e : Entry) (entries journal : List Entry) → Rests (HadLength head events) (TellsOf head events journal) journal e entries
     → Throughout Placed (entries ++ journal) → SaysAt head events e (entries ++ journal)
 rests-so head events (Entry.A who q (Said.OkValue value)) entries journal (inl next) placed = cached-so head events who q value entries journal next placed
 rests-so head events (Entry.A who q (Said.OkValue value)) entries journal (inr cause) placed = caused-so head events who q (Said.OkValue value) entries journal cause
@@ -119,7 +130,7 @@ rests-so head events (Entry.A who q Said.Range) entries journal (inl out) placed
 rests-so head events (Entry.A who q Said.Range) entries journal (inr cause) placed = caused-so head events who q Said.Range entries journal cause
 rests-so head events other entries journal rests placed = tt
 
-client-so : (head : Head) (events : List Event) (entries journal : List Entry) → AllRest (TellsOf head events journal) journal entries
+client-so : (head : Head) (events : List Event) (entries journal : List Entry) → AllRest (HadLength head events) (TellsOf head events journal) journal entries
     → Throughout Placed (entries ++ journal) → Throughout (SaysAt head events) journal → Throughout (SaysAt head events) (entries ++ journal)
 client-so head events [] journal rest placed all = all
 client-so head events (e ∷ entries) journal rest placed all =
@@ -141,7 +152,7 @@ module _ (most : ℕ) (head : Head) (event : Event) (earlier : List Event) (boun
 
   -- a step of a client
   stepped : (host : ℕ) (t : ClientStep) → run head (event ∷ earlier) ≡ after_client w host t
-      → AllRest (TellsOf head (event ∷ earlier) w.journal) w.journal t.entries → Throughout (SaysAt head (event ∷ earlier)) (run head (event ∷ earlier)).journal
+      → AllRest (HadLength head (event ∷ earlier)) (TellsOf head (event ∷ earlier) w.journal) w.journal t.entries → Throughout (SaysAt head (event ∷ earlier)) (run head (event ∷ earlier)).journal
   unfolding after_client
   stepped host t is rest =
       subst (λ v. Throughout (SaysAt head (event ∷ earlier)) v.journal) (sym is)
@@ -168,22 +179,11 @@ module _ (most : ℕ) (head : Head) (event : Event) (earlier : List Event) (boun
           (telling-says head earlier host xid c.who.inc u c.dirty c.push ticket.request r answer telling inc (keeps.fits ticket u has job call)
           (leases ticket.request refl) was);
     } where
-      at : IsAt host c w.packets
-      at = (run-holds head earlier).clients host c is
-
       keeps : KeepsOf (host_row w.server.kept host) c w.journal
       keeps = (oks-in-every-run most head earlier bounds within).clients host c is
 
-      true_reply : IsTrue head earlier host xid r
-      true_reply = (all-true head earlier).replies host xid r sent
-
-      own : ticket.request ≡ true_reply.asks
-      own =
-          (at.mail.asked xid true_reply.asks true_reply.who (subst (λ h. Asked w.packets h xid true_reply.asks) (sym at.here) true_reply.sent)
-          true_reply.by).same (sym true_reply.inc ∙ inc) ticket has (sym same)
-
       was : Once (HadSo host xid r ticket.request) head earlier
-      was = subst (λ q. Once (HadSo host xid r q) head earlier) (sym own) true_reply.was
+      was = own-reply head earlier host xid c r ticket is sent has same inc
 
       leases : (q : Request) → ticket.request ≡ q → Leases head earlier host xid c.who.inc u c.dirty c.push q
       leases (Request.GetLease who file want) asks = ((requests-are-meant head earlier host c ticket u is has job call).leases who file want asks).0
@@ -194,12 +194,18 @@ module _ (most : ℕ) (head : Head) (event : Event) (earlier : List Event) (boun
   called-at : (host : ℕ) (c : Client) → client_at head earlier host ≡ Some c → CallsAt c.who c.calls c.number c.call w.journal
   called-at host c there = ((calls-known most head earlier bounds within).clients host c there).calls_fit
 
+  lent-at : (host : ℕ) (c : Client) → client_at head earlier host ≡ Some c → Lent (HadLength head (event ∷ earlier)) c.leases
+  lent-at host c there = λ file l e. inr (leases-lent head earlier host c there file l e)
+
+  abbrev Resting : List Entry → Type 0
+  Resting entries = AllRest (HadLength head (event ∷ earlier)) (TellsOf head (event ∷ earlier) w.journal) w.journal entries
+
   at-host : (host : ℕ) (f : Client → ClientStep)
-      → ((c : Client) → CallsAt c.who c.calls c.number c.call w.journal → AllRest (TellsOf head (event ∷ earlier) w.journal) w.journal (f c).entries)
+      → ((c : Client) → CallsAt c.who c.calls c.number c.call w.journal → Lent (HadLength head (event ∷ earlier)) c.leases → Resting (f c).entries)
       → (o : Option Client) → client_at head earlier host ≡ o → run head (event ∷ earlier) ≡ at_client w host f o
       → Throughout (SaysAt head (event ∷ earlier)) (run head (event ∷ earlier)).journal
   at-host host f rest None there is = unmoved is
-  at-host host f rest (Some c) there is = stepped host (f c) is (rest c (called-at host c there))
+  at-host host f rest (Some c) there is = stepped host (f c) is (rest c (called-at host c there) (lent-at host c there))
 
   hearing : (k : ℕ) (p : Packet) (host : ℕ) (c : Client) → In w.packets p → p.to ≡ Party.Client host → client_at head earlier host ≡ Some c
       → (o : Option ClientStep) → hear c k p.message ≡ o → run head (event ∷ earlier) ≡ after_hearing w host o
@@ -209,8 +215,12 @@ module _ (most : ℕ) (head : Head) (event : Event) (earlier : List Event) (boun
       let held : Holds w = run-holds head earlier in
       let sent : ToldTo w.packets host p.message = to-told w.packets p host (held.sent p i) to i in
       stepped host t is
-      (hear-rests (TellsOf head (event ∷ earlier) w.journal) c w.journal (called-at host c there) k p.message t hears
+      (hear-rests (HadLength head (event ∷ earlier)) (TellsOf head (event ∷ earlier) w.journal) c w.journal (called-at host c there)
+      (lent-at host c there) k p.message t hears
       (λ ticket has. ((held.clients host c there).alone.asking.ticketed ticket has).fits)
+      (λ xid r ticket file g m has same inc by.
+      inr (granted-length head earlier host xid file r ticket.request g by
+      (own-reply head earlier host xid c r ticket there (subst (ToldTo w.packets host) m sent) has same inc)))
       (λ xid r ticket u answer m has same inc call job telling. told-so host c there xid r ticket u answer
       (subst (ToldTo w.packets host) m sent) has same inc call job telling))
 
@@ -237,7 +247,8 @@ by-event : (most : ℕ) (head : Head) (event : Event) (earlier : List Event) →
     → Throughout (SaysAt head (event ∷ earlier)) (run head (event ∷ earlier)).journal
 by-event most head (Event.Call host op) earlier bounds within placed all =
     at-host most head (Event.Call host op) earlier bounds within placed all host (λ c. client_call c op)
-    (λ c known. call-rests (TellsOf head (Event.Call host op ∷ earlier) (run head earlier).journal) c (run head earlier).journal known op)
+    (λ c known lent. call-rests (HadLength head (Event.Call host op ∷ earlier))
+    (TellsOf head (Event.Call host op ∷ earlier) (run head earlier).journal) c (run head earlier).journal known lent op)
     (slice_get (run head earlier).clients host) refl refl
 by-event most head (Event.Deliver k) earlier bounds within placed all =
     delivered most head (Event.Deliver k) earlier bounds within placed all k (slice_get (run head earlier).packets k) refl refl
@@ -246,11 +257,13 @@ by-event most head Event.ServerTick earlier bounds within placed all =
     (tick-answers-none (run head earlier).server ((run head earlier).server.now + 1))
 by-event most head (Event.ClientTick host) earlier bounds within placed all =
     at-host most head (Event.ClientTick host) earlier bounds within placed all host (λ c. client_tick c (c.now + 1))
-    (λ c known. tick-rests (TellsOf head (Event.ClientTick host ∷ earlier) (run head earlier).journal) c (run head earlier).journal known (c.now + 1))
+    (λ c known lent. tick-rests (HadLength head (Event.ClientTick host ∷ earlier))
+    (TellsOf head (Event.ClientTick host ∷ earlier) (run head earlier).journal) c (run head earlier).journal known lent (c.now + 1))
     (slice_get (run head earlier).clients host) refl refl
 by-event most head (Event.Restart host) earlier bounds within placed all =
     at-host most head (Event.Restart host) earlier bounds within placed all host restart
-    (λ c known. restart-rests (TellsOf head (Event.Restart host ∷ earlier) (run head earlier).journal) c (run head earlier).journal)
+    (λ c known lent. restart-rests (HadLength head (Event.Restart host ∷ earlier))
+    (TellsOf head (Event.Restart host ∷ earlier) (run head earlier).journal) c (run head earlier).journal)
     (slice_get (run head earlier).clients host) refl refl
 by-event most head (Event.Crash longest) earlier bounds within placed all =
     served most head (Event.Crash longest) earlier bounds within placed all (crash (run head earlier).server longest) refl

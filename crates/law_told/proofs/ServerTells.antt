@@ -12,15 +12,16 @@ use Rattle.nq_base.specs.declared.Request.{Request}
 use Rattle.nq_base.specs.declared.Row.{Row}
 use Rattle.nq_base.specs.declared.Verdict.{Verdict}
 use Rattle.nq_base.specs.declared.Who.{Who}
+use Rattle.nq_model.specs.Ask.{grant_of}
 use Rattle.nq_model.specs.Decide.{Decision, in_the_way, verdict_reply, row_after, decides, creates, writes_through, stores, wrote, stores_recovering, resizes, removes, puts_off, commits}
 use Rattle.nq_model.specs.Hear.{inc_of}
-use Rattle.nq_model.specs.Kept.{File, Kept, blocks_of, find_name, new_file, host_row, with_row, with_files, with_new_file}
+use Rattle.nq_model.specs.Kept.{File, Kept, blocks_of, find_file, find_name, new_file, host_row, with_row, with_files, with_new_file}
 use Rattle.nq_model.specs.Message.{Message, Packet, reply, asker, Datagram, request, sequence_of}
 use Rattle.nq_model.specs.Profile.{same_bytes}
 use Rattle.nq_model.specs.Server.{Server, ServerStep, to_host, says, quiet, drops, notices, keeping, keeping_with, with_table, after_notices}
 use Rattle.nq_model.specs.ServerStep.{attaches, vacates, tells_later, serves, leases, receive}
 use Rattle.nq_model.specs.Table.{Table}
-use Rattle.nq_promises.specs.RepliesTellWhatWas.{KeepsNamed}
+use Rattle.nq_promises.specs.RepliesTellWhatWas.{KeepsAt, KeepsNamed}
 use Rattle.law_told.specs.RefusalsHaveCauses.{IsCause}
 use Rattle.law_told.proofs.Causes.{IsTold, refused-told, none-beyond, requested-lacks, declined-told}
 use Rattle.walk_run.proofs.Packets.{In, in-append, told-same, reply-same}
@@ -205,8 +206,12 @@ module _ (s : Server) (sender next : ℕ) (d : Datagram) (no_null : (xid : ℕ) 
         (row_stays refl) (λ here. row_begins refl),
   )
 
+  -- a grant tells the length of its file
+  told-length : (f : File) → find_file f.id s.kept.files ≡ Some f → KeepsAt s.kept.files f.id (blocks_of f) f.rev
+  told-length f found = record { file = f; found = found; has_length = refl; has_rev = refl }
+
   pub receive-tells : Both (receive s sender next d)
-  unfolding quiet drops says vacates serves leases with_table writes_through stores wrote stores_recovering resizes removes keeping keeping_with with_files
+  unfolding grant_of quiet drops says vacates serves leases with_table writes_through stores wrote stores_recovering resizes removes keeping keeping_with with_files
   receive-tells = server-hears s sender next d Both (record {
     stays = (no-packets s.kept, same-rows);
     dropping = λ reason. (no-packets s.kept, same-rows);
@@ -231,13 +236,13 @@ module _ (s : Server) (sender next : ℕ) (d : Datagram) (no_null : (xid : ℕ) 
         (replied xid who (Request.Read who q f.id block (Some want)) (Reply.Read who.inc f.rev body None) e refl asking.current.from refl (tt, tt), same-rows);
     reading_granted =
         λ xid who q block want f body row term e asking there c g.
-        (replied xid who (Request.Read who q f.id block (Some want)) (Reply.Read who.inc f.rev body _) e refl asking.current.from refl (tt, tt), same-rows);
+        (replied xid who (Request.Read who q f.id block (Some want)) (Reply.Read who.inc f.rev body _) e refl asking.current.from refl (tt, told-length f asking.found), same-rows);
     leasing_full =
         λ xid who want f e asking c own room.
         (replied xid who (Request.GetLease who f.id want) (Reply.GetLease who.inc None) e refl asking.current.from refl (tt, tt), same-rows);
     leasing =
         λ xid who want f row term e asking c g.
-        (replied xid who (Request.GetLease who f.id want) (Reply.GetLease who.inc _) e refl asking.current.from refl (tt, tt), same-rows);
+        (replied xid who (Request.GetLease who f.id want) (Reply.GetLease who.inc _) e refl asking.current.from refl (tt, told-length f asking.found), same-rows);
     declining = λ xid who seq r verdict e by sq fresh declines. declined xid who seq r verdict e by sq fresh.current.from declines;
     putting_off_change = λ xid who seq r f clash e by sq file base changing c. put-off xid who seq r f.id _ e by sq changing.fresh.current.from;
     creating = λ xid who seq blocks name e fresh serves can. created xid who seq blocks name e fresh.current.from can;

@@ -1,6 +1,6 @@
 -- A client makes a file, looks it up and asks for its attributes; another is refused.
-use Rattle.std.proofs.Common.{◌≡◌, List, [], ◌∷◌, Some, refl, arith}
-use Rattle.std.specs.Prelude.{slice_get}
+use Rattle.std.proofs.Common.{◌≡◌, ℕ, List, [], ◌∷◌, Some, refl, arith}
+use Rattle.std.specs.Prelude.{slice_get, zero, suc}
 use Rattle.nq_base.specs.Block.{filled, zeros}
 use Rattle.nq_base.specs.declared.Call.{Call}
 use Rattle.nq_base.specs.declared.Entry.TheVariants.{C, A}
@@ -14,7 +14,7 @@ use Rattle.nq_model.proofs.SkewTest.{skew-test-is-sound}
 use Rattle.nq_model.specs.Message.{reply}
 use Rattle.nq_model.specs.Server.{to_host}
 use Rattle.nq_model.specs.World.{Head, run}
-use Rattle.law_told.specs.Met.{TellingsAreMet, RefusalsAreMet}
+use Rattle.law_told.specs.Met.{TellingsAreMet, NoRoomIsMet, RefusalsAreMet}
 use Rattle.walk_run.proofs.GivenRuns.{given-run}
 use Rattle.walk_run.proofs.NoCrash.{no-crash-within}
 
@@ -42,6 +42,27 @@ measured = refl
 
 pub tellings-are-met : TellingsAreMet
 tellings-are-met = record { head = one-host; events = asks-all; id = 1; made = made; named = named; measured = measured }
+
+-- ---- no room
+
+-- so many files of one block, each of another name
+abbrev files-of-one : ℕ → List (List ℕ × ℕ)
+files-of-one zero = []
+files-of-one (suc count) = (count ∷ [], 1) ∷ files-of-one count
+
+abbrev all-files : Head
+all-files = record { hosts = 1; term = 30; longest = 60; files = files-of-one 256 }
+
+-- a file more is asked for
+abbrev asks-for-more : List Event
+asks-for-more = Event.Deliver 0 ∷ Event.Call 0 (Call.Create (98 ∷ 98 ∷ []) 1) ∷ []
+
+no-room : slice_get (run all-files asks-for-more).packets 1 ≡ Some (to_host 0 (reply 1 (Reply.Refused 1 Refusal.NoSpc)))
+unfolding filled zeros given-run
+no-room = refl
+
+pub no-room-is-met : NoRoomIsMet
+no-room-is-met = record { head = all-files; events = asks-for-more; files = refl; no_room = no-room }
 
 -- ---- refusals
 

@@ -1,5 +1,5 @@
 -- There are schedules after which replies tell of a file, and refuse: the laws speak of something.
-use Rattle.std.specs.Prelude.{◌≡◌, ℕ, List, [], ◌∷◌, Some, slice_get}
+use Rattle.std.specs.Prelude.{◌≡◌, ℕ, List, [], ◌∷◌, Some, length, slice_get}
 use Rattle.nq_base.specs.declared.Entry.TheVariants.{C, A}
 use Rattle.nq_base.specs.declared.Event.{Event}
 use Rattle.nq_base.specs.declared.Refusal.{Refusal}
@@ -8,6 +8,7 @@ use Rattle.nq_base.specs.declared.Said.{Said}
 use Rattle.nq_base.specs.declared.Told.{Told}
 use Rattle.nq_base.specs.declared.Who.{Who}
 use Rattle.nq_model.specs.Message.{reply}
+use Rattle.nq_model.specs.Profile.{most_files}
 use Rattle.nq_model.specs.Server.{to_host}
 use Rattle.nq_model.specs.Skew.{IsWithinSkew}
 use Rattle.nq_model.specs.World.{Head, run}
@@ -21,6 +22,13 @@ pub record TellingsAreMet : Type 0 where
   pub made : slice_get (run head events).packets 1 ≡ Some (to_host 0 (reply 1 (Reply.Create 1 id)))
   pub named : slice_get (run head events).packets 3 ≡ Some (to_host 0 (reply 2 (Reply.Lookup 1 id 1)))
   pub measured : slice_get (run head events).packets 5 ≡ Some (to_host 0 (reply 3 (Reply.GetAttr 1 1 0)))
+
+-- after some schedule CREATE was answered that there is no room: there are as many files as can be kept
+pub record NoRoomIsMet : Type 0 where
+  pub head : Head
+  pub events : List Event
+  pub files : length head.files ≡ most_files
+  pub no_room : slice_get (run head events).packets 1 ≡ Some (to_host 0 (reply 1 (Reply.Refused 1 Refusal.NoSpc)))
 
 -- after some schedule within skew LOOKUP was answered that there is no such name, GETATTR that there is no such file, CREATE that there
 -- is one of that name, and CREATE with the length 0 that no file can have it; and the calls were answered so

@@ -122,7 +122,7 @@ RefusalsHaveCauses =
 -- why a call was answered so: NOENTRY is said to `lookup` alone, and at some moment no file of its name was kept; STALE to a call that
 -- speaks of a file, and no file of its id was kept; EXISTS to `create` alone, and a file of its name was kept; NOSPACE to `create` and
 -- `resize` alone, and there was no room for such a file, or for such a length of the file; RANGE to `create` and `resize` with a length
--- that no file can have, and to a call that reads or writes a block
+-- that no file can have, and to a call that reads or writes a block, and its file had no such block
 abbrev pub IsAnsweredSo : Head → List Event → Said → Option Told → Type 0
 IsAnsweredSo head events NoEntry (Some (Lookup name)) = Once (λ w. LacksName w.server.kept.files name) head events
 IsAnsweredSo head events NoEntry other = ⊥
@@ -134,10 +134,10 @@ IsAnsweredSo head events NoSpace (Some (Resize file blocks)) = Once (λ w. Canno
 IsAnsweredSo head events NoSpace other = ⊥
 IsAnsweredSo head events Range (Some (Create name blocks)) = IsNoLength blocks
 IsAnsweredSo head events Range (Some (Resize file blocks)) = IsNoLength blocks
-IsAnsweredSo head events Range (Some (Read file block)) = ⊤
-IsAnsweredSo head events Range (Some (Fetch file block)) = ⊤
-IsAnsweredSo head events Range (Some (Write file block value)) = ⊤
-IsAnsweredSo head events Range (Some (WriteSync file block value)) = ⊤
+IsAnsweredSo head events Range (Some (Read file block)) = Once (λ w. LacksBlock w.server.kept.files file block) head events
+IsAnsweredSo head events Range (Some (Fetch file block)) = Once (λ w. LacksBlock w.server.kept.files file block) head events
+IsAnsweredSo head events Range (Some (Write file block value)) = Once (λ w. LacksBlock w.server.kept.files file block) head events
+IsAnsweredSo head events Range (Some (WriteSync file block value)) = Once (λ w. LacksBlock w.server.kept.files file block) head events
 IsAnsweredSo head events Range other = ⊥
 IsAnsweredSo head events other told = ⊤
 

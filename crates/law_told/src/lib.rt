@@ -2,7 +2,7 @@
 //! in `proofs/`.
 #![tactic(auto)]
 
-ghost use Rattle.law_told.specs.Met.{RefusalsAreMet, TellingsAreMet};
+ghost use Rattle.law_told.specs.Met.{NoRoomIsMet, RefusalsAreMet, TellingsAreMet};
 ghost use Rattle.law_told.specs.RefusalsHaveCauses.{AnswersHaveCauses, RefusalsHaveCauses};
 ghost use Rattle.nq_promises.specs.AnswersTellWhatWas.{AnswersTellWhatWas};
 ghost use Rattle.nq_promises.specs.RepliesTellWhatWas.{RepliesTellWhatWas};
@@ -28,8 +28,8 @@ pub fn refusals_have_causes()
 
 /// After every schedule within skew, what an answer that refuses says stood at the server at some moment, and that not after the answer:
 /// `noentry` that no file of the name was kept, `stale` that no file of the id was, `exists` that one of the name was, and `nospace` that
-/// there was no room. `range` is said to a call that reads or writes a block, and to `create` and `resize` with a length that no file can
-/// have.
+/// there was no room. `range` is said to a call that reads or writes a block where the file had no such block, and to `create` and `resize`
+/// with a length that no file can have.
 pub fn answers_have_causes()
     ensures { AnswersHaveCauses }
 {}
@@ -37,6 +37,11 @@ pub fn answers_have_causes()
 /// There is such a schedule: a client makes a file, looks it up and asks for its attributes.
 pub fn tellings_are_met()
     ensures { TellingsAreMet }
+{}
+
+/// There is such a schedule: a client asks for a file where there are as many as can be kept.
+pub fn no_room_is_met()
+    ensures { NoRoomIsMet }
 {}
 
 /// There is such a schedule: a client asks for a name and a file that are not there, makes a file twice, and asks for one of no block.

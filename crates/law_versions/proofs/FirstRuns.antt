@@ -25,7 +25,7 @@ use Rattle.nq_model.specs.ServerStep.{boot, booted, crash, receive, tick}
 use Rattle.nq_model.specs.Table.{same_who}
 use Rattle.nq_model.specs.World.{Head, World, after_client, after_hearing, after_server, at_client, deliver, deliver_to, deliver_to_client, run, sending_host, start, step}
 use Rattle.walk_client.proofs.ClientFacts.{fits_job}
-use Rattle.walk_entries.proofs.ClientEntries.{AnyCall, any-going, call-keeps, tick-keeps as client-tick-keeps, hear-keeps, restart-keeps}
+use Rattle.walk_entries.proofs.ClientEntries.{AnyCall, AnyLength, any-going, any-lent, call-keeps, tick-keeps as client-tick-keeps, hear-keeps, restart-keeps}
 use Rattle.walk_entries.proofs.ServerEntries.{receive-each, tick-each}
 use Rattle.walk_run.proofs.Worlds.{Holds, run-holds}
 use Rattle.walk_server.proofs.ServerMoves.{phase-moves, receive-keeps, server-moves, tick-keeps, tick-moves}
@@ -76,8 +76,9 @@ module _ (w : World) (g : Good w) where
   to-client : Holds w → (k host : ℕ) (m : Message) (o : Option Client) → slice_get w.clients host ≡ o → Good (deliver_to_client w k host m o)
   to-client h k host m None is = g
   to-client h k host m (Some c) is =
-      heard host (hear c k m) (λ t hears. hear-keeps AnyCall AllTell client-tells c k m t hears (fits h host c is) tt (any-going c.who c.call)
-      (λ xid r ticket u answer is_reply asked same inc called job named. (tt, tt)))
+      heard host (hear c k m) (λ t hears. (hear-keeps AnyCall AnyLength AllTell client-tells c k m t hears (fits h host c is) tt (any-going c.who c.call)
+      (any-lent c.leases) (λ xid r ticket file g is_reply asked same inc by. tt)
+      (λ xid r ticket u answer is_reply asked same inc called job named. (tt, tt))).0)
 
   to-server : (sender next : ℕ) (d : Datagram) → Good (after_server w (receive w.server sender next d))
   to-server sender next d =
@@ -118,12 +119,12 @@ starts head is = record { journal = tt; kept = is; longest = is }
 
 stepped : (w : World) (e : Event) → Holds w → IsOfFirst e → Good w → Good (step w e)
 stepped w (Event.Call host op) h first g =
-    at-client-good w g host (λ c. client_call c op) (slice_get w.clients host) (λ c. call-keeps AnyCall AllTell client-tells c op (first, tt) (any-going c.who c.call) tt)
+    at-client-good w g host (λ c. client_call c op) (slice_get w.clients host) (λ c. (call-keeps AnyCall AnyLength AllTell client-tells c op (first, tt) (any-going c.who c.call) tt (any-lent c.leases)).0)
 stepped w (Event.Deliver k) h first g = delivered w g h k (slice_get w.packets k)
 stepped w Event.ServerTick h first g = ticked w g (w.server.now + 1)
 stepped w (Event.ClientTick host) h first g =
-    at-client-good w g host (λ c. client_tick c (c.now + 1)) (slice_get w.clients host) (λ c. client-tick-keeps AnyCall AllTell client-tells c (c.now + 1) tt (any-going c.who c.call))
-stepped w (Event.Restart host) h first g = at-client-good w g host restart (slice_get w.clients host) (λ c. restart-keeps AnyCall AllTell client-tells c (tt, tt))
+    at-client-good w g host (λ c. client_tick c (c.now + 1)) (slice_get w.clients host) (λ c. (client-tick-keeps AnyCall AnyLength AllTell client-tells c (c.now + 1) tt (any-going c.who c.call) (any-lent c.leases)).0)
+stepped w (Event.Restart host) h first g = at-client-good w g host restart (slice_get w.clients host) (λ c. (restart-keeps AnyCall AnyLength AllTell client-tells c (tt, tt)).0)
 stepped w (Event.Crash longest) h first g = crashed w g longest first
 
 runs : (head : Head) (events : List Event) → head.longest ≡ 60 → AllByRecursion IsOfFirst events → Good (run head events)

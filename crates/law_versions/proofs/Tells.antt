@@ -3,7 +3,7 @@ use Rattle.std.proofs.Common.{◌≡◌, List, [], ◌∷◌, ◌++◌}
 use Rattle.nq_base.specs.declared.Entry.{Entry}
 use Rattle.nq_words.specs.Forms.{HasTold}
 use Rattle.nq_model.specs.Journal.{Each}
-use Rattle.walk_entries.proofs.ClientEntries.{AnyCall, OfClient}
+use Rattle.walk_entries.proofs.ClientEntries.{AnyCall, AnyLength, OfClient}
 use Rattle.walk_entries.proofs.ServerEntries.{OfServer}
 
 -- where the entry is a call or a boot, version 1 has it
@@ -32,10 +32,10 @@ server-tells = record {
 }
 
 -- nor a client, but the call that is made
-pub client-tells : OfClient AnyCall AllTell
+pub client-tells : OfClient AnyCall AnyLength AllTell
 client-tells = record {
   answered = λ who q said before plain h. (tt, h);
-  outside = λ who q op before of_block goes h. (tt, h);
+  outside = λ who q op before past goes h. (tt, h);
   read = λ who q file block value before h. (tt, (tt, h));
   delayed = λ who file block number value before h. (tt, h);
   lost = λ who file block first last before h. (tt, h);

@@ -1,0 +1,5 @@
+mod Emptied
+mod Failing
+pub mod Opened
+pub mod Readying
+pub mod Surviving

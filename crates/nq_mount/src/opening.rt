@@ -1,37 +1,42 @@
 //! Opening an image, or making it.
 
-ghost use Rattle.std.specs.Prelude.{◌≡◌, ◌<◌, ℕ, List, Some, length, IfOk};
+ghost use Rattle.std.specs.Option.{ForSome};
+ghost use Rattle.std.specs.Prelude.{◌≡◌, ◌<◌, [], Some, length, IfOk};
+ghost use Rattle.nq_image.specs.Nothing.{nothing_kept};
+ghost use Rattle.nq_mount.specs.Opening.{OpensOrMakes, Readies};
 ghost use Rattle.nq_store.specs.Storing.{IsFresh, content_of, kept_told};
 
 use nq_disk::{Disk, DiskFault};
 use nq_store::{OpenFault, Store, format};
 use std::alloc::Global;
 
-/// Opens the image on a disk. A disk with no byte is made an empty image first; of any other one the bytes stay as they are until it
-/// is opened, and what they stood for is kept.
+/// Opens the image on a disk. A disk with no byte is made an image first, in which nothing is kept; of any other one the bytes stay as
+/// they are until it is opened, and what they stood for is kept, whenever a stop comes. A stop while the image is made may leave
+/// bytes that are none.
 ///
 /// # Errors
 ///
-/// Those of [`Store::open`], and `Failed` where the disk failed before.
+/// Those of [`Store::open`], and `Failed` where the disk failed before. An empty disk is never refused for its bytes.
 pub fn open_or_make<D: Disk + Drop>(alloc: Global, disk: D) -> Result<Store<D>, OpenFault<D>>
-    ensures keeps { (bytes : List ℕ) → D.told disk ≡ Some bytes → 0 < length bytes → IfOk result (λ store. content_of D.told store ≡ kept_told (D.told disk)) }
+    ensures opens { OpensOrMakes D.told D.faults D.may_leave D.follows D.leaves disk result }
+    ensures keeps { ForSome (D.told disk) (λ bytes. 0 < length bytes → IfOk result (λ store. content_of D.told store ≡ kept_told (D.told disk))) }
+    ensures makes { D.told disk ≡ Some [] → IfOk result (λ store. content_of D.told store ≡ Some nothing_kept) }
     ensures fresh { IfOk result IsFresh }
 {
     let mut disk = disk;
-    match make_if_empty(&mut disk) {
+    match make_ready(&mut disk) {
         Ok(()) => Store::open(alloc, disk),
         Err(_) => Err(OpenFault::Failed(disk)),
     }
 }
 
 /// Makes a disk an empty image, if it has no byte.
-fn make_if_empty<D: Disk>(disk: &mut D) -> Result<(), DiskFault>
-    ensures keeps { (bytes : List ℕ) → D.told disk.old ≡ Some bytes → 0 < length bytes → D.told disk.new ≡ D.told disk.old }
-    ensures follows { D.follows disk.old disk.new }
+fn make_ready<D: Disk>(disk: &mut D) -> Result<(), DiskFault>
+    ensures { Readies D.told D.faults D.may_leave D.follows D.leaves result disk.old disk.new }
 {
-    if disk.size()? == 0 {
-        format(disk)
-    } else {
-        Ok(())
+    match disk.size() {
+        Ok(0) => format(disk),
+        Ok(_) => Ok(()),
+        Err(fault) => Err(fault),
     }
 }

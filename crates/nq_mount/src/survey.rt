@@ -1,9 +1,16 @@
-//! What a keeper keeps, in numbers.
+//! What a store keeps, in numbers.
+
+ghost use Rattle.std.specs.Option.{ForSome};
+ghost use Rattle.std.specs.Prelude.{◌≡◌, false, IfOk, IsOk};
+ghost use Rattle.nq_model.specs.Change.{heads_of, space_of};
+ghost use Rattle.nq_store.specs.Storing.{content_of};
 
 use nq_base::{Heads, Space};
+use nq_disk::Disk;
 use nq_keeper::{KeepFault, Keeper};
+use nq_store::Store;
 
-/// What a keeper keeps, in numbers.
+/// What a store keeps, in numbers.
 #[derive(Clone, Copy, PartialEq, Eq)]
 pub struct Survey {
     /// The numbers of the server.
@@ -12,14 +19,18 @@ pub struct Survey {
     pub space: Space,
 }
 
-/// Counts what a keeper keeps.
+/// Counts what a store keeps.
 ///
 /// # Errors
 ///
-/// Those of the keeper.
-pub fn surveyed<K: Keeper>(keeper: &mut K) -> Result<Survey, KeepFault> {
+/// `Failed` only where a change failed before.
+pub fn surveyed<D: Disk + Drop>(store: &mut Store<D>) -> Result<Survey, KeepFault>
+    ensures told { ForSome (content_of D.told store.old) (λ kept. IfOk result (λ survey. (survey.heads ≡ heads_of kept) × (survey.space ≡ space_of kept))) }
+    ensures succeeds { store.old.ended ≡ false → IsOk result }
+    ensures same { store.old.ended ≡ false → store.new ≡ store.old }
+{
     Ok(Survey {
-        heads: keeper.heads()?,
-        space: keeper.space()?,
+        heads: store.heads()?,
+        space: store.space()?,
     })
 }

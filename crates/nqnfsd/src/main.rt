@@ -7,7 +7,7 @@ mod words;
 
 ghost use Rattle.std.specs.Prelude.{◌≤◌};
 
-use crate::serving::serve_image;
+use crate::serving::serve_over;
 use crate::words::{Options, Order, order_of};
 use nq_ending::Ending;
 use std::alloc::AllocError;
@@ -74,7 +74,7 @@ fn serve(rt: &HostRuntime, words: &[String], options: Options) -> Result<Ending,
         },
         None => IMAGE,
     };
-    serve_image(rt, image, options.longest.clamp(5, 600), options.every)
+    serve_over(rt, image, options.longest.clamp(5, 600), options.every)
 }
 
 /// The words behind the program's name.

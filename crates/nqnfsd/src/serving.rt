@@ -2,14 +2,14 @@
 
 ghost use Rattle.std.specs.Prelude.{◌≤◌};
 
-use nq_base::Party;
+use nq_base::{Journal, Party, Ticks};
 use nq_clock::StdClock;
-use nq_daemon::{MOST_TURNS, Served, keep_serving};
+use nq_daemon::{MOST_TURNS, Watcher};
 use nq_disk::FileDisk;
 use nq_ending::{Ending, Halt};
 use nq_link::{Came, Link, UdpLink};
-use nq_mount::{Survey, open_or_make, surveyed};
-use nq_store::{OpenFault, Store};
+use nq_mount::{Greeter, Survey, serve_image};
+use nq_store::OpenFault;
 use nq_streams::StdSink;
 use nq_traffic::{CountedLink, Report};
 use std::alloc::AllocError;
@@ -21,8 +21,28 @@ const PORT: u16 = 20560;
 // By how many seconds a recovery is longer than the longest term of the boot before it: the skew and the write slack.
 const BEYOND: u32 = 8;
 
+/// A watcher who also says what the server begins with.
+#[derive(Drop)]
+struct Teller<'a, R> {
+    rt: &'a HostRuntime,
+    image: &'a str,
+    report: R,
+}
+
+impl<R> Greeter for Teller<'_, R> {
+    fn opened(&mut self, survey: &Survey) {
+        tell_start(self.rt, self.image, survey);
+    }
+}
+
+impl<L, R: Watcher<L>> Watcher<L> for Teller<'_, R> {
+    fn turned(&mut self, link: &L, now: Ticks, rows: usize, log: &Journal) {
+        self.report.turned(link, now, rows, log);
+    }
+}
+
 /// Serves over the image in this file until something stops it; how that ends.
-pub(crate) fn serve_image(
+pub(crate) fn serve_over(
     rt: &HostRuntime,
     image: &str,
     longest: u32,
@@ -38,10 +58,7 @@ pub(crate) fn serve_image(
     let Ok(disk) = FileDisk::new(rt.alloc(), rt.clone()?, image) else {
         return Err(AllocError);
     };
-    match open_or_make(rt.alloc(), disk) {
-        Ok(store) => serve_store(rt, image, store, link, longest, every),
-        Err(fault) => tell_fault(rt, image, fault),
-    }
+    serve_disk(rt, image, disk, link, longest, every)
 }
 
 /// Binds the server's socket, and says why not where it cannot. A datagram that comes at that very moment is lost.
@@ -83,11 +100,11 @@ fn tell_fault(
     }
 }
 
-/// Serves over a store until something stops it; how that ends.
-fn serve_store(
+/// Serves over a disk until something stops it; how that ends.
+fn serve_disk(
     rt: &HostRuntime,
     image: &str,
-    store: Store<FileDisk>,
+    disk: FileDisk,
     link: UdpLink<HostRuntime>,
     longest: u32,
     every: Option<u64>,
@@ -95,24 +112,25 @@ fn serve_store(
     requires long { 5 ≤ longest }
     requires short { longest ≤ 600 }
 {
-    let mut store = store;
-    if let Ok(found) = surveyed(&mut store) {
-        tell_start(rt, image, &found);
-    }
     let mut link = CountedLink::new(link);
     let mut clock = StdClock::new(rt.clone()?);
-    let mut report = Report::new(rt.alloc(), StdSink::new(io::writer(rt)), every);
-    let Served { ended, keeper } = keep_serving(
+    let mut teller = Teller {
+        rt,
+        image,
+        report: Report::new(rt.alloc(), StdSink::new(io::writer(rt)), every),
+    };
+    match serve_image(
         rt.alloc(),
-        store,
+        disk,
         MOST_TURNS,
         longest,
         &mut link,
         &mut clock,
-        &mut report,
-    );
-    let _disk = keeper.into_disk();
-    tell_end(rt, image, ended)
+        &mut teller,
+    ) {
+        Ok(left) => tell_end(rt, image, left.ended),
+        Err(fault) => tell_fault(rt, image, fault),
+    }
 }
 
 /// Says what the server begins with.

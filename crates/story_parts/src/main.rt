@@ -1,26 +1,81 @@
-//! What the parts do that servers, clients and the world are made of: bytes in and out, clocks, fates, leases, links and packets. Each
-//! prints what comes of its calls. The stories of lease tables stand in the standard input.
+//! Worked stories of the parts: what they read, a server, and clients. The expected bytes are written from RFC 1014, from RFC 1057 section 8
+//! and from the table of procedures, not from what a part sent.
+//!
+//! The stories stand in the standard input; a line behind a `#` is for the reader. A line that begins with `=` begins one of a server that
+//! booted for the first time and keeps nothing. Each line behind it happens to the server and is printed with what comes of it: `tick` or
+//! `crash` with its time; or a host and the words of its datagram, answered by the host and the words of each datagram that the server sends,
+//! with `|` between two, or by why it drops what came. `tell` prints the journal.
+//!
+//! A line that begins with `client` is a whole story of a client: its name, whether the client of incarnation 1 is `attached` at time 0 or
+//! `start`s there, its host and the term that it wants, and what happens, parted by `;`. A user calls; `receive` brings a datagram in the
+//! packet of a number; `ticks` lets the clock tick so often; and `cached` reads a cached block. Printed is what comes of each, then the number
+//! and the procedure of each datagram that was sent, and then the journal.
+//!
+//! A line that begins with the name of an item, a message, a request, a reply, a datagram, a journal or a schedule is read as one: its
+//! numbers, and words in hexadecimal or a text, in which `;` stands for each line feed and `\r` for a carriage return. What was read is
+//! written again, and `again` says that this gives the same.
 #![tactic(auto)]
 
-mod bytes;
-mod changes;
-mod clocks;
-mod fates;
-mod leases;
-mod links;
-mod packets;
+mod client;
+mod datagrams;
+mod items;
+mod journals;
+mod messages;
+mod schedules;
+mod server;
+mod words;
 
-use anyhow::Result;
+use crate::server::Story;
+use anyhow::{Context, Result};
+use std::str;
 
 fn main(rt: HostRuntime) -> Result<()> {
-    bytes::sources(&rt)?;
-    bytes::sinks(&rt)?;
-    bytes::wholes(&rt)?;
-    clocks::clocks(&rt)?;
-    fates::words(&rt)?;
-    fates::menu(&rt)?;
-    fates::fates(&rt)?;
-    leases::stories(&rt)?;
-    links::in_memory(&rt)?;
-    packets::packets(&rt)
+    let mut story = Story::begin(rt.alloc())?;
+    for line in rt.lines(rt.alloc()) {
+        let line = line?;
+        if line.starts_with('=') {
+            story = Story::begin(rt.alloc())?;
+            println!(rt; "{line}")?;
+        } else if !line.starts_with('#') {
+            let (verb, rest) = line.split_once(' ').unwrap_or((&line, ""));
+            play(&rt, &mut story, verb, rest)?;
+        }
+    }
+    journals::long(&rt)
+}
+
+/// Plays a line, and prints what comes of it.
+fn play(rt: &HostRuntime, story: &mut Story, verb: &str, rest: &str) -> Result<()> {
+    match verb {
+        "client" => client::play(rt, rest)?,
+        "tell" => {
+            let journal = journals::told(rt.alloc(), story.log())?;
+            print!(rt; "{}", str::from_utf8(journal.bytes())?)?;
+        }
+        "tick" | "crash" => {
+            let time = u64::from_str_radix(rest, 10)?;
+            println!(rt; "{verb} {rest}: {}", story.goes_on(verb == "tick", time)?)?;
+        }
+        _ => println!(rt; "{verb} {rest} -> {}", said_of(rt, story, verb, rest)?)?,
+    }
+    Ok(())
+}
+
+/// What a line is read as, or what the server answers to it.
+fn said_of(rt: &HostRuntime, story: &mut Story, verb: &str, rest: &str) -> Result<String> {
+    let alloc = rt.alloc();
+    match verb {
+        "opaque" => items::opaque(alloc, rest),
+        "boolean" => items::boolean(alloc, rest),
+        "file" => items::file(alloc, rest),
+        "message" => messages::message(alloc, rest),
+        "prefixes" => messages::prefixes(alloc, rest),
+        "request" => datagrams::request(alloc, rest),
+        "reply" => datagrams::reply(alloc, rest),
+        "incoming" => datagrams::incoming(alloc, rest),
+        "heard" => datagrams::heard(alloc, rest),
+        "journal" => journals::journal(alloc, rest),
+        "schedule" => schedules::schedule(rt, rest),
+        _ => story.answer(verb, rest),
+    }
 }

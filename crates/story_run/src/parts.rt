@@ -28,26 +28,6 @@ pub(crate) fn failing(alloc: Global, first: bool) -> Result<Vec<u32>, NoMemory> 
     Ok(numbers)
 }
 
-/// A text whose line feeds are told by `;`, with the blank that stands before it left out.
-pub(crate) fn text_of(alloc: Global, told: &str) -> Result<Vec<u8>, NoMemory> {
-    let mut text = Vec::new(alloc);
-    for byte in told.bytes().skip(1) {
-        text.push(if byte == b';' { b'\n' } else { byte })?;
-    }
-    Ok(text)
-}
-
-/// A text that is doubled so many times.
-pub(crate) fn doubled(alloc: Global, text: Vec<u8>, times: u32) -> Result<Vec<u8>, NoMemory> {
-    let mut text = text;
-    for _ in 0..times {
-        let mut copy = Vec::new(alloc);
-        copy.extend_from_slice(&text)?;
-        text.extend_from_slice(&copy)?;
-    }
-    Ok(text)
-}
-
 /// Keeps in an empty keeper that the last boot that there can be was made.
 fn keep_last_boot(keeper: &mut ListKeeper) -> Result<(), KeepFault>
     requires { told_of keeper.old.kept ≡ empty_kept }

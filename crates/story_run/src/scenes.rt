@@ -1,6 +1,6 @@
 //! What words do in a scene.
 
-use crate::parts::{clock_of, doubled, failing, keeper_of, link_of, links_of, text_of};
+use crate::parts::{clock_of, failing, keeper_of, link_of, links_of};
 use crate::top::status_of;
 use anyhow::Result;
 use nq_base::{Host, Party};
@@ -8,8 +8,8 @@ use nq_io::{MemSink, MemSource};
 use nq_run::Words;
 use std::alloc::Global;
 
-/// The most bytes that a story prints.
-const ROOM: usize = 4096;
+/// The most bytes that a scene prints.
+const ROOM: usize = 4_194_304;
 
 /// Words that stand behind one another, with a blank between two.
 fn words_of(alloc: Global, said: &str) -> Result<Words> {
@@ -20,24 +20,21 @@ fn words_of(alloc: Global, said: &str) -> Result<Words> {
     Ok(words)
 }
 
-/// The input of a scene.
-fn source_of(alloc: Global, scene: &str, input: &str) -> Result<MemSource> {
-    let failing = failing(alloc, scene.ends_with("unread"))?;
-    let times = if scene.starts_with("long") { 24 } else { 0 };
-    let text = doubled(alloc, text_of(alloc, input)?, times)?;
-    Ok(MemSource::new(text, failing))
-}
-
 /// The sink of a scene.
 fn sink_of(alloc: Global, scene: &str) -> Result<MemSink> {
     let failing = failing(alloc, scene.ends_with("unput"))?;
     Ok(MemSink::new(alloc, ROOM, failing)?)
 }
 
-/// Runs what words say in a scene; the status, and what was printed.
-pub(crate) fn play(alloc: Global, scene: &str, said: &str, input: &str) -> Result<(u8, MemSink)> {
+/// Runs what words say in a scene, with an input; the status, and what was printed.
+pub(crate) fn play(
+    alloc: Global,
+    scene: &str,
+    said: &str,
+    input: Vec<u8>,
+) -> Result<(u8, MemSink)> {
     let words = words_of(alloc, said)?;
-    let mut source = source_of(alloc, scene, input)?;
+    let mut source = MemSource::new(input, failing(alloc, scene.ends_with("unread"))?);
     let mut out = sink_of(alloc, scene)?;
     let keeper = keeper_of(alloc, scene, &words)?;
     let mut link = link_of(alloc, scene, Party::Client(Host(0)))?;

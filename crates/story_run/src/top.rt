@@ -10,10 +10,10 @@ use nq_clock::Clock;
 use nq_io::{Sink, Source};
 use nq_keeper::Keeper;
 use nq_link::Link;
-use nq_run::{Fate, HostileFate, NoMemory, SteadyFate, Words, run};
+use nq_run::{CutFate, Fate, HostileFate, LossyFate, NoMemory, SteadyFate, Words, run};
 use std::alloc::Global;
 
-/// Runs what the words say, with two of the four fates; the status. What `run` promises stays within: a story knows none of it, and so proves nothing of it either.
+/// Runs what the words say; the status. What `run` promises stays within: a story knows none of it, and so proves nothing of it either.
 pub(crate) fn status_of<S: Source, K: Sink, P: Keeper + Drop, L: Link, C: Clock>(
     alloc: Global,
     words: &Words,
@@ -29,6 +29,8 @@ pub(crate) fn status_of<S: Source, K: Sink, P: Keeper + Drop, L: Link, C: Clock>
 {
     let mut fates: Vec<Box<dyn Fate>> = Vec::new(alloc);
     fates.push(Box::new(alloc, SteadyFate::new())?)?;
+    fates.push(Box::new(alloc, LossyFate::new())?)?;
+    fates.push(Box::new(alloc, CutFate::new())?)?;
     fates.push(Box::new(alloc, HostileFate::new())?)?;
     let ran = run(
         alloc,

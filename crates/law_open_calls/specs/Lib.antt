@@ -1,0 +1,3 @@
+pub mod CallsAnswered
+pub mod StoredInTime
+pub mod Met

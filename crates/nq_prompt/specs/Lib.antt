@@ -1,0 +1,4 @@
+pub mod Answers
+pub mod Lines
+pub mod Pieces
+pub mod Starts

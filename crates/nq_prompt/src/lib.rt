@@ -1,0 +1,12 @@
+//! What stands at a prompt: the lines that a user writes there, answers in words, whole files in blocks, and how often a host was started.
+#![tactic(auto)]
+
+mod answers;
+mod lines;
+mod pieces;
+mod starts;
+
+pub use answers::push_answer;
+pub use lines::{Line, line_of};
+pub use pieces::{MOST_BYTES, blocks_for, length_in, piece, push_body};
+pub use starts::{FIRST_START, next_start, push_start};

@@ -1,0 +1,115 @@
+//! Whole files in blocks. The first block of a file tells how many bytes the file has, and the others have these bytes, the last
+//! of them filled up with zeros.
+
+ghost use Rattle.std.specs.Prelude.{◌≡◌, ◌+◌, ◌-◌, ◌^◌, ◌*◌, ◌++◌, ◌<◌, ◌≤◌, length, take, replicate, IfOk, OnOk};
+ghost use Rattle.nq_base.specs.Block.{filled, word};
+ghost use Rattle.nq_prompt.specs.Pieces.{blocks_for, length_in, most_bytes, piece_of};
+
+use nq_base::{Block, NoMemory, Seen};
+use nq_words::push_bytes;
+use std::alloc::Global;
+
+/// The most bytes of a file: those of 1024 blocks but the first.
+pub const MOST_BYTES: usize = 4_190_208;
+
+/// In how many blocks a file of so many bytes is put.
+#[tactic(auto, unfolding(crate::specs::Pieces::blocks_for, crate::specs::Pieces::most_bytes))]
+pub fn blocks_for(length: usize) -> u32
+    requires { length ≤ most_bytes }
+    ensures { result ≡ blocks_for length }
+{
+    1 + length.div_ceil(Block::SIZE) as u32
+}
+
+/// How many bytes a file has whose first block has this value, and that has so many blocks; None where it was not put as a whole file,
+/// or not to its end.
+#[tactic(auto, unfolding(crate::specs::Pieces::length_in, crate::specs::Pieces::blocks_for, crate::specs::Pieces::most_bytes))]
+pub fn length_in(value: u32, blocks: u32) -> Option<usize>
+    ensures { result ≡ length_in value blocks }
+{
+    let length = value.checked_sub(1)? as usize;
+    if length <= MOST_BYTES && blocks_for(length) == blocks {
+        Some(length)
+    } else {
+        None
+    }
+}
+
+/// The block with the bytes of a file from a place on, with zeros behind the last. The first piece has place 0.
+#[tactic(auto, unfolding(crate::specs::Pieces::piece_of))]
+pub fn piece(alloc: Global, bytes: &[u8], place: usize) -> Result<Block, NoMemory>
+    requires { 4096 * place < length bytes.now }
+    ensures { IfOk result (λ block. block ≡ piece_of place bytes.now) }
+{
+    let whole = filled_up(alloc, front_of(&bytes[Block::SIZE * place..]))?;
+    match Block::from_bytes(alloc, &whole)? {
+        Some(block) => Ok(block),
+        None => unreachable!(),
+    }
+}
+
+/// The first bytes, as many as a block has.
+fn front_of(bytes: &[u8]) -> &[u8]
+    ensures front { result.now ≡ take 4096 bytes.now }
+    ensures short { length result.now ≤ 4096 }
+{
+    if bytes.len() < Block::SIZE {
+        bytes
+    } else {
+        &bytes[..Block::SIZE]
+    }
+}
+
+/// These bytes, with zeros behind them up to the size of a block.
+fn filled_up(alloc: Global, bytes: &[u8]) -> Result<Vec<u8>, NoMemory>
+    requires { length bytes.now ≤ 4096 }
+    ensures filled { IfOk result (λ whole. whole.items ≡ bytes.now ++ replicate (4096 - length bytes.now) 0) }
+    ensures size { IfOk result (λ whole. length whole.items ≡ 4096) }
+{
+    let mut whole = Vec::with_capacity(alloc, Block::SIZE)?;
+    push_bytes(&mut whole, bytes)?;
+    push_zeros(&mut whole, Block::SIZE - bytes.len())?;
+    Ok(whole)
+}
+
+/// Adds zeros.
+fn push_zeros(bytes: &mut Vec<u8>, count: usize) -> Result<(), NoMemory>
+    requires { length bytes.old.items + count < 2 ^ 64 }
+    ensures { OnOk result (bytes.new.items ≡ bytes.old.items ++ replicate count 0) }
+{
+    bytes.resize(bytes.len() + count, 0)?;
+    Ok(())
+}
+
+/// Appends the bytes of a block.
+pub fn push_body(out: &mut Vec<u8>, body: &Block) -> Result<(), NoMemory>
+    ensures { OnOk result (out.new.items ≡ out.old.items ++ body.now) }
+{
+    match body.seen() {
+        Seen::Bytes(bytes) => push_bytes(out, bytes),
+        Seen::Filled(value) => push_filled(out, value),
+    }
+}
+
+/// Appends a word of four bytes, 1024 times.
+fn push_filled(out: &mut Vec<u8>, value: u32) -> Result<(), NoMemory>
+    ensures { OnOk result (out.new.items ≡ out.old.items ++ filled value) }
+{
+    let word = word_of(value);
+    for _round in 0..1024u32 {
+        push_bytes(out, &word)?;
+    }
+    Ok(())
+}
+
+/// The four bytes of a number, the highest first.
+fn word_of(value: u32) -> [u8; 4]
+    ensures { result ≡ word value }
+{
+    [
+        (value / 0x0100_0000) as u8,
+        (value / 0x0001_0000 % 0x0100) as u8,
+        (value / 0x0100 % 0x0100) as u8,
+        (value % 0x0100) as u8,
+    ]
+}

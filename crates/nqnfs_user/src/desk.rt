@@ -1,0 +1,151 @@
+//! A client at work, call by call.
+
+use nq_base::{Answer, Call, Journal, Who};
+use nq_client::Client;
+use nq_clock::{Clock, StdClock};
+use nq_ending::Halt;
+use nq_link::UdpLink;
+use nq_node::{ClientTurn, client_turn, send_all};
+use nq_wire::Outbox;
+use std::alloc::Global;
+
+/// The most turns that are taken for one call.
+const MOST_TURNS: u32 = 1 << 30;
+
+/// The term that a client wants, in ticks.
+const TERM: u32 = 30;
+
+/// How a client works.
+#[derive(Clone, Copy)]
+pub(crate) struct Terms {
+    /// The host and its incarnation, which no start before this one had.
+    pub(crate) who: Who,
+    /// After how many ticks without an answer a call is given up.
+    pub(crate) patience: u64,
+}
+
+/// A client at work, with its link and its clock. A turn that the link stopped is borne: what was not sent is sent again later.
+/// It has to be closed in the end.
+pub(crate) struct UserDesk {
+    client: Client,
+    patience: u64,
+    next: u64,
+    link: UdpLink<HostRuntime>,
+    clock: StdClock<HostRuntime>,
+}
+
+impl UserDesk {
+    /// A client that begins an incarnation and is attached.
+    ///
+    /// # Errors
+    ///
+    /// `NoAnswer` where the server did not attach it in time, and `Memory` where memory was wanting.
+    pub(crate) fn open(
+        alloc: Global,
+        terms: Terms,
+        link: UdpLink<HostRuntime>,
+        clock: StdClock<HostRuntime>,
+    ) -> Result<UserDesk, Halt> {
+        let mut clock = clock;
+        let mut link = link;
+        let now = clock.now();
+        let mut out = Outbox::new(alloc, 0).unwrap();
+        let who = terms.who;
+        let Ok(client) = Client::start(alloc, who.host, who.inc, TERM, now, &mut out) else {
+            return Err(Halt::Memory);
+        };
+        let _sent = send_all(&mut link, &out);
+        let mut desk = UserDesk {
+            client,
+            patience: terms.patience,
+            next: 0,
+            link,
+            clock,
+        };
+        match desk.attach(alloc) {
+            Ok(()) => Ok(desk),
+            Err(why) => {
+                desk.close();
+                Err(why)
+            }
+        }
+    }
+
+    /// Takes turns until the server attaches the client.
+    fn attach(&mut self, alloc: Global) -> Result<(), Halt> {
+        let began = self.client.time().0;
+        for _turn in 0..MOST_TURNS {
+            if self.client.is_attached() {
+                return Ok(());
+            }
+            self.take_turn(alloc)?;
+            if self.client.time().0.saturating_sub(began) > self.patience {
+                return Err(Halt::NoAnswer);
+            }
+        }
+        Err(Halt::NoAnswer)
+    }
+
+    /// Makes a call, and takes turns until it is answered.
+    ///
+    /// # Errors
+    ///
+    /// `NoAnswer` where it was not answered in time: it goes on, and no other call can be made. `Memory` where memory was wanting, and
+    /// `Spent` where the client takes in no more.
+    pub(crate) fn ask(&mut self, alloc: Global, call: &Call) -> Result<Answer, Halt> {
+        let mut out = Outbox::new(alloc, 0).unwrap();
+        let mut log = Journal::new(alloc).unwrap();
+        let answer = self.client.call(call, &mut out, &mut log);
+        let _sent = send_all(&mut self.link, &out);
+        match answer {
+            Answer::Pending => self.wait(alloc),
+            Answer::Memory => Err(Halt::Memory),
+            Answer::Spent => Err(Halt::Spent),
+            answer => Ok(answer),
+        }
+    }
+
+    /// Takes turns until the call under way is answered.
+    fn wait(&mut self, alloc: Global) -> Result<Answer, Halt> {
+        let began = self.client.time().0;
+        for _turn in 0..MOST_TURNS {
+            if let Some(answer) = self.take_turn(alloc)? {
+                return Ok(answer);
+            }
+            if self.client.time().0.saturating_sub(began) > self.patience {
+                return Err(Halt::NoAnswer);
+            }
+        }
+        Err(Halt::NoAnswer)
+    }
+
+    /// Takes a turn; the answer that it brought, if any.
+    fn take_turn(&mut self, alloc: Global) -> Result<Option<Answer>, Halt> {
+        let mut log = Journal::new(alloc).unwrap();
+        match client_turn(
+            alloc,
+            &mut self.client,
+            &mut self.link,
+            &mut self.clock,
+            &mut self.next,
+            &mut log,
+        ) {
+            ClientTurn::Quiet | ClientTurn::Link => Ok(None),
+            ClientTurn::Answered(answer) => Ok(Some(answer)),
+            ClientTurn::Memory => Err(Halt::Memory),
+            ClientTurn::Spent => Err(Halt::Spent),
+        }
+    }
+
+    /// Ends the client. What it delays still is lost.
+    pub(crate) fn close(self) {
+        let UserDesk {
+            client,
+            patience: _,
+            next: _,
+            link: _link,
+            clock: _clock,
+        } = self;
+        client.stop();
+    }
+}

@@ -1,0 +1,139 @@
+//! The program `nqnfs_user`: a host at a prompt. It answers each line as it comes, and takes the next incarnation by itself.
+#![tactic(auto)]
+
+mod desk;
+mod files;
+mod prompting;
+mod starts;
+
+use crate::desk::{Terms, UserDesk};
+use crate::prompting::Prompt;
+use crate::starts::next_inc;
+use nq_base::{Host, Party, Who};
+use nq_clock::StdClock;
+use nq_ending::{Ending, Halt};
+use nq_link::{Came, Link, UdpLink};
+use nq_words::number;
+use std::alloc::AllocError;
+use std::env;
+use std::process::ExitCode;
+
+// For how many seconds a call may wait: a recovery and the leases of somebody else come within it.
+const PATIENCE: u64 = 120;
+
+const HELP: &str = "nqnfs_user HOST
+
+Is host HOST, 0 to 63, of the server on this machine. Reads lines and answers each; `help` tells which.
+The file nqnfs-host-HOST in this folder keeps how often the host was started.
+";
+
+fn main(rt: HostRuntime) -> ExitCode {
+    match obey(&rt) {
+        Ok(ending) => ExitCode::from(ending.status()),
+        Err(_) => ExitCode::from(Ending::Memory.status()),
+    }
+}
+
+/// Does what the words say; how that ends.
+fn obey(rt: &HostRuntime) -> Result<Ending, AllocError> {
+    match order_of(rt)? {
+        Order::Host(host) => be_host(rt, host),
+        Order::Help => {
+            let _told = print!(rt; "{HELP}");
+            Ok(Ending::Done)
+        }
+        Order::Usage => {
+            let _told = eprintln!(rt; "usage: nqnfs_user HOST");
+            Ok(Ending::Usage)
+        }
+    }
+}
+
+/// What the words say.
+#[derive(Clone, Copy)]
+enum Order {
+    Host(Host),
+    Help,
+    Usage,
+}
+
+/// What the words behind the program's name say.
+fn order_of(rt: &HostRuntime) -> Result<Order, AllocError> {
+    let Ok(args) = env::args(rt) else {
+        return Err(AllocError);
+    };
+    let mut words = args.skip(1);
+    let order = match words.next() {
+        Some(word) if word.as_str() == "--help" => Order::Help,
+        Some(word) => match number(word.as_str().as_bytes(), 63) {
+            Some(host) => Order::Host(Host(host as u32)),
+            None => Order::Usage,
+        },
+        None => Order::Usage,
+    };
+    match words.next() {
+        Some(_) => Ok(Order::Usage),
+        None => Ok(order),
+    }
+}
+
+/// Is this host until its input ends.
+fn be_host(rt: &HostRuntime, host: Host) -> Result<Ending, AllocError> {
+    let number = host.0;
+    let mut link = UdpLink::new(rt.clone()?, Party::Client(host));
+    if link.receive(&mut [0]) == Came::Failed {
+        let _told = eprintln!(rt;
+            "nqnfs_user: the port of host {number} is taken or cannot be bound"
+        );
+        return Ok(Ending::LinkFault);
+    }
+    let Ok(inc) = next_inc(rt, host) else {
+        let _told = eprintln!(rt;
+            "nqnfs_user: the file nqnfs-host-{number} cannot be read or written, or holds no number"
+        );
+        return Ok(Ending::KeepFault);
+    };
+    let terms = Terms {
+        who: Who { host, inc },
+        patience: PATIENCE,
+    };
+    let clock = StdClock::new(rt.clone()?);
+    Ok(work(rt, UserDesk::open(rt.alloc(), terms, link, clock)))
+}
+
+/// Reads lines at a desk, if it was opened.
+fn work(rt: &HostRuntime, desk: Result<UserDesk, Halt>) -> Ending {
+    let ended = match desk {
+        Ok(desk) => {
+            let mut desk = desk;
+            let ended = Prompt::new(rt).serve_lines(&mut desk);
+            desk.close();
+            ended
+        }
+        Err(why) => Err(why),
+    };
+    match ended {
+        Ok(()) => Ending::Done,
+        Err(why) => {
+            let (words, ending) = halt_words(why);
+            let _told = eprintln!(rt; "nqnfs_user: {words}");
+            ending
+        }
+    }
+}
+
+/// Why a run has ended before its input, in words, and how it ends.
+fn halt_words(why: Halt) -> (&'static str, Ending) {
+    match why {
+        Halt::NoAnswer => (
+            "no answer: no server runs, it recovers, somebody else has a lease on the file, or the server knows a later start of this host",
+            Ending::NoAnswer,
+        ),
+        Halt::Memory => ("memory was wanting", Ending::Memory),
+        Halt::Spent => (
+            "this start takes in no more calls; start again",
+            Ending::Limit,
+        ),
+        Halt::Link | Halt::Keep => ("the link failed", Ending::LinkFault),
+    }
+}

@@ -1,0 +1,214 @@
+//! Lines at the prompt, each answered at once.
+
+use crate::desk::UserDesk;
+use crate::files::{FileFault, get_file, put_file};
+use nq_base::{Answer, Call, FileId, Name};
+use nq_ending::Halt;
+use nq_prompt::{Line, MOST_BYTES, line_of, push_answer};
+use std::fs::{self, File};
+use std::io::{self, BufRead, BufReader, ErrorKind, Write};
+use std::str;
+
+const HELP: &str =
+    "create NAME BLOCKS   make a file            lookup NAME         the number of a file
+attr F               how long a file is     resize F BLOCKS     another length
+read F B             read a block           fetch F B           read it from the server
+write F B VALUE      write a block          put F B VALUE       write it through
+sync F               store all of a file    remove F            take a file away
+put PATH NAME        put a whole file of this machine
+get NAME PATH        get it again, as a new file of this machine
+help, quit
+";
+
+/// Who sits at the prompt, and the files that they wrote.
+#[derive(Drop)]
+pub(crate) struct Prompt<'a> {
+    rt: &'a HostRuntime,
+    written: Vec<FileId>,
+}
+
+impl<'a> Prompt<'a> {
+    /// A prompt where nothing was written yet.
+    pub(crate) fn new(rt: &'a HostRuntime) -> Prompt<'a> {
+        Prompt {
+            rt,
+            written: Vec::new(rt.alloc()),
+        }
+    }
+
+    /// Reads lines to the end of the input and does what each says. The answer stands behind it before the next is read.
+    pub(crate) fn serve_lines(&mut self, desk: &mut UserDesk) -> Result<(), Halt> {
+        let rt = self.rt;
+        let Ok(reader) = BufReader::new(rt.alloc(), rt.reader()) else {
+            return Err(Halt::Memory);
+        };
+        ask(rt);
+        for line in reader.lines(rt.alloc()) {
+            let Ok(line) = line else {
+                return self.finish(desk);
+            };
+            match line_of(rt.alloc(), line.as_str().trim().as_bytes()) {
+                Line::Quit => return self.finish(desk),
+                other => self.serve_line(desk, other)?,
+            }
+            ask(rt);
+        }
+        self.finish(desk)
+    }
+
+    /// Does what a line says.
+    fn serve_line(&mut self, desk: &mut UserDesk, line: Line<'_>) -> Result<(), Halt> {
+        let rt = self.rt;
+        match line {
+            Line::Empty | Line::Quit => Ok(()),
+            Line::Help => {
+                let _told = print!(rt; "{HELP}");
+                Ok(())
+            }
+            Line::Unknown => {
+                let _told = println!(rt; "no such line; help tells what there is");
+                Ok(())
+            }
+            Line::Call(call) => self.serve_call(desk, &call),
+            Line::Put { path, name } => match str::from_utf8(path) {
+                Ok(path) => serve_put(rt, desk, path, name),
+                Err(_) => Ok(()),
+            },
+            Line::Get { name, path } => match str::from_utf8(path) {
+                Ok(path) => serve_get(rt, desk, name, path),
+                Err(_) => Ok(()),
+            },
+        }
+    }
+
+    /// Makes a call and tells its answer. What a write delays is stored before the next line.
+    fn serve_call(&mut self, desk: &mut UserDesk, call: &Call) -> Result<(), Halt> {
+        let answer = desk.ask(self.rt.alloc(), call)?;
+        tell_answer(self.rt, &answer);
+        match (call, &answer) {
+            (Call::Write { file, .. }, Answer::Ok(_)) => {
+                self.note(*file)?;
+                self.store(desk, *file)
+            }
+            _ => Ok(()),
+        }
+    }
+
+    /// Notes that a file was written.
+    fn note(&mut self, file: FileId) -> Result<(), Halt> {
+        if self.written.iter().any(|other| *other == file) {
+            return Ok(());
+        }
+        match self.written.push(file) {
+            Ok(()) => Ok(()),
+            Err(_) => Err(Halt::Memory),
+        }
+    }
+
+    /// Stores what is delayed of a file, and tells where that did not go well.
+    fn store(&self, desk: &mut UserDesk, file: FileId) -> Result<(), Halt> {
+        match desk.ask(self.rt.alloc(), &Call::Sync { file })? {
+            Answer::Ok(_) => Ok(()),
+            answer => {
+                let number = file.0;
+                let _told = print!(self.rt; "file {number}: ");
+                tell_answer(self.rt, &answer);
+                Ok(())
+            }
+        }
+    }
+
+    /// Stores all that is delayed of the files that were written, and tells what was lost.
+    fn finish(&self, desk: &mut UserDesk) -> Result<(), Halt> {
+        for file in self.written.iter() {
+            self.store(desk, *file)?;
+        }
+        Ok(())
+    }
+}
+
+/// Shows that a line can be written.
+fn ask(rt: &HostRuntime) {
+    let _told = eprint!(rt; "nqnfs> ");
+}
+
+/// Tells an answer.
+fn tell_answer(rt: &HostRuntime, answer: &Answer) {
+    let mut line = Vec::new(rt.alloc());
+    if push_answer(&mut line, answer).is_ok() {
+        if let Ok(words) = str::from_utf8(&line) {
+            let _told = println!(rt; "{words}");
+        }
+    }
+}
+
+/// Tells why a file was not put or got; a halt ends the run.
+fn tell_fault(rt: &HostRuntime, fault: FileFault) -> Result<(), Halt> {
+    match fault {
+        FileFault::Halted(why) => return Err(why),
+        FileFault::Answered(answer) => tell_answer(rt, &answer),
+        FileFault::TooLong => {
+            let _told = println!(rt; "the file has more than {MOST_BYTES} bytes");
+        }
+        FileFault::NotWhole => {
+            let _told = println!(rt; "it was not put as a whole file, or not to its end");
+        }
+        FileFault::Differs => {
+            let _told = println!(rt; "what was read back differs: somebody else wrote meanwhile");
+        }
+    }
+    Ok(())
+}
+
+/// Puts a file of the machine.
+fn serve_put(rt: &HostRuntime, desk: &mut UserDesk, path: &str, name: Name) -> Result<(), Halt> {
+    let bytes = match fs::read(rt, path) {
+        Ok(bytes) => bytes,
+        Err(error) => {
+            tell_machine(rt, path, error.kind());
+            return Ok(());
+        }
+    };
+    match put_file(rt.alloc(), desk, name, &bytes) {
+        Ok(file) => {
+            let (file, count) = (file.0, bytes.len());
+            let _told = println!(rt; "ok, file {file}, {count} bytes stored and read back");
+            Ok(())
+        }
+        Err(fault) => tell_fault(rt, fault),
+    }
+}
+
+/// Gets a file, as a new one of the machine.
+fn serve_get(rt: &HostRuntime, desk: &mut UserDesk, name: Name, path: &str) -> Result<(), Halt> {
+    let bytes = match get_file(rt.alloc(), desk, name) {
+        Ok(bytes) => bytes,
+        Err(fault) => return tell_fault(rt, fault),
+    };
+    match write_new(rt, path, &bytes) {
+        Ok(()) => {
+            let count = bytes.len();
+            let _told = println!(rt; "ok, {count} bytes");
+        }
+        Err(error) => tell_machine(rt, path, error.kind()),
+    }
+    Ok(())
+}
+
+/// Writes a file that was not there.
+fn write_new(rt: &HostRuntime, path: &str, bytes: &[u8]) -> io::Result<()> {
+    let mut file = File::create_new(rt, path)?;
+    file.write_all(bytes)?;
+    file.sync_all()
+}
+
+/// Tells why the machine did not do something with a file.
+fn tell_machine(rt: &HostRuntime, path: &str, kind: ErrorKind) {
+    let why = match kind {
+        ErrorKind::NotFound => "is not there",
+        ErrorKind::AlreadyExists => "is there already, and stays as it is",
+        ErrorKind::PermissionDenied => "may not be used",
+        _ => "cannot be read or written",
+    };
+    let _told = println!(rt; "{path} {why}");
+}

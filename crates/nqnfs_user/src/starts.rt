@@ -1,0 +1,48 @@
+//! The number of a host's start, its incarnation, which rises with each: a small file keeps the last one.
+
+use nq_base::{Host, Inc};
+use nq_prompt::{FIRST_START, next_start, push_start};
+use std::fs::{self, File};
+use std::io::{self, ErrorKind, Write};
+
+/// The next incarnation of a host. It is written down before anything is sent, in a file of its own that then takes the other's place,
+/// so that a stop leaves the old number or the new one.
+///
+/// # Errors
+///
+/// `InvalidData` where the file holds no number, or no number is left; and those of the machine.
+pub(crate) fn next_inc(rt: &HostRuntime, host: Host) -> io::Result<Inc> {
+    let host = host.0;
+    let name = format!(in rt.alloc(); "nqnfs-host-{host}")?;
+    let fresh = format!(in rt.alloc(); "nqnfs-host-{host}.new")?;
+    let next = start_after(rt, name.as_str())?;
+    let mut line = Vec::new(rt.alloc());
+    match push_start(&mut line, next) {
+        Ok(()) => {}
+        Err(_) => return Err(io::Error::from(ErrorKind::OutOfMemory)),
+    }
+    write_synced(rt, fresh.as_str(), &line)?;
+    fs::rename(rt, fresh.as_str(), name.as_str())?;
+    File::open(rt, ".")?.sync_all()?;
+    Ok(Inc(next))
+}
+
+/// The start behind the one that the file of this name tells; the first one where there is no file.
+fn start_after(rt: &HostRuntime, name: &str) -> io::Result<u32> {
+    let text = match fs::read(rt, name) {
+        Ok(text) => text,
+        Err(error) if error.kind() == ErrorKind::NotFound => return Ok(FIRST_START),
+        Err(error) => return Err(error),
+    };
+    match next_start(&text) {
+        Some(start) => Ok(start),
+        None => Err(io::Error::from(ErrorKind::InvalidData)),
+    }
+}
+
+/// Writes a file and syncs it.
+fn write_synced(rt: &HostRuntime, name: &str, bytes: &[u8]) -> io::Result<()> {
+    let mut file = File::create(rt, name)?;
+    file.write_all(bytes)?;
+    file.sync_all()
+}

@@ -1,7 +1,0 @@
-//! Storms as they are printed and replayed.
-#![tactic(auto)]
-
-#[cfg(test)]
-mod replayed;
-#[cfg(test)]
-mod sums;

@@ -1,0 +1,4 @@
+pub mod RowsAfter
+pub mod RowFacts
+pub mod Replies
+pub mod StepSends
