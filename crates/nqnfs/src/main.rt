@@ -1,20 +1,22 @@
 //! The program `nqnfs`: runs what its words say, over the standard input and output, and ends with the status of the
 //! run. `nqnfs replay` reads a schedule and prints its journal. `nqnfs storm` makes a schedule up and runs it. `nqnfs serve` and
 //! `nqnfs client` are real hosts, over UDP, and `nqnfs loop` is a server and its hosts in turns. A server keeps its files in the
-//! file `nqnfs.img`, which `nqnfs format` makes an empty image.
+//! file `nqnfs.img`, which `nqnfs format` makes an empty image. A run of `replay`, `storm` or `loop` has a disk in memory, so that it
+//! touches no file.
 #![tactic(auto)]
 
-ghost use Rattle.std.specs.Prelude.{◌≡◌, ◌+◌, ◌≤◌, ℕ, Some, IfOk, length, vec_len};
+ghost use Rattle.std.specs.Prelude.{◌≡◌, ◌+◌, ◌≤◌, ℕ, List, Some, IfOk, length, true, vec_len};
 ghost use Rattle.nq_command.specs.Commands.{command_of};
 ghost use Rattle.nq_command.specs.declared.Command.{Command};
+ghost use Rattle.nq_run.specs.Frames.{makes_a_run};
 
 use nq_base::{Host, Party};
 use nq_clock::StdClock;
-use nq_disk::FileDisk;
-use nq_keeper::ListKeeper;
+use nq_disk::{Disk, FileDisk, MemDisk, Room};
+use nq_disk_run::{
+    Command, CutFate, Fate, HostileFate, LossyFate, NoMemory, SteadyFate, Words, run_disk,
+};
 use nq_link::UdpLink;
-use nq_run::{Command, CutFate, Fate, HostileFate, LossyFate, NoMemory, SteadyFate, Words, run};
-use nq_service::{format_disk, serve_disk};
 use nq_streams::{StdSink, StdSource};
 use std::io::ErrorKind;
 use std::process::ExitCode;
@@ -26,6 +28,13 @@ const NO_MEMORY: u8 = 7;
 // The file in which a server keeps its files.
 const IMAGE: &str = "nqnfs.img";
 
+// The room of a disk in memory: the bytes of the largest image, and as many calls and written bytes as can be counted.
+const ROOM: Room = Room {
+    size: 68_202_496,
+    calls: u32::MAX,
+    written: u64::MAX,
+};
+
 fn main(rt: HostRuntime) -> ExitCode {
     match run_words(&rt) {
         Ok(status) => ExitCode::from(status),
@@ -35,40 +44,8 @@ fn main(rt: HostRuntime) -> ExitCode {
 
 /// Runs what the words behind the program's name say; the status.
 fn run_words(rt: &HostRuntime) -> Result<u8, NoMemory> {
-    if is_format(rt)? {
-        return Ok(format_disk(image(rt)?).status);
-    }
     let words = words_of(rt)?;
-    match words.command() {
-        Some(Command::Serve { turns, longest }) => serve_image(rt, turns, longest),
-        _ => run_with_fates(rt, &words),
-    }
-}
-
-/// The file with the image, as a disk.
-fn image(rt: &HostRuntime) -> Result<FileDisk, NoMemory> {
-    FileDisk::new(rt.alloc(), rt.clone()?, IMAGE)
-}
-
-/// Serves over the image for so many turns; the status.
-fn serve_image(rt: &HostRuntime, turns: u32, longest: u32) -> Result<u8, NoMemory>
-    requires long { 5 ≤ longest }
-    requires short { longest ≤ 600 }
-{
-    let mut link = UdpLink::new(rt.clone()?, Party::Server);
-    let mut clock = StdClock::new(rt.clone()?);
-    let mut out = StdSink::new(io::writer(rt));
-    let served = serve_disk(
-        rt.alloc(),
-        image(rt)?,
-        turns,
-        longest,
-        &mut link,
-        &mut clock,
-        &mut out,
-    );
-    tell_taken(rt, &link);
-    Ok(served.status)
+    run_with_fates(rt, &words)
 }
 
 /// Runs what the words say, with the four fates; the status.
@@ -90,32 +67,50 @@ fn run_with_links(
 ) -> Result<u8, NoMemory> {
     let mut links = links_of(rt, words)?;
     let mut link = UdpLink::new(rt.clone()?, party_of(words));
-    run_over(rt, words, &mut link, links.as_mut_slice(), fates)
+    let links = links.as_mut_slice();
+    match words.command() {
+        Some(Command::Replay | Command::Storm { .. } | Command::Loop { .. }) => {
+            run_over(rt, words, memory(rt)?, &mut link, links, fates)
+        }
+        _ => run_over(rt, words, image(rt)?, &mut link, links, fates),
+    }
 }
 
-/// Runs what the words say, over an empty keeper in memory and the clock of the machine.
-fn run_over(
+/// The file with the image, as a disk. It is opened at its first call.
+fn image(rt: &HostRuntime) -> Result<FileDisk, NoMemory> {
+    FileDisk::new(rt.alloc(), rt.clone()?, IMAGE)
+}
+
+/// A disk in memory.
+fn memory(rt: &HostRuntime) -> Result<MemDisk, NoMemory> {
+    let alloc = rt.alloc();
+    MemDisk::new(alloc, Vec::new(alloc), ROOM, Vec::new(alloc), None)
+}
+
+/// Runs what the words say, over a disk and the clock of the machine; the status.
+fn run_over<D: Disk + Drop>(
     rt: &HostRuntime,
     words: &Words,
+    disk: D,
     link: &mut UdpLink<HostRuntime>,
     links: &mut [UdpLink<HostRuntime>],
     fates: &mut [Box<dyn Fate>],
 ) -> Result<u8, NoMemory>
-    requires { (hosts turns : ℕ) → command_of words.now ≡ Some (Command.Loop hosts turns) → length links.old ≡ hosts + 1 }
+    requires tells { makes_a_run (command_of words.now) ≡ true → (bytes : List ℕ) × (D.told disk ≡ Some bytes) }
+    requires links { (hosts turns : ℕ) → command_of words.now ≡ Some (Command.Loop hosts turns) → length links.old ≡ hosts + 1 }
 {
     let alloc = rt.alloc();
-    let keeper = ListKeeper::new(alloc, Vec::new(alloc))?;
     let mut clock = StdClock::new(rt.clone()?);
     let mut input = StdSource::new(rt.reader());
     let mut out = StdSink::new(io::writer(rt));
-    let ran = run(
-        alloc, words, &mut input, &mut out, keeper, link, links, &mut clock, fates,
+    let ended = run_disk(
+        alloc, words, &mut input, &mut out, disk, link, links, &mut clock, fates,
     );
     tell_taken(rt, link);
     for link in links.iter() {
         tell_taken(rt, link);
     }
-    Ok(ran.status)
+    Ok(ended.status)
 }
 
 /// Says which port another program has, if the link could not have its own.
@@ -162,19 +157,6 @@ fn opened(link: UdpLink<HostRuntime>) -> UdpLink<HostRuntime> {
     let mut link = link;
     link.open();
     link
-}
-
-/// Whether the only word behind the program's name is `format`.
-fn is_format(rt: &HostRuntime) -> Result<bool, NoMemory> {
-    let mut words = match env::args(rt) {
-        Ok(args) => args.skip(1),
-        Err(error) if error.kind() == ErrorKind::OutOfMemory => return Err(NoMemory::Memory),
-        Err(_) => return Ok(false),
-    };
-    let Some(first) = words.next() else {
-        return Ok(false);
-    };
-    Ok(first.as_str() == "format" && words.next().is_none())
 }
 
 /// The words behind the program's name; none where one of them is not UTF-8.

@@ -1,0 +1,4 @@
+pub mod OtherKinds
+pub mod Making
+pub mod Playing
+pub mod Saying

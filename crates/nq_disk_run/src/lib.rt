@@ -1,0 +1,12 @@
+//! The top call of the program over a disk: it runs what the words say, and a server's files are in the image on that disk.
+#![tactic(auto)]
+
+mod fates;
+mod replaying;
+mod storming;
+mod top;
+mod without;
+
+pub use nq_run::{Command, CutFate, Fate, HostileFate, LossyFate, NoMemory, SteadyFate, Words};
+pub use nq_service::Ended;
+pub use top::run_disk;
