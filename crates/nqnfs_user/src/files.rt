@@ -119,21 +119,34 @@ pub(crate) fn get_file(
 /// The file of this name with so many blocks; it is made where there is none.
 fn make(alloc: Global, desk: &mut UserDesk, name: Name, blocks: u32) -> Result<FileId, FileFault> {
     match desk.ask(alloc, &Call::Create { name, blocks })? {
-        Answer::Ok(Value::File(file)) => Ok(file),
         Answer::Exists => {
             let file = look_up(alloc, desk, name)?;
             done(desk.ask(alloc, &Call::Resize { file, blocks })?)?;
             Ok(file)
         }
-        answer => Err(FileFault::Answered(answer)),
+        answer => file_in(answer),
     }
 }
 
 /// The file of this name.
 fn look_up(alloc: Global, desk: &mut UserDesk, name: Name) -> Result<FileId, FileFault> {
-    match desk.ask(alloc, &Call::Lookup { name })? {
-        Answer::Ok(Value::File(file)) => Ok(file),
-        answer => Err(FileFault::Answered(answer)),
+    let answer = desk.ask(alloc, &Call::Lookup { name })?;
+    file_in(answer)
+}
+
+/// The file that an answer brings.
+fn file_in(answer: Answer) -> Result<FileId, FileFault> {
+    match file_of(&answer) {
+        Some(file) => Ok(file),
+        None => Err(FileFault::Answered(answer)),
+    }
+}
+
+/// The file that an answer brings, if it brings one.
+fn file_of(answer: &Answer) -> Option<FileId> {
+    match answer {
+        Answer::Ok(Value::File(file)) => Some(*file),
+        _ => None,
     }
 }
 
