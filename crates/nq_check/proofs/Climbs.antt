@@ -11,7 +11,7 @@ use Rattle.nq_base.specs.declared.Said.TheVariants.{OkBy}
 use Rattle.nq_base.specs.declared.Told.{Told}
 use Rattle.nq_base.specs.declared.Who.{Who}
 use Rattle.nq_check.specs.declared.links.Kind.{Kind}
-use Rattle.nq_check.specs.declared.links.Kind.TheVariants.{Calls, Covers}
+use Rattle.nq_check.specs.declared.links.Kind.TheVariants.{Answers, Begins, Covers}
 use Rattle.nq_check.specs.declared.sought.Sought.{Sought}
 use Rattle.nq_check.specs.declared.sought.Sought.TheVariants.{AnswerBy, AnswerWith, Store, Loss}
 use Rattle.nq_check.specs.Links.{IsFree, is_link}
@@ -66,7 +66,7 @@ link_call by who n q e =
     let p = and_parts (same_who by who) (nat_eq n q) e in
     and_from (same_who by who) (nat_eq n q && nat_eq 0 0) p.0 (and_from (nat_eq n q) (nat_eq 0 0) p.1 refl)
 
-told_none : (who : Who) (q : ℕ) (entry : Entry) → is_link Calls (spot who q 0) entry ≡ false → told_by entry who q ≡ None
+told_none : (who : Who) (q : ℕ) (entry : Entry) → is_link Begins (spot who q 0) entry ≡ false → told_by entry who q ≡ None
 told_none who q (C by n told) h =
     elim (cases_Bool (same_who by who && nat_eq n q)) [
       | inl y ↦ absurd (let t = link_call by who n q y in cc)
@@ -80,11 +80,11 @@ or_none None = refl
 
 -- nor does an entry between them tell of the call
 pub skip_told : (key : Spot) (who : Who) (q : ℕ) (whole : List Entry) (from to : ℕ) → key ≡ spot who q 0 → from ≤ to → to ≤ length whole
-    → IsFree Calls key whole from to → call_of (reverse (take to whole)) who q ≡ call_of (reverse (take from whole)) who q
+    → IsFree Begins key whole from to → call_of (reverse (take to whole)) who q ≡ call_of (reverse (take from whole)) who q
 skip_told key who q whole from to e a b free =
     climb (λ l. call_of l who q ≡ call_of (reverse (take from whole)) who q) whole from to a b refl
     (λ place entry before c d there h.
-    ap (λ t. option_or (call_of before who q) t) (told_none who q entry (subst (λ k. is_link Calls k entry ≡ false) e (free place entry c d there)))
+    ap (λ t. option_or (call_of before who q) t) (told_none who q entry (subst (λ k. is_link Begins k entry ≡ false) e (free place entry c d there)))
     ∙ or_none (call_of before who q) ∙ h)
 
 -- what was told later is behind what was told earlier
@@ -127,11 +127,11 @@ loss_linked : (write entry : Entry) → loss_covers entry write ≡ true → is_
 loss_linked write (L who file block first last) h = within_linked who file block first last write h
 loss_linked write other h = absurd (cc)
 
-by_linked : (who : Who) (q k : ℕ) (entry : Entry) → is_answer_by who q k entry ≡ true → is_link Calls (spot who q 0) entry ≡ true
+by_linked : (who : Who) (q k : ℕ) (entry : Entry) → is_answer_by who q k entry ≡ true → is_link Answers (spot who q 0) entry ≡ true
 by_linked who q k (A by n (OkBy v p)) h = link_call by who n q (and_parts (same_who by who && nat_eq n q) (nat_eq p k) h).0
 by_linked who q k other h = absurd (cc)
 
-with_linked : (who : Who) (q v : ℕ) (entry : Entry) → is_answer_with who q v entry ≡ true → is_link Calls (spot who q 0) entry ≡ true
+with_linked : (who : Who) (q v : ℕ) (entry : Entry) → is_answer_with who q v entry ≡ true → is_link Answers (spot who q 0) entry ≡ true
 with_linked who q v (A by n said) h = link_call by who n q (and_parts (same_who by who && nat_eq n q) (gives_value v said) h).0
 with_linked who q v other h = absurd (cc)
 

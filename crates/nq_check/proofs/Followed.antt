@@ -5,7 +5,7 @@ use Rattle.std.specs.Option.{option_or}
 use Rattle.nq_base.specs.declared.Entry.{Entry}
 use Rattle.nq_base.specs.declared.Who.{Who}
 use Rattle.nq_check.specs.declared.links.Kind.{Kind}
-use Rattle.nq_check.specs.declared.links.Kind.TheVariants.{Calls}
+use Rattle.nq_check.specs.declared.links.Kind.TheVariants.{Begins}
 use Rattle.nq_check.specs.Links.{IsFree, IsLinked, is_link, spot_of}
 use Rattle.nq_check.specs.Marks.{Spot, same_spot, spot}
 use Rattle.nq_check.proofs.Climbs.{skip_exists, skip_told}
@@ -37,7 +37,7 @@ none_last test kind key whole next k x linked up within low e t free =
 
 -- what the call asks, with what the entry before a place tells of it
 pub told_last : (key : Spot) (who : Who) (q : ℕ) (whole : List Entry) (next k : ℕ) (x : Entry) → key ≡ spot who q 0 → 0 < k → k ≤ length whole
-    → next ≤ k - 1 → slice_get whole (k - 1) ≡ Some x → IsFree Calls key whole next (k - 1)
+    → next ≤ k - 1 → slice_get whole (k - 1) ≡ Some x → IsFree Begins key whole next (k - 1)
     → call_of (reverse (take k whole)) who q ≡ option_or (call_of (reverse (take next whole)) who q) (told_by x who q)
 told_last key who q whole next k x e up within low there free =
     ap (λ l. call_of l who q) (taken_last whole k x up there)

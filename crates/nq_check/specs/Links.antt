@@ -4,7 +4,7 @@ use Rattle.std.specs.List.{slice_get}
 use Rattle.nq_base.specs.declared.Entry.{Entry}
 use Rattle.nq_base.specs.declared.Entry.TheVariants.{C, W, R, S, L, G, Z, A}
 use Rattle.nq_check.specs.declared.links.Kind.{Kind}
-use Rattle.nq_check.specs.declared.links.Kind.TheVariants.{Grants, Stores, Own, Calls, Writes, Covers, Cuts, Delays}
+use Rattle.nq_check.specs.declared.links.Kind.TheVariants.{Grants, Stores, Own, Calls, Begins, Answers, Writes, Covers, Cuts, Delays}
 use Rattle.nq_check.specs.Marks.{Spot, mark_at, same_spot, spot}
 
 -- a block, whoever asks for it
@@ -22,6 +22,12 @@ spot_of Own (L who file block first last) = spot who file block
 spot_of Calls (C who q told) = spot who q 0
 spot_of Calls (R who q file block value served) = spot who q 0
 spot_of Calls (A who q said) = spot who q 0
+spot_of Begins (C who q told) = spot who q 0
+spot_of Begins (R who q file block value served) = spot who q 0
+spot_of Begins (A who q said) = spot who q 0
+spot_of Answers (C who q told) = spot who q 0
+spot_of Answers (R who q file block value served) = spot who q 0
+spot_of Answers (A who q said) = spot who q 0
 spot_of Writes (W who file block number value through) = block_spot file block
 spot_of Writes (R who q file block value served) = block_spot file block
 spot_of Covers (S who file block first last now) = spot who file block
@@ -40,6 +46,8 @@ is_member Own (W who file block number value through) = true
 is_member Calls (C who q told) = true
 is_member Calls (R who q file block value served) = true
 is_member Calls (A who q said) = true
+is_member Begins (C who q told) = true
+is_member Answers (A who q said) = true
 is_member Writes (W who file block number value through) = true
 is_member Covers (S who file block first last now) = true
 is_member Covers (L who file block first last) = true

@@ -5,7 +5,7 @@ use Rattle.nq_base.specs.declared.Entry.TheVariants.{W}
 use Rattle.nq_check.specs.Links.{block_spot}
 use Rattle.nq_check.specs.Marks.{Spot, spot}
 use Rattle.nq_check.specs.declared.links.Kind.{Kind}
-use Rattle.nq_check.specs.declared.links.Kind.TheVariants.{Calls, Covers}
+use Rattle.nq_check.specs.declared.links.Kind.TheVariants.{Answers, Covers}
 use Rattle.nq_check.specs.declared.sought.Sought.{Sought}
 use Rattle.nq_check.specs.declared.sought.Sought.TheVariants.{AnswerBy, AnswerWith, Store, Loss}
 use Rattle.nq_model.specs.JournalTest.{is_answer_by, loss_covers, store_covers}
@@ -32,7 +32,7 @@ spot_sought (Loss write) = own_spot write.now
 
 -- the kind of the links to follow
 abbrev pub kind_sought : Sought → Kind
-kind_sought (AnswerBy who q packet) = Calls
-kind_sought (AnswerWith who q value) = Calls
+kind_sought (AnswerBy who q packet) = Answers
+kind_sought (AnswerWith who q value) = Answers
 kind_sought (Store write) = Covers
 kind_sought (Loss write) = Covers

@@ -163,7 +163,7 @@ fn settle_named(search: &mut Search, tables: &Tables, whole: &[Entry], place: us
             q,
             said: Said::Lost(_),
         } => {
-            let file = file_of(call_along(&tables.calls, whole, who, *q));
+            let file = file_of(call_along(&tables.begins, whole, who, *q));
             let from = head_at(&search.losses, file_key(who, file));
             settle(search, whole, from, Number(0), place, entry);
         }

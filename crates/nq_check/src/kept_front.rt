@@ -104,7 +104,7 @@ fn is_kept_at(
             let asked = Asked {
                 who,
                 q: *q,
-                call: call_along(&tables.calls, whole, who, *q),
+                call: call_along(&tables.begins, whole, who, *q),
             };
             is_ok_kept(tables, fates, trail, whole, place, entry, &asked)
         }

@@ -37,7 +37,7 @@ fn is_counted(tables: &Tables, whole: &[Entry], entry: &Entry) -> bool
         Entry::R { who, q, served, .. } => match served {
             None => true,
             Some(packet) => is_somewhere(
-                &tables.calls,
+                &tables.answers,
                 whole,
                 Sought::AnswerBy {
                     who,
@@ -194,9 +194,9 @@ fn is_legal_read(
         read.now.value }
 {
     read.value == standing_value(tables, hints, whole, place, read)
-        && is_reading(call_along(&tables.calls, whole, read.who, read.q))
+        && is_reading(call_along(&tables.begins, whole, read.who, read.q))
         && is_somewhere(
-            &tables.calls,
+            &tables.answers,
             whole,
             Sought::AnswerWith {
                 who: read.who,
@@ -262,7 +262,8 @@ fn answers_legally(tables: &Tables, whole: &[Entry], by: &Who, n: u64, v: u32) -
     requires tables { AreTables whole.now tables.now }
     ensures { result ≡ (not (is_reading (call_of (reverse whole.now) by.now n)) || is_legal_answer (reverse whole.now) by.now n v) }
 {
-    !is_reading(call_along(&tables.calls, whole, by, n)) || is_legal_answer(tables, whole, by, n, v)
+    !is_reading(call_along(&tables.begins, whole, by, n))
+        || is_legal_answer(tables, whole, by, n, v)
 }
 
 /// Whether the entry at a place is legal, as the links show.

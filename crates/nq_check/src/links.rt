@@ -4,7 +4,7 @@
 ghost use Rattle.std.specs.Prelude.{◌≡◌, ◌<◌, IfOk, OnOk, length};
 ghost use Rattle.nq_check.specs.Links.{IsLinked, IsLinkedNext, is_member, spot_of};
 ghost use Rattle.nq_check.specs.Marks.{IsMarked, mark_at, same_spot};
-ghost use Rattle.nq_check.specs.declared.links.Kind.TheVariants.{Grants, Stores, Own, Calls, Writes, Covers, Cuts, Delays};
+ghost use Rattle.nq_check.specs.declared.links.Kind.TheVariants.{Grants, Stores, Own, Calls, Begins, Answers, Writes, Covers, Cuts, Delays};
 
 use nq_base::{BlockNo, Entry, FileId, NoMemory, Who};
 use std::alloc::Global;
@@ -27,6 +27,10 @@ pub(crate) enum Kind {
     Own,
     /// The entries of a call.
     Calls,
+    /// The C of a call.
+    Begins,
+    /// The A of a call.
+    Answers,
     /// The writes of a block.
     Writes,
     /// The S and L of an incarnation on a block.
@@ -137,6 +141,30 @@ fn call_key_of(entry: &Entry) -> Key
     }
 }
 
+/// The key of a C, and of an entry of its call.
+fn begin_key(entry: &Entry) -> Key
+    ensures { result ≡ spot_of Begins entry.now }
+{
+    match entry {
+        Entry::C { who, q, .. } | Entry::R { who, q, .. } | Entry::A { who, q, .. } => call_key(
+            who, *q,
+        ),
+        _ => ((0, 0), (0, 0)),
+    }
+}
+
+/// The key of an A, and of an entry of its call.
+fn answer_key(entry: &Entry) -> Key
+    ensures { result ≡ spot_of Answers entry.now }
+{
+    match entry {
+        Entry::C { who, q, .. } | Entry::R { who, q, .. } | Entry::A { who, q, .. } => call_key(
+            who, *q,
+        ),
+        _ => ((0, 0), (0, 0)),
+    }
+}
+
 /// The key of a write among those of its block, and of a read that asks for it.
 fn block_key_of(entry: &Entry) -> Key
     ensures { result ≡ spot_of Writes entry.now }
@@ -203,6 +231,8 @@ pub(crate) fn key_of(kind: Kind, entry: &Entry) -> Key
         Kind::Stores => store_key(entry),
         Kind::Own => write_key(entry),
         Kind::Calls => call_key_of(entry),
+        Kind::Begins => begin_key(entry),
+        Kind::Answers => answer_key(entry),
         Kind::Writes => block_key_of(entry),
         Kind::Covers => cover_key(entry),
         Kind::Cuts => cut_key(entry),
@@ -219,6 +249,8 @@ pub(crate) fn is_member(kind: Kind, entry: &Entry) -> bool
         Kind::Stores => matches!(entry, Entry::S { .. }),
         Kind::Own => matches!(entry, Entry::W { .. }),
         Kind::Calls => matches!(entry, Entry::C { .. } | Entry::R { .. } | Entry::A { .. }),
+        Kind::Begins => matches!(entry, Entry::C { .. }),
+        Kind::Answers => matches!(entry, Entry::A { .. }),
         Kind::Writes => matches!(entry, Entry::W { .. }),
         Kind::Covers => matches!(entry, Entry::S { .. } | Entry::L { .. }),
         Kind::Cuts => matches!(entry, Entry::Z { .. }),

@@ -139,7 +139,7 @@ fn names_lost(
     requires within { place < length whole.now }
     ensures { IfOk result (λ yes. IsTrue yes → NamesLost whole.now place who.now q spans.now.items names.old.named.entries names.new.named.entries) }
 {
-    let call = call_along(&tables.calls, whole, who, q);
+    let call = call_along(&tables.begins, whole, who, q);
     name_all_anew(names, whole, place, who, &call, spans)
 }
 

@@ -94,7 +94,7 @@ pub(crate) fn names(tables: &Tables, whole: &[Entry], by: &Who, loss: &Loss, ent
         } => {
             *by == *who
                 && are_names_of(loss, spans)
-                && speaks_of(loss.file, call_along(&tables.calls, whole, who, *q))
+                && speaks_of(loss.file, call_along(&tables.begins, whole, who, *q))
         }
         _ => false,
     }

@@ -6,7 +6,7 @@ ghost use Rattle.nq_check.specs.Links.{IsFree, IsLinked};
 ghost use Rattle.nq_check.specs.Sought.{kind_sought, own_spot, passes, spot_sought};
 ghost use Rattle.nq_model.specs.Journal.{call_of};
 ghost use Rattle.nq_model.specs.JournalTest.{exists};
-ghost use Rattle.nq_check.specs.declared.links.Kind.TheVariants.{Calls};
+ghost use Rattle.nq_check.specs.declared.links.Kind.TheVariants.{Begins};
 
 use crate::links::{Key, Kind, Links, call_key, head_at, key_of, own_key, same_key};
 use nq_base::{Entry, Told, Who};
@@ -69,8 +69,8 @@ fn kind_sought(sought: Sought) -> Kind
     ensures { result ≡ kind_sought sought.entry }
 {
     match sought {
-        Sought::AnswerBy { .. } => Kind::Calls,
-        Sought::AnswerWith { .. } => Kind::Calls,
+        Sought::AnswerBy { .. } => Kind::Answers,
+        Sought::AnswerWith { .. } => Kind::Answers,
         Sought::Store(_) => Kind::Covers,
         Sought::Loss(_) => Kind::Covers,
     }
@@ -142,15 +142,15 @@ pub(crate) fn is_before(links: &Links, whole: &[Entry], place: usize, sought: So
 
 /// What a call asks, as its first C tells it.
 pub(crate) fn call_along(links: &Links, whole: &[Entry], by: &Who, n: u64) -> Option<Told>
-    requires linked { IsLinked Calls whole.now (length whole.now) links.now.heads.entries links.now.earlier.items }
+    requires linked { IsLinked Begins whole.now (length whole.now) links.now.heads.entries links.now.earlier.items }
     ensures { result ≡ call_of (reverse whole.now) by.now n }
 {
     let key = call_key(by, n);
     let mut call = None;
-    let mut at = last_of(links, Kind::Calls, key, whole);
+    let mut at = last_of(links, Kind::Begins, key, whole);
     while at > 0 {
         call = told_by(&whole[at - 1], by, n).or(call);
-        at = back_from(links, Kind::Calls, key, whole, at - 1);
+        at = back_from(links, Kind::Begins, key, whole, at - 1);
     }
     call
 }

@@ -66,7 +66,7 @@ fn is_ok_to_sync(tables: &Tables, whole: &[Entry], by: &Who, on: FileId, entry: 
             who,
             q,
             said: Said::Ok,
-        } => *by == *who && is_sync_of(on, call_along(&tables.calls, whole, who, *q)),
+        } => *by == *who && is_sync_of(on, call_along(&tables.begins, whole, who, *q)),
         _ => false,
     }
 }
@@ -81,7 +81,7 @@ fn is_ok_to_sizing(tables: &Tables, whole: &[Entry], by: &Who, on: FileId, entry
             who,
             q,
             said: Said::Ok,
-        } => *by == *who && is_sizing_of(on, call_along(&tables.calls, whole, who, *q)),
+        } => *by == *who && is_sizing_of(on, call_along(&tables.begins, whole, who, *q)),
         _ => false,
     }
 }

@@ -11,6 +11,8 @@ use std::alloc::Global;
 #[derive(Drop)]
 pub(crate) struct Tables {
     pub(crate) calls: Links,
+    pub(crate) begins: Links,
+    pub(crate) answers: Links,
     pub(crate) writes: Links,
     pub(crate) covers: Links,
     pub(crate) cuts: Links,
@@ -21,11 +23,15 @@ pub(crate) fn make_tables(alloc: Global, whole: &[Entry]) -> Result<Tables, NoMe
     ensures { IfOk result (AreTables whole.now) }
 {
     let calls = link(alloc, Kind::Calls, whole)?;
+    let begins = link(alloc, Kind::Begins, whole)?;
+    let answers = link(alloc, Kind::Answers, whole)?;
     let writes = link(alloc, Kind::Writes, whole)?;
     let covers = link(alloc, Kind::Covers, whole)?;
     let cuts = link(alloc, Kind::Cuts, whole)?;
     Ok(Tables {
         calls,
+        begins,
+        answers,
         writes,
         covers,
         cuts,

@@ -43,7 +43,7 @@ fn keep_ok(
     else {
         return Ok(());
     };
-    let Some(told) = call_along(&tables.calls, whole, who, *q) else {
+    let Some(told) = call_along(&tables.begins, whole, who, *q) else {
         return Ok(());
     };
     match told {
