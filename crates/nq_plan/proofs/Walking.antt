@@ -1,8 +1,9 @@
--- Steps of the loops over ids, marks, words and free blocks.
-use Rattle.std.proofs.Common.{◌≡◌, ◌≤◌, ◌<◌, ◌+◌, ◌-◌, ◌++◌, ℕ, zero, suc, Bool, true, false, List, [], ◌∷◌, Option, Some, None, length, get_or, take, drop, if◌then◌else◌, refl, sym, ap, ◌∙◌, arith, length-append}
+-- Steps of the loops over ids, marks, pieces and free blocks.
+use Rattle.std.proofs.Common.{◌≡◌, ◌≤◌, ◌<◌, ◌+◌, ◌-◌, ◌*◌, ◌++◌, ℕ, zero, suc, Bool, true, false, List, [], ◌∷◌, Option, Some, None, length, get_or, take, drop, if◌then◌else◌, refl, sym, ap, ◌∙◌, arith, length-append}
 use Rattle.std.specs.Prelude.{filter, slice_set}
+use Rattle.std.specs.List.{repeat}
 use Rattle.std.proofs.lemmas.List.{append_assoc, append-nil, at_drop_more, at_drop_all}
-use Rattle.nq_base.specs.Block.{repeated, word}
+use Rattle.nq_base.specs.Block.{filled, repeated, word}
 use Rattle.nq_image.specs.Kept.{numbers_from}
 use Rattle.nq_image.specs.Standing.{PlacedFile, row_id}
 use Rattle.nq_plan.specs.Finding.{nearer, nearest}
@@ -36,17 +37,27 @@ no-block-left given i blocks marks whole le so =
     let step : F (drop i blocks) ≡ marks = at_drop_all F blocks i le in
     sym step ∙ so
 
--- ---- words
+-- ---- pieces
 
-pub word-passes : (count i value : ℕ) (bytes whole : List ℕ) → i < count → bytes ++ repeated (count - i) value ≡ whole → (bytes ++ word value) ++ repeated (count - (i + 1)) value ≡ whole
-word-passes count i value bytes whole lt so =
+pub piece-passes : (count i : ℕ) (piece bytes whole : List ℕ) → i < count → bytes ++ repeat (count - i) piece ≡ whole → (bytes ++ piece) ++ repeat (count - (i + 1)) piece ≡ whole
+piece-passes count i piece bytes whole lt so =
     let next : count - i ≡ suc (count - (i + 1)) = omega arith in
-    append_assoc bytes (word value) (repeated (count - (i + 1)) value) ∙ sym (ap (λ (n : ℕ). bytes ++ repeated n value) next) ∙ so
+    append_assoc bytes piece (repeat (count - (i + 1)) piece) ∙ sym (ap (λ (n : ℕ). bytes ++ repeat n piece) next) ∙ so
 
-pub no-word-left : (count i value : ℕ) (bytes whole : List ℕ) → count ≤ i → bytes ++ repeated (count - i) value ≡ whole → bytes ≡ whole
-no-word-left count i value bytes whole le so =
-    let none : count - i ≡ 0 = omega arith in
-    sym (append-nil bytes) ∙ sym (ap (λ (n : ℕ). bytes ++ repeated n value) none) ∙ so
+-- words again and again, in front of other words
+words-before : (n m value : ℕ) → repeat n (word value) ++ repeated m value ≡ repeated (n + m) value
+words-before zero m value = refl
+words-before (suc n) m value = append_assoc (word value) (repeat n (word value)) (repeated m value) ∙ ap (λ (w : List ℕ). word value ++ w) (words-before n m value)
+
+-- pieces of so many words
+pub words-again : (m n value : ℕ) → repeat m (repeat n (word value)) ≡ repeated (m * n) value
+words-again zero n value = refl
+words-again (suc m) n value = ap (λ (w : List ℕ). repeat n (word value) ++ w) (words-again m n value) ∙ words-before n (m * n) value
+
+-- a block is 32 pieces of 32 words
+pub filled-again : (value : ℕ) → repeat 32 (repeat 32 (word value)) ≡ filled value
+unfolding filled
+filled-again value = words-again 32 32 value
 
 -- ---- free blocks
 

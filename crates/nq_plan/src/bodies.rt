@@ -1,14 +1,17 @@
 //! The bytes of a block's body.
 
 ghost use Rattle.std.specs.Prelude.{◌≡◌, ◌++◌, IfOk, OnOk};
-ghost use Rattle.nq_base.specs.Block.{filled, repeated, word};
+ghost use Rattle.std.specs.List.{repeat};
+ghost use Rattle.nq_base.specs.Block.{filled, word};
 
 use nq_base::{Block, Seen};
 use nq_memory::NoMemory;
 use std::alloc::Global;
 
-/// How many words of four bytes a block has.
-const WORDS: usize = 1024;
+/// A block has so many pieces of so many words of four bytes.
+const PIECES: usize = 32;
+
+const WORDS: usize = 32;
 
 /// The four bytes of a number, the highest first.
 fn word_of(value: u32) -> [u8; 4]
@@ -22,23 +25,24 @@ fn word_of(value: u32) -> [u8; 4]
     ]
 }
 
-/// Adds a word so many times.
-fn push_words(bytes: &mut Vec<u8>, value: u32, count: usize) -> Result<(), NoMemory>
-    ensures { OnOk result (bytes.new.items ≡ bytes.old.items ++ repeated count value) }
+/// Adds these bytes so many times.
+fn push_again(bytes: &mut Vec<u8>, piece: &[u8], count: usize) -> Result<(), NoMemory>
+    ensures { OnOk result (bytes.new.items ≡ bytes.old.items ++ repeat count piece.now) }
 {
-    'words: for _ in 0..count {
-        bytes.extend_from_slice(&word_of(value))?;
+    'pieces: for _ in 0..count {
+        bytes.extend_from_slice(piece)?;
     }
     Ok(())
 }
 
-/// The bytes of a block that repeats a word.
-#[tactic(auto, unfolding(nq_base::specs::Block::filled))]
+/// The bytes of a block that repeats a word. It takes them by pieces, since a word at a time took eight times as long.
 fn spell_filled(alloc: Global, value: u32) -> Result<Vec<u8>, NoMemory>
     ensures { IfOk result (λ bytes. bytes.items ≡ filled value) }
 {
+    let mut piece = Vec::with_capacity(alloc, Block::SIZE / PIECES)?;
+    push_again(&mut piece, &word_of(value), WORDS)?;
     let mut bytes = Vec::with_capacity(alloc, Block::SIZE)?;
-    push_words(&mut bytes, value, WORDS)?;
+    push_again(&mut bytes, &piece, PIECES)?;
     Ok(bytes)
 }
 

@@ -2,11 +2,13 @@
 #![tactic(auto)]
 
 mod answers;
+mod laws;
 mod lines;
 mod pieces;
 mod starts;
 
 pub use answers::push_answer;
+pub use laws::{length_is_told, pieces_are_whole};
 pub use lines::{Line, line_of};
 pub use pieces::{MOST_BYTES, blocks_for, length_in, piece, push_body};
 pub use starts::{FIRST_START, next_start, push_start};
