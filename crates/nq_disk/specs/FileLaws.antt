@@ -1,12 +1,9 @@
--- A file as a disk: its count of faults is all that it tells.
-use Rattle.std.proofs.Common.{ℕ, ◌≤◌, List, arith}
+-- The laws of a disk, of one file.
+use Rattle.std.proofs.Common.{refl, ◌∙◌, arith}
+use Rattle.nq_disk.specs.FileDisk.{SeenFile, StaysFile}
 
--- anything may be left
-abbrev pub Anything : List ℕ → Type 0
-Anything image = Unit
+pub stays-itself : (disk : SeenFile) → StaysFile disk disk
+stays-itself disk = record { path = refl; rises = omega arith }
 
-pub counts-on : (first second third : ℕ) → first ≤ second → second ≤ third → first ≤ third
-counts-on first second third one two = omega arith
-
-pub counts-itself : (faults : ℕ) → faults ≤ faults
-counts-itself faults = omega arith
+pub stays-on : (first second third : SeenFile) → StaysFile first second → StaysFile second third → StaysFile first third
+stays-on first second third one two = let a = one.rises in let b = two.rises in record { path = two.path ∙ one.path; rises = omega arith }

@@ -1,9 +1,13 @@
 //! One file as a disk.
 
-ghost use Rattle.std.specs.Prelude.{◌≡◌, ◌≤◌, ℕ, List, Option, None, length, drop, IfOk};
+ghost use Rattle.std.specs.Prelude.{◌≡◌, ◌≤◌, ℕ, List, Option, None, true, false, length, drop, IfOk, OnOk};
+ghost use Rattle.std.specs.Option.{ForSome};
 ghost use Rattle.std.proofs.Common.{inl};
 ghost use Rattle.nq_io.specs.Faults.{Rose, count_up};
-ghost use Rattle.nq_disk.specs.FileLaws.{Anything, counts-itself, counts-on};
+ghost use Rattle.nq_disk.specs.Bytes.{AreBytes};
+ghost use Rattle.nq_disk.specs.Calling.{Counts, IsAllThatIsLeft, LeavesNoMore, LeavesTorn, ReadsFront, Writes};
+ghost use Rattle.nq_disk.specs.FileDisk.{Anything, StaysFile, untold};
+ghost use Rattle.nq_disk.specs.FileLaws.{stays-itself, stays-on};
 
 use crate::copying::copy_in;
 use crate::{Disk, DiskFault, NoMemory};
@@ -20,7 +24,8 @@ const PIECE: usize = 4096;
 
 /// A file of the operating system as a disk, which tells nothing of its bytes. It is opened, or made where it is not there, at
 /// the first call, and locked, so that two disks never write one file. A sync is `fsync`, and the first one syncs the folder,
-/// too. Each error is a fault. Contracts see the count of faults, which stands still at `u64::MAX`.
+/// too. Each error is a fault. Contracts see where the file is, whether it was opened and its name synced, and the count of
+/// faults, which stands still at `u64::MAX`.
 #[derive(Drop)]
 pub struct FileDisk {
     files: HostRuntime,
@@ -31,11 +36,12 @@ pub struct FileDisk {
 }
 
 impl Model for FileDisk {
-    ghost use Rattle.std.specs.Prelude.{ℕ};
+    ghost use Rattle.std.specs.Prelude.{is_some, string_bytes};
+    ghost use Rattle.nq_disk.specs.FileDisk.{SeenFile};
 
-    ghost Value = { ℕ };
+    ghost Value = { SeenFile };
 
-    ghost view = { λ d. d.faults };
+    ghost view = { λ d. record { path = string_bytes d.path; is_open = is_some d.file; name_lasts = d.knows_name; faults = d.faults } };
 }
 
 /// Opens a file, or makes it, and locks it.
@@ -105,7 +111,7 @@ impl FileDisk {
     ///
     /// Only want of memory.
     pub fn new(alloc: Global, files: HostRuntime, path: &str) -> Result<FileDisk, NoMemory>
-        ensures { IfOk result (λ disk. disk ≡ 0) }
+        ensures { IfOk result (λ disk. disk ≡ record { path = path.now; is_open = false; name_lasts = false; faults = 0 }) }
     {
         let path = String::from_str(alloc, path)?;
         Ok(FileDisk {
@@ -119,8 +125,9 @@ impl FileDisk {
 
     /// Counts a fault.
     fn fail(&mut self) -> DiskFault
-        ensures counted { self.new ≡ count_up self.old }
-        ensures rose { Rose self.old self.new }
+        ensures counted { self.new ≡ record self.old { faults = count_up self.old.faults } }
+        ensures rose { Rose self.old.faults self.new.faults }
+        ensures rises { self.old.faults ≤ self.new.faults }
     {
         self.faults = self.faults.saturating_add(1);
         DiskFault::Failed
@@ -128,11 +135,14 @@ impl FileDisk {
 
     /// Opens the file, if that was not done yet.
     fn open(&mut self) -> io::Result<()>
-        ensures { self.new ≡ self.old }
+        ensures path { self.new.path ≡ self.old.path }
+        ensures same { self.new.faults ≡ self.old.faults }
+        ensures opened { OnOk result (self.new.is_open ≡ true) }
     {
-        if self.file.is_none() {
-            self.file = Some(open_locked(&self.files, self.path.as_str())?);
+        if self.file.is_some() {
+            return Ok(());
         }
+        self.file = Some(open_locked(&self.files, self.path.as_str())?);
         Ok(())
     }
 
@@ -146,7 +156,9 @@ impl FileDisk {
 
     /// How many bytes the file has.
     fn measure(&mut self) -> io::Result<u64>
-        ensures { self.new ≡ self.old }
+        ensures path { self.new.path ≡ self.old.path }
+        ensures same { self.new.faults ≡ self.old.faults }
+        ensures opened { OnOk result (self.new.is_open ≡ true) }
     {
         self.open()?;
         Ok(self.file()?.metadata()?.len())
@@ -154,7 +166,9 @@ impl FileDisk {
 
     /// Reads the bytes from a place on, and says how many.
     fn read_some(&mut self, place: u64, into: &mut [u8]) -> io::Result<usize>
-        ensures same { self.new ≡ self.old }
+        ensures path { self.new.path ≡ self.old.path }
+        ensures same { self.new.faults ≡ self.old.faults }
+        ensures opened { OnOk result (self.new.is_open ≡ true) }
         ensures within { IfOk result (λ count. count ≤ length into.old) }
         ensures rest { IfOk result (λ count. drop count into.new ≡ drop count into.old) }
     {
@@ -164,7 +178,9 @@ impl FileDisk {
 
     /// Writes all the bytes at a place.
     fn write_all(&mut self, place: u64, bytes: &[u8]) -> io::Result<()>
-        ensures { self.new ≡ self.old }
+        ensures path { self.new.path ≡ self.old.path }
+        ensures same { self.new.faults ≡ self.old.faults }
+        ensures opened { OnOk result (self.new.is_open ≡ true) }
     {
         self.open()?;
         write_whole(self.file()?, place, bytes)
@@ -172,7 +188,10 @@ impl FileDisk {
 
     /// Syncs the file, and its folder if that was not done yet.
     fn sync_all(&mut self) -> io::Result<()>
-        ensures { self.new ≡ self.old }
+        ensures path { self.new.path ≡ self.old.path }
+        ensures same { self.new.faults ≡ self.old.faults }
+        ensures opened { OnOk result (self.new.is_open ≡ true) }
+        ensures lasts { OnOk result (self.new.name_lasts ≡ true) }
     {
         self.open()?;
         self.file()?.sync_all()?;
@@ -185,21 +204,21 @@ impl FileDisk {
 }
 
 impl Disk for FileDisk {
-    ghost told = { λ _. None };
+    ghost told = { untold };
 
-    ghost faults = { λ disk. disk };
+    ghost faults = { λ disk. disk.faults };
 
     ghost may_leave = { λ _. Anything };
 
-    ghost follows = { λ first last. first ≤ last };
+    ghost follows = { StaysFile };
 
     ghost leaves = { λ _ _. Anything };
 
-    ghost follows_itself = { counts-itself };
+    ghost follows_itself = { stays-itself };
 
-    ghost follows_on = { counts-on };
+    ghost follows_on = { stays-on };
 
-    ghost rises = { λ first last goes. goes };
+    ghost rises = { λ first last goes. goes.rises };
 
     ghost silent = { λ _ _ _ none. none };
 
@@ -213,28 +232,71 @@ impl Disk for FileDisk {
 
     ghost joins = { λ _ _ _ _ _ _ _. tt };
 
-    fn size(&mut self) -> Result<u64, DiskFault> {
+    fn size(&mut self) -> Result<u64, DiskFault>
+        // As of any disk.
+        ensures told { ForSome (untold self.old) (λ disk. IfOk result (λ size. size ≡ length disk)) }
+        ensures bytes { OnOk result (ForSome (untold self.old) AreBytes) }
+        ensures same { untold self.new ≡ untold self.old }
+        ensures cause { Counts result self.old.faults self.new.faults }
+        ensures follows { StaysFile self.old self.new }
+        ensures leaves { LeavesNoMore Anything Anything }
+
+        // Of this one.
+        ensures opened { OnOk result (self.new.is_open ≡ true) }
+    {
         match self.measure() {
             Ok(size) => Ok(size),
             Err(_) => Err(self.fail()),
         }
     }
 
-    fn read(&mut self, place: u64, into: &mut [u8]) -> Result<usize, DiskFault> {
+    fn read(&mut self, place: u64, into: &mut [u8]) -> Result<usize, DiskFault>
+        // As of any disk.
+        ensures told { ForSome (untold self.old) (λ disk. IfOk result (λ count. ReadsFront count place disk into.new)) }
+        ensures within { IfOk result (λ count. count ≤ length into.old) }
+        ensures rest { IfOk result (λ count. drop count into.new ≡ drop count into.old) }
+        ensures same { untold self.new ≡ untold self.old }
+        ensures cause { Counts result self.old.faults self.new.faults }
+        ensures follows { StaysFile self.old self.new }
+        ensures leaves { LeavesNoMore Anything Anything }
+
+        // Of this one.
+        ensures opened { OnOk result (self.new.is_open ≡ true) }
+    {
         match self.read_some(place, into) {
             Ok(count) => Ok(count),
             Err(_) => Err(self.fail()),
         }
     }
 
-    fn write_at(&mut self, place: u64, bytes: &[u8]) -> Result<(), DiskFault> {
+    fn write_at(&mut self, place: u64, bytes: &[u8]) -> Result<(), DiskFault>
+        // As of any disk.
+        ensures writes { Writes result place bytes.now (untold self.old) (untold self.new) }
+        ensures cause { Counts result self.old.faults self.new.faults }
+        ensures follows { StaysFile self.old self.new }
+        ensures leaves { LeavesTorn place (length bytes.now) Anything Anything }
+
+        // Of this one.
+        ensures opened { OnOk result (self.new.is_open ≡ true) }
+    {
         match self.write_all(place, bytes) {
             Ok(()) => Ok(()),
             Err(_) => Err(self.fail()),
         }
     }
 
-    fn sync(&mut self) -> Result<(), DiskFault> {
+    fn sync(&mut self) -> Result<(), DiskFault>
+        // As of any disk.
+        ensures settles { OnOk result (IsAllThatIsLeft (untold self.old) Anything) }
+        ensures same { untold self.new ≡ untold self.old }
+        ensures cause { Counts result self.old.faults self.new.faults }
+        ensures follows { StaysFile self.old self.new }
+        ensures leaves { LeavesNoMore Anything Anything }
+
+        // Of this one.
+        ensures opened { OnOk result (self.new.is_open ≡ true) }
+        ensures lasts { OnOk result (self.new.name_lasts ≡ true) }
+    {
         match self.sync_all() {
             Ok(()) => Ok(()),
             Err(_) => Err(self.fail()),
