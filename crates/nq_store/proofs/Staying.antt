@@ -64,4 +64,5 @@ stays-refused {D} told fault disk result bytes now is settled stays = subst (λ 
 
 pub stays-given : {D : Type 0} (told : D → Option (List ℕ)) (fault : Fault) (disk : D) (result : OpenFault D) (bytes : List ℕ)
     → result ≡ open_fault disk fault → told disk ≡ Some bytes → StaysBack told result bytes
-stays-given told fault disk result bytes is same = stays-refused told fault disk result bytes bytes is (inl refl) (stays-told (Err fault) bytes (told disk) same)
+stays-given told fault disk result bytes is same = stays-refused told fault disk result bytes bytes is (inl refl)
+    (stays-told {X = HeldTables} (Err fault) bytes (told disk) same)
