@@ -11,7 +11,7 @@ use Rattle.nq_node.specs.Links.{LinkTold}
 use Rattle.nq_run.specs.Fates.{FateTold}
 use Rattle.nq_run.specs.Looping.{LoopsFor}
 use Rattle.nq_run.specs.Storming.{StormsFor}
-use Rattle.nq_service.proofs.Failing.{risen_over}
+use Rattle.nq_store.proofs.Risen.{risen_over}
 use Rattle.nq_storm_rules.specs.Rules.{Rule}
 use Rattle.nq_store.specs.Storing.{GoesOn, IsFresh, StoredStore, content_of, content_while, faults_of, kept_told}
 

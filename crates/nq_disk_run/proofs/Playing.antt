@@ -18,7 +18,7 @@ use Rattle.nq_script.specs.Schedule.{FirstBadLine, SpellsSchedule}
 use Rattle.nq_script.specs.declared.heads.Head.{Head}
 use Rattle.nq_script.specs.declared.lines.Line.{Line}
 use Rattle.nq_script.specs.declared.scripts.Script.{Script}
-use Rattle.nq_service.proofs.Failing.{risen, risen_over}
+use Rattle.nq_store.proofs.Risen.{risen, risen_over}
 use Rattle.nq_store.specs.Storing.{GoesOn, IsFresh, StoredStore, content_of, content_while, faults_of, kept_told}
 
 -- ---- what a store tells

@@ -15,9 +15,8 @@ use Rattle.nq_run.specs.Replaying.{ReplaysFor}
 use Rattle.nq_run.specs.Storming.{StormsFor}
 use Rattle.nq_script.specs.Schedule.{FirstBadLine}
 use Rattle.nq_script.specs.declared.heads.Head.{Head}
-use Rattle.nq_service.specs.Serving.{HasRisen}
 use Rattle.nq_storm_rules.specs.Rules.{Rule}
-use Rattle.nq_store.specs.Storing.{kept_told}
+use Rattle.nq_store.specs.Storing.{HasRisen, kept_told}
 
 -- a run did this over the store of a disk, by the store's counts of faults; where the status says that the store failed, the disk failed
 pub record OverStore (P : (k k' : ℕ) → Type 0) (code before count : ℕ) : Type 0 where

@@ -1,4 +1,3 @@
-mod Emptied
 mod Failing
 pub mod Opened
 pub mod Readying

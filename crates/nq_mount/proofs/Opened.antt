@@ -2,7 +2,7 @@
 use Rattle.std.proofs.Common.{◌≡◌, ℕ, List, Option, Some, Result, Ok, Err, IfOk, inl, inr, ◌∙◌}
 use Rattle.nq_format.specs.Formatted.{TellsNothing}
 use Rattle.nq_image.specs.Nothing.{nothing_kept}
-use Rattle.nq_mount.proofs.Emptied.{nothing_told}
+use Rattle.nq_store.proofs.Emptied.{nothing_told}
 use Rattle.nq_mount.specs.Opening.{OpensOrMakes, OpensReady}
 use Rattle.nq_store.specs.Storing.{StoredStore, content_of, kept_told}
 use Rattle.nq_store.specs.declared.fault.OpenFault.{OpenFault}

@@ -9,15 +9,15 @@ use Rattle.nq_format.specs.Standing.{stands_as}
 use Rattle.nq_image.specs.Nothing.{nothing_kept}
 use Rattle.nq_io.specs.Faults.{Rose}
 use Rattle.nq_model.specs.Kept.{Kept}
-use Rattle.nq_mount.proofs.Emptied.{nothing_on}
+use Rattle.nq_store.proofs.Emptied.{nothing_on}
 use Rattle.nq_mount.proofs.Failing.{failed_by}
 use Rattle.nq_mount.specs.Opening.{FailsEarly, IsOpenedAs, IsReady, OpensOrMakes, OpensReady}
-use Rattle.nq_mount.specs.Serving.{AllStandFor, EndsServing, HasRisen, IsFoundAmong, IsWhyNot, ServesImage, ServesNot}
+use Rattle.nq_mount.specs.Serving.{EndsServing, IsFoundAmong, IsWhyNot, ServesImage, ServesNot}
 use Rattle.nq_node.specs.Clocks.{ClockTold}
 use Rattle.nq_node.specs.Links.{LinkTold}
 use Rattle.nq_redo.specs.Saying.{Each}
 use Rattle.nq_store.specs.Opening.{FollowsOpen, LeavesLike, back_of}
-use Rattle.nq_store.specs.Storing.{GoesOn, StoredStore, content_of, faults_of, kept_on, kept_told}
+use Rattle.nq_store.specs.Storing.{AllStandFor, GoesOn, HasRisen, StoredStore, content_of, faults_of, kept_on, kept_told}
 use Rattle.nq_store.specs.declared.fault.OpenFault.{OpenFault}
 use Rattle.nq_store.specs.declared.fault.OpenFault.TheVariants as opening
 
@@ -171,6 +171,7 @@ module _ {D : Type 0} (told : D → Option (List ℕ)) (faults : D → ℕ) (may
     why = why-not opens.ready fault opens.is_ready opens.opened;
     clocks = refl;
     links = refl;
+    stays = λ bytes is some. let still = opens.is_ready.stays bytes is some in opens.opened.stays bytes (still.0 ∙ is);
     survives = λ bytes is some kept same image l.
         let still = opens.is_ready.stays bytes is some in
         left-either (kept_on image ≡ Some kept)
@@ -188,6 +189,7 @@ module _ {D : Type 0} (told : D → Option (List ℕ)) (faults : D → ℕ) (may
     why = early.rose;
     clocks = refl;
     links = refl;
+    stays = λ bytes is some. tt;
     survives = λ bytes is some kept same image l. let still = early.stays bytes is some in same image (still.1 image l);
   }
 

@@ -7,7 +7,7 @@ use Rattle.nq_disk.specs.Calling.{LeavesNoMore}
 use Rattle.nq_format.specs.Formatted.{StandsForNothing, TellsNothing}
 use Rattle.nq_io.specs.Faults.{Rose}
 use Rattle.nq_redo.specs.Saying.{Each}
-use Rattle.nq_store.specs.Opening.{AnswersOpen, FollowsOpen, LeavesLike, SaysWrong, disk_of}
+use Rattle.nq_store.specs.Opening.{AnswersOpen, FollowsOpen, LeavesLike, SaysWrong, StaysRefused, disk_of}
 use Rattle.nq_store.specs.Storing.{IsFresh, IsKept, StoredStore, content_of, kept_told}
 use Rattle.nq_store.specs.declared.fault.OpenFault.{OpenFault}
 use Rattle.nq_store.specs.declared.fault.OpenFault.TheVariants as opening
@@ -40,11 +40,13 @@ abbrev pub Readies : {D : Type 0} → {X : Type 0} → {Y : Type 0} → (told : 
 Readies told faults may_leave follows leaves (Ok done) disk later = IsReady told faults may_leave follows leaves disk later
 Readies told faults may_leave follows leaves (Err fault) disk later = FailsEarly told faults may_leave follows leaves disk later
 
--- A disk that could be opened was opened as a store, which keeps what the disk stands for; or it was refused. A stop leaves what is kept as it was
+-- A disk that could be opened was opened as a store, which keeps what the disk stands for; or it was refused, and one that was refused for its
+-- bytes has them still. A stop leaves what is kept as it was
 pub record IsOpenedAs {D : Type 0} (told : D → Option (List ℕ)) (faults : D → ℕ) (may_leave : D → List ℕ → Type 0) (follows : D → D → Type 0) (leaves : D → D → List ℕ → Type 0) (ready : D) (result : Result (StoredStore D) (OpenFault D)) : Type 0 where
   pub keeps : IfOk result (λ store. content_of told store ≡ kept_told (told ready))
   pub stands : OnOk result (ForSome (told ready) IsKept)
   pub wrong : SaysWrong result (told ready)
+  pub stays : ForSome (told ready) (λ bytes. StaysRefused told result bytes)
   pub fresh : IfOk result IsFresh
   pub counts : AnswersOpen (λ store. store.disk) faults result ready
   pub same : FollowsOpen (λ store. store.disk) follows result ready

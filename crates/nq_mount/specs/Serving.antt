@@ -2,7 +2,7 @@
 -- what a stop at a moment may leave of its bytes, `follows` says that a disk is another one after some of its calls, and `leaves` is what a
 -- stop between two moments may leave.
 use Rattle.std.specs.Option.{ForSome}
-use Rattle.std.specs.Prelude.{◌≡◌, ◌⊎◌, ◌<◌, ◌≤◌, ◌-◌, ◌^◌, ℕ, List, [], Option, Some, None, Result, Err, length}
+use Rattle.std.specs.Prelude.{◌≡◌, ◌<◌, ℕ, List, [], Option, Some, None, Result, Err, length}
 use Rattle.nq_daemon.specs.Leaving.{IsLeftInRuns, LeavesServing}
 use Rattle.nq_daemon.specs.Serving.{EndsBy}
 use Rattle.nq_ending.specs.declared.Halt.{Halt}
@@ -14,14 +14,10 @@ use Rattle.nq_mount.specs.Opening.{IsReady}
 use Rattle.nq_node.specs.Clocks.{ClockTold}
 use Rattle.nq_node.specs.Links.{LinkTold}
 use Rattle.nq_redo.specs.Saying.{Each}
-use Rattle.nq_store.specs.Opening.{back_of}
-use Rattle.nq_store.specs.Storing.{GoesOn, IsFresh, LeavesKept, StoredStore, content_of, faults_of, kept_on, kept_told}
+use Rattle.nq_store.specs.Opening.{StaysBack, back_of}
+use Rattle.nq_store.specs.Storing.{AllStandFor, GoesOn, HasRisen, IsFresh, LeavesKept, StoredStore, content_of, faults_of, kept_on, kept_told}
 use Rattle.nq_store.specs.declared.fault.OpenFault.{OpenFault}
 use Rattle.nq_store.specs.declared.fault.OpenFault.TheVariants as opening
-
--- whatever a stop may leave of a disk opens, and stands for this kept state
-abbrev pub AllStandFor : (List ℕ → Type 0) → Kept → Type 0
-AllStandFor may_leave kept = Each may_leave (λ image. kept_on image ≡ Some kept)
 
 -- a disk that may be opened has bytes, and for these bytes this is what they stand for
 abbrev pub StandsSo : Option (List ℕ) → Option (Result Kept ℕ) → Type 0
@@ -35,12 +31,14 @@ IsWhyNot told faults disk (opening.BadField back place) = StandsSo (told disk) (
 IsWhyNot told faults disk (opening.Failed back) = Rose (faults disk) (faults back)
 IsWhyNot told faults disk (opening.Memory back) = faults back ≡ faults disk
 
--- The disk was not served from. The clock and the link were not asked. Where it had a byte, and all that a stop might have left of it at first stood
--- for one kept state, all that a stop at any moment leaves stands for it
+-- The disk was not served from. The clock and the link were not asked. Where it had a byte and was refused for its bytes, it has them, but that the
+-- ranges of an open record may have been written; and where all that a stop might have left of it at first stood for one kept state, all that a stop
+-- at any moment leaves stands for it
 pub record ServesNot {D : Type 0} (told : D → Option (List ℕ)) (faults : D → ℕ) (may_leave : D → List ℕ → Type 0) (leaves : D → D → List ℕ → Type 0) (disk : D) (fault : OpenFault D) (clock clock' : ClockTold) (link link' : LinkTold) : Type 0 where
   pub why : IsWhyNot told faults disk fault
   pub clocks : clock' ≡ clock
   pub links : link' ≡ link
+  pub stays : ForSome (told disk) (λ bytes. 0 < length bytes → StaysBack told fault bytes)
   pub survives : ForSome (told disk) (λ bytes. 0 < length bytes → (kept : Kept) → AllStandFor (may_leave disk) kept → AllStandFor (leaves disk (back_of fault)) kept)
 
 -- a store was served from, and ended so; this disk is left, which is the store's
@@ -56,10 +54,6 @@ pub record EndsServing {D : Type 0} (told : D → Option (List ℕ)) (faults : D
 abbrev pub IsFoundAmong : {D : Type 0} → (told : D → Option (List ℕ)) → (faults : D → ℕ) → (follows : D → D → Type 0) → (leaves : D → D → List ℕ → Type 0) → (longest turns : ℕ) → (store : StoredStore D) → (ended : Result Unit Halt) → (left : D) → (clock clock' : ClockTold) → (link link' : LinkTold) → EndsServing told faults follows leaves longest turns store ended left clock clock' link link' → (kept : Kept) → (image : List ℕ) → Type 0
 IsFoundAmong told faults follows leaves longest turns store ended left clock clock' link link' ends kept image =
     IsLeftInRuns (content_of told) (faults_of faults) (GoesOn faults follows) longest turns ends.serving.serves.time store ended ends.served ends.serving.serves.between clock' link link' ends.serving.serves.runs kept (kept_on image)
-
--- a count of faults rose, or it stands at the end of its type, where it cannot rise
-abbrev pub HasRisen : (before now : ℕ) → Type 0
-HasRisen before now = (before < now) ⊎ (2 ^ 64 - 1 ≤ now)
 
 -- The disk was made ready and opened as a store, which was served from. Where the disk had a byte, and all that a stop might have left of it at first
 -- stood for one kept state, whatever a stop at any moment of the call leaves opens, and stands for that or for what was kept after some of the

@@ -38,7 +38,8 @@ pub struct Left<D> {
 ///
 /// # Errors
 ///
-/// Those of [`open_or_make`]; then nothing was served, and what was kept is kept.
+/// Those of [`open_or_make`]; then nothing was served, what was kept is kept, and a disk that is refused for its bytes has them still, but
+/// that the ranges of an open record may have been written.
 pub fn serve_image<D: Disk + Drop, L: Link, C: Clock, W: Watcher<L> + Greeter>(
     alloc: Global,
     disk: D,

@@ -1,5 +1,5 @@
 -- When serving fails, and when a disk is refused.
-use Rattle.std.proofs.Common.{◌≡◌, ◌⊎◌, ◌<◌, ◌≤◌, ◌-◌, ◌^◌, ℕ, List, Option, Some, None, Result, Ok, Err, inl, inr, refl, subst, ◌∙◌, ⊎_elim, arith}
+use Rattle.std.proofs.Common.{◌≡◌, ◌≤◌, ℕ, List, Option, Some, None, Result, Ok, Err, refl, ⊎_elim, arith}
 use Rattle.std.specs.Option.{ForSome}
 use Rattle.nq_ending.specs.Status.{status_of}
 use Rattle.nq_ending.specs.declared.Ending.{Ending}
@@ -7,8 +7,9 @@ use Rattle.nq_format.specs.Standing.{stands_as}
 use Rattle.nq_hosts.specs.Serving.{EndsBy}
 use Rattle.nq_io.specs.Faults.{Rose}
 use Rattle.nq_model.specs.Kept.{Kept}
-use Rattle.nq_service.specs.Serving.{HasRisen, PrintsBehind, first_wrong}
-use Rattle.nq_store.specs.Storing.{GoesOn, IsFresh, IsKept, RefusesNone, StoredStore, counted, faults_of, kept_of, kept_on}
+use Rattle.nq_service.specs.Serving.{PrintsBehind, first_wrong}
+use Rattle.nq_store.specs.Storing.{GoesOn, HasRisen, IsFresh, IsKept, StoredStore, faults_of, kept_of, kept_on}
+use Rattle.nq_store.proofs.Risen.{risen_over}
 
 -- ---- what a disk stands for
 
@@ -24,17 +25,6 @@ right-on bytes kept = right-of (stands_as bytes) kept.0 kept.1
 -- no byte is wrong of what stands for a kept state
 pub right_of : (told : Option (List ℕ)) → ForSome told IsKept → ForSome told (λ bytes. first_wrong (stands_as bytes) ≡ None)
 right_of told kept = λ bytes is. right-on bytes (kept bytes is)
-
--- ---- counts
-
--- a count that rose has risen
-pub risen : (before now : ℕ) → Rose before now → HasRisen before now
-risen before now (inl more) = inl more
-risen before now (inr end) = let last = end.1 in inr (omega arith)
-
-risen-counted : (before now : ℕ) → before ≤ now → Rose (counted before 0) (counted now 0) → HasRisen before now
-risen-counted before now rises (inl more) = inl (omega arith)
-risen-counted before now rises (inr end) = let last = end.1 in inr (omega arith)
 
 -- ---- the end that a status tells
 
@@ -58,24 +48,6 @@ rose-by Ending.NotSound code content keep keep' link link' w w' between held now
 -- ---- a store that failed
 
 module _ {D : Type 0} (faults : D → ℕ) (follows : D → D → Type 0) where
-  by-cause : (store served : StoredStore D) → faults store.disk ≤ faults served.disk → store.refused ≡ 0
-      → Rose (faults_of faults store) (faults_of faults served)
-      → RefusesNone store served ⊎ Rose (faults store.disk) (faults served.disk) → HasRisen (faults store.disk) (faults served.disk)
-  by-cause store served rises none rose (inr disk) = risen (faults store.disk) (faults served.disk) disk
-  by-cause store served rises none rose (inl same) =
-      let zero = same.none ∙ none in
-      risen-counted (faults store.disk) (faults served.disk) rises
-      (subst (λ (n : ℕ). Rose (counted (faults store.disk) 0) (counted (faults served.disk) n)) zero
-      (subst (λ (n : ℕ). Rose (counted (faults store.disk) n) (faults_of faults served)) none rose))
-
-  -- where a store that was fresh failed, its disk failed
-  pub risen_over : (disk : D) (store served : StoredStore D) → ((first last : D) → follows first last → faults first ≤ faults last)
-      → IsFresh store → faults store.disk ≡ faults disk → GoesOn faults follows store served → Rose (faults_of faults store) (faults_of faults served)
-      → HasRisen (faults disk) (faults served.disk)
-  risen_over disk store served rises fresh counts goes rose =
-      subst (λ (n : ℕ). HasRisen n (faults served.disk)) counts
-      (by-cause store served (rises store.disk served.disk goes.disk) fresh.none rose (goes.cause fresh.goes_on))
-
   -- where the status says that the keeper failed, the disk failed
   pub failed_by : (end : Ending) (code : ℕ) (disk : D) (store served : StoredStore D) (content : Option Kept) (link link' : ℕ)
       (held now : Option (List ℕ)) (w w' between : ℕ)
@@ -83,5 +55,5 @@ module _ {D : Type 0} (faults : D → ℕ) (follows : D → D → Type 0) where
       → GoesOn faults follows store served → EndsBy end content (faults_of faults store) (faults_of faults served) link link' w between
       → PrintsBehind end code held now between w' → code ≡ status_of Ending.KeepFault → HasRisen (faults disk) (faults served.disk)
   failed_by end code disk store served content link link' held now w w' between rises fresh counts goes ends prints six =
-      risen_over disk store served rises fresh counts goes
+      risen_over faults follows disk store served rises fresh counts goes
       (rose-by end code content (faults_of faults store) (faults_of faults served) link link' w w' between held now ends prints six)

@@ -5,7 +5,7 @@ use Rattle.nq_ending.specs.Status.{status_of}
 use Rattle.nq_ending.specs.declared.Ending.{Ending}
 use Rattle.nq_io.specs.Faults.{Rose}
 use Rattle.nq_service.specs.Serving.{IsNotOpened, StaysSame, TellsByte, first_wrong}
-use Rattle.nq_store.specs.Opening.{AnswersOpen, LeavesLike, SaysWrong, disk_of}
+use Rattle.nq_store.specs.Opening.{AnswersOpen, LeavesLike, SaysWrong, StaysRefused, TellsSettled, disk_of}
 use Rattle.nq_store.specs.declared.fault.OpenFault.{OpenFault}
 use Rattle.nq_store.specs.declared.fault.OpenFault.TheVariants as opening
 use Rattle.nq_service.proofs.Surviving.{stays_same}
@@ -23,26 +23,32 @@ module _ {X D : Type 0} (held_by : X → D) (told : D → Option (List ℕ)) (fa
 
   -- it is no image
   pub not_an_image : (code : ℕ) (held now : Option (List ℕ)) (w w' : ℕ) → result ≡ Err (opening.NotAnImage back) → left ≡ back
-      → SaysWrong result (told disk) → AnswersOpen held_by faults result disk → TellsByte 0 code held now w w'
+      → SaysWrong result (told disk) → ForSome (told disk) (λ bytes. StaysRefused told result bytes)
+      → AnswersOpen held_by faults result disk → TellsByte 0 code held now w w'
       → IsNotOpened told faults code disk left held now w w'
-  not_an_image code held now w w' is handed says answers tells =
+  not_an_image code held now w w' is handed says stays answers tells =
       let none = subst (λ (r : Result X (OpenFault D)). SaysWrong r (told disk)) is says in
       inl (record {
         place = 0;
         wrong = λ bytes t. ap first_wrong (none bytes t);
+        stays = λ bytes t. subst (λ (d : D). TellsSettled bytes (told d)) (sym handed)
+            (subst (λ (r : Result X (OpenFault D)). StaysRefused told r bytes) is (stays bytes t));
         tells = tells;
         counts = ap faults handed ∙ subst (λ (r : Result X (OpenFault D)). AnswersOpen held_by faults r disk) is answers;
       })
 
   -- one of its fields is wrong
   pub bad_field : (place code : ℕ) (held now : Option (List ℕ)) (w w' : ℕ) → result ≡ Err (opening.BadField back place) → left ≡ back
-      → SaysWrong result (told disk) → AnswersOpen held_by faults result disk → TellsByte place code held now w w'
+      → SaysWrong result (told disk) → ForSome (told disk) (λ bytes. StaysRefused told result bytes)
+      → AnswersOpen held_by faults result disk → TellsByte place code held now w w'
       → IsNotOpened told faults code disk left held now w w'
-  bad_field place code held now w w' is handed says answers tells =
+  bad_field place code held now w w' is handed says stays answers tells =
       let wrong = subst (λ (r : Result X (OpenFault D)). SaysWrong r (told disk)) is says in
       inl (record {
         place = place;
         wrong = λ bytes t. ap first_wrong (wrong bytes t);
+        stays = λ bytes t. subst (λ (d : D). TellsSettled bytes (told d)) (sym handed)
+            (subst (λ (r : Result X (OpenFault D)). StaysRefused told r bytes) is (stays bytes t));
         tells = tells;
         counts = ap faults handed ∙ subst (λ (r : Result X (OpenFault D)). AnswersOpen held_by faults r disk) is answers;
       })

@@ -8,9 +8,9 @@ use Rattle.nq_hosts.specs.Serving.{Runs, Tells}
 use Rattle.nq_model.specs.Kept.{Kept}
 use Rattle.nq_node.specs.Clocks.{ClockTold}
 use Rattle.nq_node.specs.Links.{LinkTold}
-use Rattle.nq_service.specs.Serving.{AllStandFor, EndsServing, HasRisen, ServesStore, StaysSame, Survives}
+use Rattle.nq_service.specs.Serving.{EndsServing, ServesStore, StaysSame, Survives}
 use Rattle.nq_store.specs.Opening.{AnswersOpen, FollowsOpen, LeavesLike, disk_of}
-use Rattle.nq_store.specs.Storing.{GoesOn, IsFresh, IsKept, LeavesKept, StoredStore, content_of, faults_of, kept_on, kept_told}
+use Rattle.nq_store.specs.Storing.{AllStandFor, GoesOn, HasRisen, IsFresh, IsKept, LeavesKept, StoredStore, content_of, faults_of, kept_on, kept_told}
 use Rattle.nq_store.specs.declared.fault.OpenFault.{OpenFault}
 use Rattle.nq_service.proofs.Failing.{failed_by, right_of}
 

@@ -3,7 +3,7 @@
 -- stop between two moments may leave.
 use Rattle.std.specs.Fmt.{decimal}
 use Rattle.std.specs.Option.{ForSome}
-use Rattle.std.specs.Prelude.{◌≡◌, ◌⊎◌, ◌<◌, ◌≤◌, ◌-◌, ◌^◌, ◌++◌, ℕ, List, Option, Some, None, Result, Ok, Err, codes}
+use Rattle.std.specs.Prelude.{◌≡◌, ◌⊎◌, ◌++◌, ℕ, List, Option, Some, None, Result, Ok, Err, codes}
 use Rattle.nq_ending.specs.Status.{status_of}
 use Rattle.nq_ending.specs.declared.Ending.{Ending}
 use Rattle.nq_ending.specs.declared.Halt.{Halt}
@@ -16,7 +16,8 @@ use Rattle.nq_node.specs.Clocks.{ClockTold}
 use Rattle.nq_node.specs.Links.{LinkTold}
 use Rattle.nq_redo.specs.Saying.{Each}
 use Rattle.nq_replay.specs.Lines.{PrintsLine}
-use Rattle.nq_store.specs.Storing.{GoesOn, IsFresh, LeavesKept, StoredStore, content_of, faults_of, kept_on, kept_told}
+use Rattle.nq_store.specs.Opening.{TellsSettled}
+use Rattle.nq_store.specs.Storing.{AllStandFor, GoesOn, HasRisen, IsFresh, LeavesKept, StoredStore, content_of, faults_of, kept_on, kept_told}
 
 -- the line that tells which byte of an image is the first wrong one
 unfoldable pub image_line : (place : ℕ) → List ℕ
@@ -35,10 +36,6 @@ TellsByte place code held now w w' =
 
 -- ---- what a stop leaves
 
--- whatever a stop may leave of a disk stands for this kept state
-abbrev pub AllStandFor : (List ℕ → Type 0) → Kept → Type 0
-AllStandFor may_leave kept = Each may_leave (λ image. kept_on image ≡ Some kept)
-
 -- where all that a stop might have left at first stood for one kept state, all that a stop at any moment leaves stands for it
 abbrev pub StaysSame : (before leaves : List ℕ → Type 0) → Type 0
 StaysSame before leaves = (kept : Kept) → AllStandFor before kept → AllStandFor leaves kept
@@ -53,10 +50,12 @@ pub record Survives {D : Type 0} (told : D → Option (List ℕ)) (faults : D �
 
 -- ---- where the disk is not served from
 
--- the disk is no image, or one of its fields is wrong: the line that tells the first wrong byte was printed
+-- The disk is no image, or one of its fields is wrong: the line that tells the first wrong byte was printed. The disk has the bytes that it
+-- had, but that the ranges of an open record may have been written
 pub record Refuses {D : Type 0} (told : D → Option (List ℕ)) (faults : D → ℕ) (code : ℕ) (disk left : D) (held now : Option (List ℕ)) (w w' : ℕ) : Type 0 where
   pub place : ℕ
   pub wrong : ForSome (told disk) (λ bytes. first_wrong (stands_as bytes) ≡ Some place)
+  pub stays : ForSome (told disk) (λ bytes. TellsSettled bytes (told left))
   pub tells : TellsByte place code held now w w'
   pub counts : faults left ≡ faults disk
 
@@ -109,10 +108,6 @@ pub record EndsServing {D : Type 0} (told : D → Option (List ℕ)) (faults : D
   pub tells : Tells end turns (λ ended. P ended served) held between w count
   pub cause : EndsBy end (content_of told store) (faults_of faults store) (faults_of faults served) link.faults link'.faults w count
   pub prints : PrintsBehind end code between now count w'
-
--- a count of faults rose, or it stands at the end of its type, where it cannot rise
-abbrev pub HasRisen : (before now : ℕ) → Type 0
-HasRisen before now = (before < now) ⊎ (2 ^ 64 - 1 ≤ now)
 
 -- The disk was opened as a store, which keeps what the disk stood for, and the store was served from. No byte of the disk was wrong. The
 -- status says that the keeper failed only where the disk failed

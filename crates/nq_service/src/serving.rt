@@ -37,7 +37,8 @@ pub struct Ended<D> {
 ///
 /// The status is that of [`serve`]. It is 10, and `image byte P` is printed, exactly where the disk is no image (byte 0), where a field of
 /// it is wrong (the first byte of that field), and where no number is left for a boot (byte 8), unless the disk fails before, or memory is
-/// wanting. It is 6 only where the disk failed.
+/// wanting. A disk that is refused so for its bytes keeps them, but that the ranges of an open record are written. The status is 6 only where
+/// the disk failed.
 pub fn serve_disk<D: Disk + Drop, L: Link, C: Clock, K: Sink>(
     alloc: Global,
     disk: D,

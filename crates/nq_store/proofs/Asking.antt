@@ -6,7 +6,7 @@ use Rattle.nq_keeper.specs.Keeping.{Commits, LeavesOne, LeavesTwo, Reads}
 use Rattle.nq_keeper.specs.declared.keeper.KeepFault.{KeepFault}
 use Rattle.nq_keeper.specs.declared.keeper.KeepFault.TheVariants.{Failed}
 use Rattle.nq_model.specs.Kept.{Kept}
-use Rattle.nq_store.specs.Storing.{GoesOn, IsSound, LeavesKept, StoredStore, after_asking, answered, content_of, faults_of, refusals}
+use Rattle.nq_store.specs.Storing.{GoesOn, IsSound, LeavesKept, StaysForMemory, StoredStore, after_asking, answered, content_of, faults_of, refusals}
 use Rattle.nq_store.proofs.Keeping.{leaves-same, rose-refused}
 
 true-false : (b : Bool) → b ≡ true → b ≡ false → ⊥
@@ -57,6 +57,12 @@ pub refused-commits : (result : Result (Unit {0}) KeepFault) (change : Change) (
 refused-commits result change ended told tells before now is answer reads =
     let failed : result ≡ Err Failed = let Answers : Bool → Type 0 = λ b. result ≡ answered b tt in subst Answers is answer in
     subst (λ (r : Result (Unit {0}) KeepFault). Commits r change told tells before now) (sym failed) (subst (λ (r : Result (Unit {0}) KeepFault). Reads r told tells before now) failed reads)
+
+pub refused-stays : {D : Type 0} (result : Result (Unit {0}) KeepFault) (ended : Bool) (before now : StoredStore D) → ended ≡ true → result ≡ answered ended tt
+    → StaysForMemory result before now
+refused-stays result ended before now is answer =
+    let failed : result ≡ Err Failed = let Answers : Bool → Type 0 = λ b. result ≡ answered b tt in subst Answers is answer in
+    subst (λ (r : Result (Unit {0}) KeepFault). StaysForMemory r before now) (sym failed) tt
 
 pub one-two : (change : Change) (told : Option Kept) (leaves : Option Kept → Type 0) → LeavesOne told leaves → LeavesTwo change told leaves
 one-two change told leaves one = λ kept e found left. inl (one kept e found left)

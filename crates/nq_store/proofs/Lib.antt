@@ -9,5 +9,8 @@ mod Carrying
 mod Bodies
 pub mod Migrated
 mod Told
+mod Staying
 mod Opened
 mod Left
+pub mod Emptied
+pub mod Risen

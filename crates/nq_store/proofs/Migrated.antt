@@ -7,7 +7,7 @@ use Rattle.std.proofs.lemmas.List.Sums.{sum_by-cons}
 use Rattle.nq_disk.specs.Bytes.{Torn, written}
 use Rattle.nq_format.specs.Standing.{image_area, stands_as}
 use Rattle.nq_image.specs.Image.{FoundOne, ◌>>=◌, reached}
-use Rattle.nq_image.specs.Kept.{numbers_from}
+use Rattle.nq_image.specs.Kept.{kept_in, kept_one, numbers_from}
 use Rattle.nq_image.specs.Layout.{block_place}
 use Rattle.nq_image.specs.Reading.{Reads}
 use Rattle.nq_image.specs.Rows.{blocks_of}
@@ -23,9 +23,9 @@ use Rattle.nq_redo.specs.Whole.{IsClosed, OpensAfter, OpensAsOne, Settled, after
 use Rattle.law_migration.specs.Head.{if_reached}
 use Rattle.law_migration.specs.Migrated.{blocks_in}
 use Rattle.law_migration.specs.Prepared.{SameBelow, change_of, prepared, tabled}
-use Rattle.law_migration.proofs.Leaving.{as-before, below-closed, below-stands, fits, mid-long, then-begins, then-stands, then-two}
+use Rattle.law_migration.proofs.Leaving.{as-before, below-closed, below-stands, fits, mid-long, stands-one, then-begins, then-stands, then-two}
 use Rattle.law_migration.proofs.Parts.{parts-of-one}
-use Rattle.law_migration.proofs.Same.{reaches-end}
+use Rattle.law_migration.proofs.Same.{opens-as-one, reaches-end}
 use Rattle.nq_store.specs.Examining.{Examines, Tests}
 use Rattle.nq_store.specs.Migrating.{CountsWriting, IsMigrated, IsOldImage, Migrates}
 use Rattle.nq_store.specs.Opening.{CountsFault}
@@ -117,6 +117,7 @@ module _ (found : FoundOne) (may : List ℕ → Type 0) (old : List ℕ) (is : I
   pub migrated-so : (tells : Option (List ℕ)) (then : List ℕ → Type 0) → Settled image_area (after image_area (change_of found) (prepared found.rows.slots old)) tells then → IsMigrated old tells then
   migrated-so tells then so =
       let long = so.closed.long in
+      let same = then-stands found old is.image is.closed so.now (omega arith) so.opens in
       record {
         now = so.now;
         told = so.tells;
@@ -124,7 +125,8 @@ module _ (found : FoundOne) (may : List ℕ → Type 0) (old : List ℕ) (is : I
         alone = so.alone;
         named = then-begins found old is.image is.closed so.now (omega arith) so.opens;
         two = then-two found old is.image is.closed so.now (omega arith) so.opens so.closed;
-        same = then-stands found old is.image is.closed so.now (omega arith) so.opens;
+        same = same;
+        stands = (kept_in old (kept_one found), same ∙ stands-one found old is.image is.closed ∙ opens-as-one old found is.image);
       }
 
 -- ---- what a migration answers

@@ -11,14 +11,11 @@ use Rattle.nq_store.specs.declared.fault.Fault.{Fault}
 use Rattle.nq_store.specs.declared.fault.Fault.TheVariants.{NotAnImage, BadField, Failed, Memory}
 use Rattle.nq_store.specs.declared.fault.OpenFault.{OpenFault}
 use Rattle.nq_store.proofs.Keeping.{held-kept}
-use Rattle.nq_store.proofs.Told.{opens-as}
+use Rattle.nq_store.proofs.Told.{one-of, opens-as}
 
 pub kept-same : (now bytes : List ℕ) → stands_as now ≡ stands_as bytes → kept_on now ≡ kept_on bytes
 unfolding kept_on
 kept-same now bytes same = ap kept_of same
-
-one-of : {X : Type 0} (x y : X) → Some x ≡ Some y → x ≡ y
-one-of x y e = cc
 
 none-tells : {X : Type 0} (o : Option X) (x : X) → o ≡ None → o ≡ Some x → ⊥
 none-tells o x none some = cc

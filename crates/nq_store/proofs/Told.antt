@@ -1,5 +1,5 @@
 -- What the calls answer that open a store.
-use Rattle.std.proofs.Common.{◌≡◌, ◌⊎◌, ◌≤◌, ◌<◌, ◌+◌, ◌&&◌, inl, inr, ⊎_elim, min, ℕ, Bool, true, false, List, Option, Some, None, Result, Ok, Err, take, drop, length, get_or, if◌then◌else◌, refl, sym, ap, subst, ◌∙◌, arith}
+use Rattle.std.proofs.Common.{◌≡◌, ◌≢◌, ◌⊎◌, ◌≤◌, ◌<◌, ◌+◌, ◌&&◌, inl, inr, ⊎_elim, min, ℕ, zero, suc, Bool, true, false, List, Option, Some, None, Result, Ok, Err, take, drop, length, get_or, if◌then◌else◌, refl, sym, ap, subst, ◌∙◌, arith}
 use Rattle.std.specs.Option.{ForSome}
 use Rattle.std.specs.Prelude.{nat_le, slice_index}
 use Rattle.std.proofs.lemmas.Bool.{cases_lt}
@@ -35,7 +35,7 @@ use Rattle.law_image.proofs.Closed.{blanked_bytes, front-wrong, no-version, read
 use Rattle.law_image.proofs.Opening.{blank}
 use Rattle.nq_store.specs.Loading.{AreFrontOf, Gives, IsHeadOf, IsShut, IsShutAs, Loads, OpensTables, is_name}
 use Rattle.nq_store.specs.Migrating.{IsMigrated, IsOld, Migrates}
-use Rattle.nq_store.specs.Opening.{SaysWrong, open_fault}
+use Rattle.nq_store.specs.Opening.{IsSettledOf, SaysWrong, open_fault}
 use Rattle.nq_store.specs.Telling.{fault_of}
 use Rattle.nq_store.specs.declared.fault.OpenFault.{OpenFault}
 use Rattle.nq_store.specs.declared.fault.OpenFault.TheVariants as opening
@@ -261,11 +261,30 @@ module _ (old now : List ℕ) (begins : begins_as_image old ≡ true) (closed : 
   same-stands : stands_as now ≡ stands_as old
   same-stands = stands-settled now begins-now ∙ ap settled_as opens ∙ sym (stands-settled old begins)
 
-pub shut-as : (old : List ℕ) (tells : Option (List ℕ)) (may : List ℕ → Type 0) → begins_as_image old ≡ true → Settled image_area (found image_area old) tells may → IsShutAs old tells may
-shut-as old tells may begins settled =
+one-or-not : (n : ℕ) → (n ≡ 1) ⊎ (n ≢ 1)
+one-or-not zero = inr (λ e. absurd (omega arith))
+one-or-not (suc zero) = inl refl
+one-or-not (suc (suc n)) = inr (λ e. absurd (omega arith))
+
+pub one-of : {X : Type 0} (x y : X) → Some x ≡ Some y → x ≡ y
+one-of x y e = cc
+
+-- what an open of the record changes
+settled-so : (old now : List ℕ) (tells : Option (List ℕ)) → begins_as_image old ≡ true → tells ≡ Some now → (IsClosed image_area old → tells ≡ Some old)
+    → found image_area now ≡ found image_area old → IsSettledOf old now
+settled-so old now tells begins is again opens =
+    let long = begins-long old begins in
+    ⊎_elim (λ gate. inr (record { named = begins; gate = gate; same = opens }))
+    (λ shut. inl (one-of now old (sym is ∙ again (record { long = omega (arith, long); shut = shut }))))
+    (one-or-not (slice_index old 28672))
+
+pub shut-as : (old : List ℕ) (tells : Option (List ℕ)) (may : List ℕ → Type 0) → begins_as_image old ≡ true → (IsClosed image_area old → tells ≡ Some old)
+    → Settled image_area (found image_area old) tells may → IsShutAs old tells may
+shut-as old tells may begins again settled =
     record {
       now = settled.now;
       told = settled.tells;
       shut = record { closed = settled.closed; alone = settled.alone; named = begins-now old settled.now begins settled.closed settled.opens };
       same = same-stands old settled.now begins settled.closed settled.opens;
+      settled = settled-so old settled.now tells begins settled.tells again settled.opens;
     }

@@ -12,6 +12,7 @@ use Rattle.nq_plan.specs.Held.{HeldTables, IsHeldOf}
 use Rattle.nq_redo.specs.Saying.{Only}
 use Rattle.nq_redo.specs.Whole.{IsClosed}
 use Rattle.law_image.specs.Reading.{IsClosedTwo}
+use Rattle.nq_store.specs.Opening.{IsSettledOf}
 use Rattle.nq_store.specs.Storing.{IsKeptOn}
 use Rattle.nq_store.specs.declared.fault.Fault.{Fault}
 use Rattle.nq_store.specs.declared.fault.Fault.TheVariants.{NotAnImage, BadField, Failed, Memory}
@@ -52,12 +53,13 @@ pub record IsShut (may_leave : List ℕ → Type 0) (bytes : List ℕ) : Type 0 
   pub alone : Only bytes may_leave
   pub named : begins_as_image bytes ≡ true
 
--- the disk tells such bytes, which stand for the same as these
+-- the disk tells such bytes, which stand for the same as these, and are these but for the ranges of an open record
 pub record IsShutAs (bytes : List ℕ) (tells : Option (List ℕ)) (may_leave : List ℕ → Type 0) : Type 0 where
   pub now : List ℕ
   pub told : tells ≡ Some now
   pub shut : IsShut may_leave now
   pub same : stands_as now ≡ stands_as bytes
+  pub settled : IsSettledOf bytes now
 
 -- the disk tells bytes that stand for the same, and the tables in memory are those of the image that they are
 pub record IsLoaded (held : HeldTables) (bytes : List ℕ) (tells : Option (List ℕ)) (may_leave : List ℕ → Type 0) : Type 0 where
@@ -73,3 +75,11 @@ OpensTables (Err NotAnImage) bytes tells may_leave = stands_as bytes ≡ None
 OpensTables (Err (BadField place)) bytes tells may_leave = stands_as bytes ≡ Some (Err place)
 OpensTables (Err Failed) bytes tells may_leave = Unit {0}
 OpensTables (Err Memory) bytes tells may_leave = Unit {0}
+
+-- where bytes stand for no kept state the disk tells them still
+abbrev pub StaysAs : {X : Type 0} → Result X Fault → (bytes : List ℕ) → (tells : Option (List ℕ)) → Type 0
+StaysAs (Ok held) bytes tells = Unit {0}
+StaysAs (Err NotAnImage) bytes tells = tells ≡ Some bytes
+StaysAs (Err (BadField place)) bytes tells = tells ≡ Some bytes
+StaysAs (Err Failed) bytes tells = Unit {0}
+StaysAs (Err Memory) bytes tells = Unit {0}

@@ -7,6 +7,7 @@ use Rattle.nq_image.specs.Whole.{image_in, of_one}
 use Rattle.nq_image.specs.declared.Boots.{Boots}
 use Rattle.nq_image.specs.declared.Slot.{Slot}
 use Rattle.nq_io.specs.Faults.{Rose}
+use Rattle.nq_model.specs.Kept.{Kept}
 use Rattle.nq_redo.specs.Saying.{Each, Only}
 use Rattle.nq_redo.specs.Whole.{IsClosed}
 use Rattle.nq_store.specs.Storing.{kept_on}
@@ -32,7 +33,7 @@ pub record IsOldImage (found : FoundOne) (may_leave : List ℕ → Type 0) (byte
   pub closed : IsClosed image_area bytes
   pub alone : Only bytes may_leave
 
--- the disk tells bytes of version 2 that stand for the same, whose record is closed; a stop leaves nothing else
+-- the disk tells bytes of version 2 that stand for the same, some kept state, whose record is closed; a stop leaves nothing else
 pub record IsMigrated (bytes : List ℕ) (tells : Option (List ℕ)) (may_leave : List ℕ → Type 0) : Type 0 where
   pub now : List ℕ
   pub told : tells ≡ Some now
@@ -41,6 +42,7 @@ pub record IsMigrated (bytes : List ℕ) (tells : Option (List ℕ)) (may_leave 
   pub named : begins_as_image now ≡ true
   pub two : slice_index now 7 ≡ 50
   pub same : stands_as now ≡ stands_as bytes
+  pub stands : (kept : Kept) × (stands_as now ≡ Some (Ok kept))
 
 -- an image that stands for a kept state becomes one of version 2; for one that does not the least field that is wrong is named
 abbrev pub Migrates : Result Unit Fault → (bytes : List ℕ) → (tells : Option (List ℕ)) → (may_leave : List ℕ → Type 0) → Type 0

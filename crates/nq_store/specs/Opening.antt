@@ -1,9 +1,10 @@
 -- What the opening of a store answers.
-use Rattle.std.specs.Prelude.{◌≡◌, ◌⊎◌, ℕ, List, Option, Some, None, Result, Ok, Err}
+use Rattle.std.specs.Prelude.{◌≡◌, ◌⊎◌, ℕ, true, List, Option, Some, None, Result, Ok, Err, slice_index}
 use Rattle.std.specs.Option.{ForSome}
-use Rattle.nq_format.specs.Standing.{stands_as}
+use Rattle.nq_format.specs.Standing.{begins_as_image, image_area, stands_as}
 use Rattle.nq_io.specs.Faults.{Rose}
 use Rattle.nq_redo.specs.Saying.{Each}
+use Rattle.nq_redo.specs.Whole.{found}
 use Rattle.nq_store.specs.Storing.{kept_on}
 use Rattle.nq_store.specs.declared.fault.Fault.{Fault}
 use Rattle.nq_store.specs.declared.fault.Fault.TheVariants.{NotAnImage, BadField, Failed, Memory}
@@ -56,6 +57,31 @@ SaysWrong (Err (opening.NotAnImage back)) told = ForSome told (λ bytes. stands_
 SaysWrong (Err (opening.BadField back place)) told = ForSome told (λ bytes. stands_as bytes ≡ Some (Err place))
 SaysWrong (Err (opening.Failed back)) told = Unit {0}
 SaysWrong (Err (opening.Memory back)) told = Unit {0}
+
+-- bytes that began as an image whose record was open became these, with the ranges of the record written
+pub record WroteRecord (bytes now : List ℕ) : Type 0 where
+  pub named : begins_as_image bytes ≡ true
+  pub gate : slice_index bytes 28672 ≡ 1
+  pub same : found image_area now ≡ found image_area bytes
+
+-- bytes are as they were, but that the ranges of an open record may have been written
+abbrev pub IsSettledOf : (bytes now : List ℕ) → Type 0
+IsSettledOf bytes now = (now ≡ bytes) ⊎ WroteRecord bytes now
+
+-- a disk tells its bytes so
+abbrev pub TellsSettled : (bytes : List ℕ) → (tells : Option (List ℕ)) → Type 0
+TellsSettled bytes tells = (now : List ℕ) × (tells ≡ Some now) × IsSettledOf bytes now
+
+-- a disk that is handed back as no image, or for a wrong field, has the bytes that it had
+abbrev pub StaysBack : {D : Type 0} → (told : D → Option (List ℕ)) → OpenFault D → (bytes : List ℕ) → Type 0
+StaysBack told (opening.NotAnImage back) bytes = TellsSettled bytes (told back)
+StaysBack told (opening.BadField back place) bytes = TellsSettled bytes (told back)
+StaysBack told (opening.Failed back) bytes = Unit {0}
+StaysBack told (opening.Memory back) bytes = Unit {0}
+
+abbrev pub StaysRefused : {X D : Type 0} → (told : D → Option (List ℕ)) → Result X (OpenFault D) → (bytes : List ℕ) → Type 0
+StaysRefused told (Ok opened) bytes = Unit {0}
+StaysRefused told (Err fault) bytes = StaysBack told fault bytes
 
 -- the disk that a fault hands back
 abbrev pub back_of : {D : Type 0} → OpenFault D → D

@@ -1,5 +1,5 @@
 -- A store as contracts see it.
-use Rattle.std.specs.Prelude.{◌≡◌, ◌⊎◌, ◌≤◌, All, ◌^◌, ℕ, ◌+◌, ◌-◌, Bool, true, false, List, Option, Some, None, Result, Ok, Err, count_by, is_some, length, min, sum_by, if◌then◌else◌}
+use Rattle.std.specs.Prelude.{◌≡◌, ◌⊎◌, ◌<◌, ◌≤◌, All, ◌^◌, ℕ, ◌+◌, ◌-◌, Bool, true, false, List, Option, Some, None, Result, Ok, Err, count_by, is_some, length, min, sum_by, if◌then◌else◌}
 use Rattle.std.specs.Option.{ForSome}
 use Rattle.nq_base.specs.declared.Space.{Space}
 use Rattle.nq_io.specs.Faults.{Rose, count_up}
@@ -11,7 +11,7 @@ use Rattle.nq_format.specs.Standing.{image_area, stands_as}
 use Rattle.nq_model.specs.Change.{IsWithinBounds}
 use Rattle.nq_model.specs.Kept.{Kept}
 use Rattle.nq_plan.specs.Held.{HeldTables, IsHeldOf}
-use Rattle.nq_redo.specs.Saying.{Only}
+use Rattle.nq_redo.specs.Saying.{Each, Only}
 use Rattle.nq_redo.specs.Ranges.{Range}
 use Rattle.nq_redo.specs.Whole.{IsClosed, OpensAfter, OpensAs}
 
@@ -135,3 +135,17 @@ abbrev pub CountsKeep : {X : Type 0} → Result X KeepFault → (before now : �
 CountsKeep (Ok answer) before now = now ≡ before
 CountsKeep (Err Memory) before now = now ≡ before
 CountsKeep (Err Failed) before now = Rose before now
+
+-- for want of memory a change does nothing, and no call of the disk was made for it
+abbrev pub StaysForMemory : {D : Type 0} → Result Unit KeepFault → (before now : StoredStore D) → Type 0
+StaysForMemory (Ok done) before now = Unit {0}
+StaysForMemory (Err Failed) before now = Unit {0}
+StaysForMemory (Err Memory) before now = now ≡ before
+
+-- whatever a stop may leave of a disk opens, and stands for this kept state
+abbrev pub AllStandFor : (List ℕ → Type 0) → Kept → Type 0
+AllStandFor may_leave kept = Each may_leave (λ image. kept_on image ≡ Some kept)
+
+-- a count of faults rose, or it stands at the end of its type, where it cannot rise
+abbrev pub HasRisen : (before now : ℕ) → Type 0
+HasRisen before now = (before < now) ⊎ (2 ^ 64 - 1 ≤ now)

@@ -7,9 +7,9 @@ ghost use Rattle.nq_format.specs.Standing.{begins_as_image, image_area};
 ghost use Rattle.nq_image.specs.Heads.{version_of as version_at};
 ghost use Rattle.nq_image.specs.Layout.{piece};
 ghost use Rattle.nq_redo.specs.Saying.{Only};
-ghost use Rattle.nq_store.specs.Loading.{Gives, IsHeadOf, IsShut, IsShutAs, OpensTables, is_name as is_image_name};
+ghost use Rattle.nq_store.specs.Loading.{Gives, IsHeadOf, IsShut, IsShutAs, OpensTables, StaysAs, is_name as is_image_name};
 ghost use Rattle.nq_store.specs.Migrating.{IsOld, LeavesSameKept};
-ghost use Rattle.nq_store.specs.Opening.{AnswersOpen, CountsFault, FollowsOpen, LeavesLike, SaysWrong, disk_of};
+ghost use Rattle.nq_store.specs.Opening.{AnswersOpen, CountsFault, FollowsOpen, LeavesLike, SaysWrong, StaysRefused, disk_of};
 
 use crate::fault::{Fault, OpenFault};
 use crate::loading::{ROWS_SIZE, load, read_piece, size_of};
@@ -72,6 +72,7 @@ fn open_named<D: Disk>(disk: D, alloc: Global) -> Result<Redo<D>, OpenFault<D>>
     ensures area { IfOk result (λ redo. redo.area ≡ image_area) }
     ensures shut { ForSome (D.told disk) (λ bytes. begins_as_image bytes ≡ true → IfOk result (λ redo. IsShutAs bytes (D.told redo.disk) (D.may_leave redo.disk))) }
     ensures wrong { ForSome (D.told disk) (λ bytes. begins_as_image bytes ≡ true → SaysWrong result (D.told disk)) }
+    ensures stays { ForSome (D.told disk) (λ bytes. begins_as_image bytes ≡ true → StaysRefused D.told result bytes) }
     ensures cause { AnswersOpen (λ redo. redo.disk) D.faults result disk }
     ensures follows { FollowsOpen (λ redo. redo.disk) D.follows result disk }
     ensures leaves { ForSome (D.told disk) (λ bytes. begins_as_image bytes ≡ true → Only bytes (D.may_leave disk) → LeavesSameKept bytes (D.leaves disk (disk_of (λ redo. redo.disk) result))) }
@@ -89,6 +90,7 @@ pub(crate) fn open_record<D: Disk>(disk: D, alloc: Global) -> Result<Redo<D>, Op
     ensures area { IfOk result (λ redo. redo.area ≡ image_area) }
     ensures shut { ForSome (D.told disk) (λ bytes. IfOk result (λ redo. IsShutAs bytes (D.told redo.disk) (D.may_leave redo.disk))) }
     ensures wrong { SaysWrong result (D.told disk) }
+    ensures stays { ForSome (D.told disk) (λ bytes. StaysRefused D.told result bytes) }
     ensures cause { AnswersOpen (λ redo. redo.disk) D.faults result disk }
     ensures follows { FollowsOpen (λ redo. redo.disk) D.follows result disk }
     ensures leaves { LeavesLike (D.told disk) (D.may_leave disk) (D.leaves disk (disk_of (λ redo. redo.disk) result)) }
@@ -121,6 +123,7 @@ fn read_head<D: Disk>(disk: &mut D, alloc: Global) -> Result<Vec<u8>, Fault>
 fn load_new<D: Disk>(disk: &mut D, alloc: Global, head: &[u8]) -> Result<Tables, Fault>
     requires { length head.now ≡ 28672 }
     ensures told { ForSome (D.told disk.old) (λ bytes. IsShut (D.may_leave disk.old) bytes → IsHeadOf bytes head.now → OpensTables result bytes (D.told disk.new) (D.may_leave disk.new)) }
+    ensures same { D.told disk.new ≡ D.told disk.old }
     ensures cause { CountsFault result (D.faults disk.old) (D.faults disk.new) }
     ensures follows { D.follows disk.old disk.new }
     ensures leaves { LeavesNoMore (D.may_leave disk.old) (D.leaves disk.old disk.new) }
@@ -145,6 +148,7 @@ fn load_old<D: Disk>(redo: &mut Redo<D>, alloc: Global, head: &[u8]) -> Result<T
     requires size { length head.now ≡ 28672 }
     ensures area { redo.new.area ≡ image_area }
     ensures told { ForSome (D.told redo.old.disk) (λ bytes. IsOld head.now (D.may_leave redo.old.disk) bytes → OpensTables result bytes (D.told redo.new.disk) (D.may_leave redo.new.disk)) }
+    ensures stays { ForSome (D.told redo.old.disk) (λ bytes. IsOld head.now (D.may_leave redo.old.disk) bytes → StaysAs result bytes (D.told redo.new.disk)) }
     ensures cause { CountsFault result (D.faults redo.old.disk) (D.faults redo.new.disk) }
     ensures follows { D.follows redo.old.disk redo.new.disk }
     ensures leaves { ForSome (D.told redo.old.disk) (λ bytes. IsOld head.now (D.may_leave redo.old.disk) bytes → LeavesSameKept bytes (D.leaves redo.old.disk redo.new.disk)) }
@@ -167,6 +171,7 @@ fn load_any<D: Disk>(redo: &mut Redo<D>, alloc: Global, head: &[u8]) -> Result<T
     requires size { length head.now ≡ 28672 }
     ensures area { redo.new.area ≡ image_area }
     ensures told { ForSome (D.told redo.old.disk) (λ bytes. IsShut (D.may_leave redo.old.disk) bytes → head.now ≡ piece 0 28672 bytes → OpensTables result bytes (D.told redo.new.disk) (D.may_leave redo.new.disk)) }
+    ensures stays { ForSome (D.told redo.old.disk) (λ bytes. IsShut (D.may_leave redo.old.disk) bytes → head.now ≡ piece 0 28672 bytes → StaysAs result bytes (D.told redo.new.disk)) }
     ensures cause { CountsFault result (D.faults redo.old.disk) (D.faults redo.new.disk) }
     ensures follows { D.follows redo.old.disk redo.new.disk }
     ensures leaves { ForSome (D.told redo.old.disk) (λ bytes. IsShut (D.may_leave redo.old.disk) bytes → head.now ≡ piece 0 28672 bytes → LeavesSameKept bytes (D.leaves redo.old.disk redo.new.disk)) }
@@ -183,6 +188,7 @@ pub(crate) fn open_tables<D: Disk>(redo: &mut Redo<D>, alloc: Global) -> Result<
     requires { redo.old.area ≡ image_area }
     ensures area { redo.new.area ≡ image_area }
     ensures told { ForSome (D.told redo.old.disk) (λ bytes. IsShut (D.may_leave redo.old.disk) bytes → OpensTables result bytes (D.told redo.new.disk) (D.may_leave redo.new.disk)) }
+    ensures stays { ForSome (D.told redo.old.disk) (λ bytes. IsShut (D.may_leave redo.old.disk) bytes → StaysAs result bytes (D.told redo.new.disk)) }
     ensures cause { CountsFault result (D.faults redo.old.disk) (D.faults redo.new.disk) }
     ensures follows { D.follows redo.old.disk redo.new.disk }
     ensures leaves { ForSome (D.told redo.old.disk) (λ bytes. IsShut (D.may_leave redo.old.disk) bytes → LeavesSameKept bytes (D.leaves redo.old.disk redo.new.disk)) }

@@ -13,8 +13,8 @@ ghost use Rattle.nq_plan.specs.Finding.{row_behind, row_named, row_of};
 ghost use Rattle.nq_plan.specs.Placing.{IsPlacedFor};
 ghost use Rattle.nq_plan.specs.Ranges.{ranges_of};
 ghost use Rattle.nq_store.specs.Laws.{goes-further, goes-itself, goes-rising, leaves-parts, may-leave, told-is-within};
-ghost use Rattle.nq_store.specs.Opening.{AnswersOpen, FollowsOpen, LeavesLike, SaysWrong, disk_of};
-ghost use Rattle.nq_store.specs.Storing.{GoesOn, IsFresh, IsKept, IsSound, LeavesKept, after_asking, answered, content_of, faults_of, kept_told, space_in};
+ghost use Rattle.nq_store.specs.Opening.{AnswersOpen, FollowsOpen, LeavesLike, SaysWrong, StaysRefused, disk_of};
+ghost use Rattle.nq_store.specs.Storing.{GoesOn, IsFresh, IsKept, IsSound, LeavesKept, StaysForMemory, after_asking, answered, content_of, faults_of, kept_told, space_in};
 
 use crate::fault::OpenFault;
 use crate::opening::{open_record, open_tables};
@@ -63,10 +63,12 @@ impl<D: Disk + Drop> Store<D> {
     /// # Errors
     ///
     /// `NotAnImage` and `BadField` where the disk stands for no kept state, `Failed` only where the disk failed, and want of memory.
+    /// A disk that stands for no kept state keeps its bytes, but that the ranges of an open record are written.
     pub fn open(alloc: Global, disk: D) -> Result<Store<D>, OpenFault<D>>
         ensures content { IfOk result (λ store. content_of D.told store ≡ kept_told (D.told disk)) }
         ensures stands { OnOk result (ForSome (D.told disk) IsKept) }
         ensures wrong { SaysWrong result (D.told disk) }
+        ensures stays { ForSome (D.told disk) (λ bytes. StaysRefused D.told result bytes) }
         ensures fresh { IfOk result IsFresh }
         ensures cause { AnswersOpen (λ store. store.disk) D.faults result disk }
         ensures follows { FollowsOpen (λ store. store.disk) D.follows result disk }
@@ -171,6 +173,7 @@ impl<D: Disk + Drop> Store<D> {
         requires ranges { plan.batch ≡ ranges_of self.old.tables.standing change.now plan.placed }
         requires fits { ForSome (content_of D.told self.old) (λ kept. Fits kept change.now) }
         requires within { ForSome (content_of D.told self.old) (λ kept. IsChangeWithin kept change.now) }
+        ensures memory { StaysForMemory result self.old self.new }
         ensures commits { Commits result change.now (content_of D.told self.old) (content_of D.told self.new) (faults_of D.faults self.old) (faults_of D.faults self.new) }
         ensures follows { GoesOn D.faults D.follows self.old self.new }
         ensures leaves { LeavesTwo change.now (content_of D.told self.old) (LeavesKept (D.leaves self.old.disk self.new.disk)) }
@@ -318,6 +321,9 @@ impl<D: Disk + Drop> Keeper for Store<D> {
         ensures commits { Commits result change (content_of D.told self.old) (content_of D.told self.new) (faults_of D.faults self.old) (faults_of D.faults self.new) }
         ensures follows { GoesOn D.faults D.follows self.old self.new }
         ensures leaves { LeavesTwo change (content_of D.told self.old) (LeavesKept (D.leaves self.old.disk self.new.disk)) }
+
+        // Of this one: it takes all memory before its first call of the disk.
+        ensures memory { StaysForMemory result self.old self.new }
     {
         if self.has_ended() {
             return self.tell(());

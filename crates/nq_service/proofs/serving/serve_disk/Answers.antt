@@ -28,7 +28,7 @@ returns-in-Err-NotAnImage-clause-serves g c =
       why = not_an_image (λ store. store.disk) g.D.Disk.told g.D.Disk.faults disk c.in-Err-NotAnImage.disk left c.open.result c.refuse.result.status
           (g.K.Sink.held c.args.out.now) (g.K.Sink.held c.refuse.new.out) (g.K.Sink.faults c.args.out.now) (g.K.Sink.faults c.refuse.new.out) is
           c.refuse.ensures.disk
-          c.open.ensures.wrong c.open.ensures.cause c.refuse.ensures.tells;
+          c.open.ensures.wrong c.open.ensures.stays c.open.ensures.cause c.refuse.ensures.tells;
       clocks = refl;
       links = refl;
       survives = stays_back (λ store. store.disk) g.D.Disk.told g.D.Disk.faults disk c.in-Err-NotAnImage.disk left c.open.result g.D.Disk.may_leave
@@ -46,7 +46,7 @@ returns-in-Err-BadField-clause-serves g c =
           c.refuse-in-Err-BadField.result.status
           (g.K.Sink.held c.args.out.now) (g.K.Sink.held c.refuse-in-Err-BadField.new.out) (g.K.Sink.faults c.args.out.now) (g.K.Sink.faults
           c.refuse-in-Err-BadField.new.out) is c.refuse-in-Err-BadField.ensures.disk
-          c.open.ensures.wrong c.open.ensures.cause c.refuse-in-Err-BadField.ensures.tells;
+          c.open.ensures.wrong c.open.ensures.stays c.open.ensures.cause c.refuse-in-Err-BadField.ensures.tells;
       clocks = refl;
       links = refl;
       survives = stays_back (λ store. store.disk) g.D.Disk.told g.D.Disk.faults disk c.in-Err-BadField.disk left c.open.result g.D.Disk.may_leave

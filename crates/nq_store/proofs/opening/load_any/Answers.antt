@@ -1,6 +1,7 @@
 use Rattle.std.proofs.Common.{rules, ◌≡◌, Some, None, sym, ap, ◌∙◌}
 use Rattle.nq_image.specs.declared.Version.{Version}
 use Rattle.nq_store.specs.Storing.{kept_on}
+use Rattle.nq_store.proofs.Staying.{stays-told}
 use Rattle.nq_store.proofs.Told.{new-head, no-image, old-head}
 use Rattle.nq_store.proofs.opening.load_any.Goals as goal
 
@@ -29,3 +30,11 @@ pub returns-in-Some-One-clause-leaves : goal.returns-in-Some-One-clause-leaves
 returns-in-Some-One-clause-leaves g c = λ bytes is shut head.
     let one : c.version_in.result ≡ Some Version.One = search rules in
     c.load_old.ensures.leaves bytes is (old-head (g.D.Disk.may_leave c.args.redo.now.disk) bytes c.args.head.now shut head (sym c.version_in.ensures ∙ one))
+
+pub returns-in-Some-Two-clause-stays : goal.returns-in-Some-Two-clause-stays
+returns-in-Some-Two-clause-stays g c = λ bytes is shut head. stays-told c.load_new.result bytes (g.D.Disk.told c.load_new.new.disk) (c.load_new.ensures.same ∙ is)
+
+pub returns-in-Some-One-clause-stays : goal.returns-in-Some-One-clause-stays
+returns-in-Some-One-clause-stays g c = λ bytes is shut head.
+    let one : c.version_in.result ≡ Some Version.One = search rules in
+    c.load_old.ensures.stays bytes is (old-head (g.D.Disk.may_leave c.args.redo.now.disk) bytes c.args.head.now shut head (sym c.version_in.ensures ∙ one))

@@ -1,8 +1,9 @@
-use Rattle.std.proofs.Common.{rules, ◌≡◌, true, false, sym, subst, ◌∙◌, inl, inr, ⊎_elim}
+use Rattle.std.proofs.Common.{rules, ◌≡◌, true, false, refl, sym, subst, ◌∙◌, inl, inr, ⊎_elim}
 use Rattle.nq_format.specs.Standing.{begins_as_image}
 use Rattle.nq_redo.specs.declared.Redo.{Redo}
 use Rattle.nq_store.specs.Opening.{disk_of}
 use Rattle.nq_store.proofs.Left.{back-given, follows-of}
+use Rattle.nq_store.proofs.Staying.{stays-given}
 use Rattle.nq_store.proofs.Told.{not-begins, says-given, says-named}
 use Rattle.nq_store.proofs.opening.open_record.Goals as goal
 
@@ -36,3 +37,15 @@ returns-in-Err-clause-leaves g c = λ bytes is image left.
     let first = c.args.disk in
     let mid = c.is_named.new.disk in
     inl (c.is_named.ensures.leaves image (subst (λ (d : g.row.D.Denot). g.D.Disk.leaves first d image) (back-given c.in-Err.fault mid c.of.result c.of.ensures) left))
+
+pub returns-in-Ok-true-clause-stays : goal.returns-in-Ok-true-clause-stays
+returns-in-Ok-true-clause-stays g c = λ bytes is.
+    let so : c.in-Ok-true.field-0 ≡ true = search rules in
+    c.open_named.ensures.stays bytes (c.is_named.ensures.same ∙ is) (sym (c.in-Ok-true.ensures.told bytes is) ∙ so)
+
+pub returns-in-Ok-false-clause-stays : goal.returns-in-Ok-false-clause-stays
+returns-in-Ok-false-clause-stays g c = λ bytes is. (bytes, c.is_named.ensures.same ∙ is, inl refl)
+
+pub returns-in-Err-clause-stays : goal.returns-in-Err-clause-stays
+returns-in-Err-clause-stays g c = λ bytes is.
+    stays-given g.D.Disk.told c.in-Err.fault c.is_named.new.disk c.of.result bytes c.of.ensures (c.is_named.ensures.same ∙ is)

@@ -3,6 +3,7 @@ use Rattle.nq_plan.specs.Held.{HeldTables}
 use Rattle.nq_store.specs.Loading.{OpensTables}
 use Rattle.nq_store.specs.declared.fault.Fault.{Fault}
 use Rattle.nq_store.specs.Storing.{kept_on}
+use Rattle.nq_store.proofs.Staying.{stays-told}
 use Rattle.nq_store.proofs.Told.{gives-opens, shut-still}
 use Rattle.nq_store.proofs.opening.open_tables.Goals as goal
 
@@ -38,3 +39,17 @@ returns-clause-leaves g c = λ bytes is shut image left.
     ⊎_elim (λ l. ap kept_on (shut.alone image (c.read_head.ensures.leaves image l)))
     (λ l. c.load_any.ensures.leaves bytes (c.read_head.ensures.same ∙ is) still (c.deref.ensures.value ∙ head_is) image l)
     (g.met.D.Disk.parts first mid c.load_any.new.redo.disk image c.read_head.ensures.follows c.load_any.ensures.follows left)
+
+pub returns-in_err-head-clause-stays : goal.returns-in_err-head-clause-stays
+returns-in_err-head-clause-stays g c = λ bytes is shut.
+    stays-told c.from_residual.result bytes (g.D.Disk.told c.read_head.new.disk) (c.read_head.ensures.same ∙ is)
+
+pub returns-clause-stays : goal.returns-clause-stays
+returns-clause-stays g c = λ bytes is shut.
+    let first = c.args.redo.now.disk in
+    let mid = c.read_head.new.disk in
+    let long = shut.closed.long in
+    let head_is = c.in_ok-head.ensures.told bytes is (omega (arith, long)) in
+    let still = shut-still (g.D.Disk.may_leave first) (g.D.Disk.may_leave mid) bytes shut
+    (λ image left. c.read_head.ensures.leaves image (g.met.D.Disk.leaves_ends first mid image c.read_head.ensures.follows (inr left))) in
+    c.load_any.ensures.stays bytes (c.read_head.ensures.same ∙ is) still (c.deref.ensures.value ∙ head_is)

@@ -2,6 +2,7 @@ use Rattle.std.proofs.Common.{Ok, Err, subst, ◌∙◌, inr, ⊎_elim}
 use Rattle.nq_store.specs.Storing.{StoredStore}
 use Rattle.nq_store.proofs.Left.{back-given}
 use Rattle.nq_store.proofs.Opened.{content-same, kept-same, opens-both, says-opened, sound-opened, stands-opened}
+use Rattle.nq_store.proofs.Staying.{stays-refused}
 use Rattle.nq_store.proofs.store.Store.open.Goals as goal
 
 pub invariant_of-result : goal.invariant_of-result
@@ -62,3 +63,9 @@ returns-in-Err-clause-leaves g c = λ bytes is image left.
     ⊎_elim (λ l. c.in_ok-redo.ensures.leaves bytes is image l)
     (λ l. inr (c.open_tables.ensures.leaves s.now s.told s.shut image l ∙ kept-same s.now bytes s.same))
     (g.met.D.Disk.parts c.args.disk mid last image c.in_ok-redo.ensures.follows c.open_tables.ensures.follows there)
+
+pub returns-in-Err-clause-stays : goal.returns-in-Err-clause-stays
+returns-in-Err-clause-stays g c = λ bytes is.
+    let s = c.in_ok-redo.ensures.shut bytes is in
+    stays-refused g.D.Disk.told c.in-Err.fault c.open_tables.new.redo.disk c.of.result bytes s.now c.of.ensures s.settled
+    (c.in-Err.ensures.stays s.now s.told s.shut)
