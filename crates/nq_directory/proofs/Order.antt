@@ -5,7 +5,6 @@ use Rattle.std.specs.List.Sorted.{IsPartitionedBy, IsPartitionPoint}
 use Rattle.std.specs.Fn.{Called, ComputesKey}
 use Rattle.std.specs.Cmp.Lexicographic.{slice_cmp, same_text, texts_ties}
 use Rattle.std.specs.Ordering.{is_lt, is_eq, nat_cmp, ordering_reverse}
-use Rattle.std.specs.Cmp.{IsTotalOrder}
 use Rattle.std.proofs.lemmas.Cmp.{nat_list_cmp_total, tied_itself}
 use Rattle.std.proofs.lemmas.List.{drop_all}
 use Rattle.std.proofs.lemmas.List.Sorted.{IsPartitionPoint-from_clause}
@@ -14,7 +13,7 @@ use denote.Param.Members.{Mut}
 use denote.Ref.{Bor}
 use Rattle.nq_model.specs.Profile.{same_bytes}
 use Rattle.nq_directory.specs.declared.names.FileName.{FileName}
-use Rattle.nq_directory.specs.Names.{file_of, named, name_before, is_before, is_named, put_name, put_names, NoneBefore, AreInOrder}
+use Rattle.nq_directory.specs.Names.{file_if, file_of, named, name_before, is_before, is_named, put_name, put_names, NoneBefore, AreInOrder}
 use Rattle.nq_directory.proofs.Called.{same-name, same-self}
 
 pub decided : (b : Bool) → (b ≡ true) ⊎ (b ≡ false)
@@ -113,7 +112,7 @@ abbrev pub taken : (n : List ℕ) → Option FileName → Option FileName
 taken n None = None
 taken n (Some e) = if same_bytes e.name n then Some e else None
 
-one-more : (n : ℕ) → 1 + n ≡ suc n
+pub one-more : (n : ℕ) → 1 + n ≡ suc n
 one-more n = omega arith
 
 -- the entry of a name stands at its place
@@ -126,11 +125,6 @@ find-at n (x ∷ xs) o = elim (decided (name_before x.name n)) [
     | inr k ↦ let none = none-behind x n xs e k o.0 in rw (k, none) refl
   ])
 ]
-
--- the file of an entry, if it has a name
-abbrev pub file_if : (n : List ℕ) → Option FileName → Option ℕ
-file_if n None = None
-file_if n (Some e) = if same_bytes e.name n then Some e.file else None
 
 pub file-taken : (n : List ℕ) (e : Option FileName) → file_of (taken n e) ≡ file_if n e
 file-taken n None = refl

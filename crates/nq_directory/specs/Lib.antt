@@ -1,2 +1,3 @@
 pub mod Prefix
 pub mod Names
+pub mod Fronts

@@ -32,6 +32,11 @@ abbrev pub file_of : Option FileName → Option ℕ
 file_of None = None
 file_of (Some e) = Some e.file
 
+-- the file of an entry, if there is one and it has a name
+abbrev pub file_if : (name : List ℕ) → Option FileName → Option ℕ
+file_if name None = None
+file_if name (Some e) = if is_named name e then Some e.file else None
+
 -- the file that has a name, if one of these does
 abbrev pub named : (name : List ℕ) → List FileName → Option ℕ
 named name names = file_of (find (is_named name) names)

@@ -2,8 +2,11 @@
 //! found by halving.
 #![tactic(auto)]
 
+mod fronts;
+mod listed;
 mod names;
 mod prefix;
 
-pub use names::{FileName, add_all, file_named};
+pub use listed::DirNames;
+pub use names::FileName;
 pub use prefix::{Prefix, directory_of};

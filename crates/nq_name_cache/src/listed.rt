@@ -13,7 +13,7 @@ ghost use Rattle.nq_name_cache.specs.Names.{empty_list, found_as, list_of, other
 use crate::found::Found;
 use nq_base::{FileId, Grant, Mode, Name, NoMemory, Tag, Ticks};
 use nq_client_leases::{Held, Take, Taken};
-use nq_directory::{FileName, Prefix, add_all, file_named};
+use nq_directory::{DirNames, FileName, Prefix};
 use std::alloc::Global;
 use std::marker::Model;
 use std::mem;
@@ -23,19 +23,16 @@ use std::mem;
 pub(crate) struct Listed {
     prefix: Prefix,
     held: Held,
-    names: Vec<FileName>,
+    names: DirNames,
 }
 
 impl Model for Listed {
     ghost use Rattle.nq_client_leases.specs.Leases.{lease_of};
-    ghost use Rattle.nq_directory.specs.Names.{AreInOrder};
     ghost use Rattle.nq_name_cache.specs.Names.{DirList};
 
     ghost Value = { DirList };
 
-    ghost view = { λ l. record { prefix = l.prefix; lease = lease_of l.held; names = l.names.items } };
-
-    ghost invariant = { λ l. AreInOrder l.names.items };
+    ghost view = { λ l. record { prefix = l.prefix; lease = lease_of l.held; names = l.names } };
 }
 
 impl Listed {
@@ -46,7 +43,7 @@ impl Listed {
         Listed {
             prefix,
             held: Held::Nothing,
-            names: Vec::new(alloc),
+            names: DirNames::new(alloc, &prefix),
         }
     }
 
@@ -71,7 +68,7 @@ impl Listed {
         if !self.held.live(now) {
             return Found::Unknown;
         }
-        match file_named(&self.names, name) {
+        match self.names.find(name) {
             Some(file) => Found::File(file),
             None => Found::Absent,
         }
@@ -108,14 +105,13 @@ impl Listed {
         ensures refused { OnErr result (self.new ≡ self.old) }
     {
         let _term = grant.term;
-        self.names.reserve(names.len())?;
+        self.names.extend(names)?;
         let held = mem::replace(&mut self.held, Held::Nothing);
         let Taken { held, how } = held.take(FileId(0), grant, sent);
         if !is_on(how, grant.mode) {
             return Ok(false);
         }
         self.held = held;
-        add_all(&mut self.names, names);
         Ok(true)
     }
 }

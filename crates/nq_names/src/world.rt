@@ -126,7 +126,9 @@ impl<K: Keeper> NameWorld<K> {
     /// # Errors
     ///
     /// After every answer but `Done` the world plays the run that it played before. `Fault` exactly where the keeper counted a fault,
-    /// which it may also do where the server's side reads what is kept; `Memory` where memory was refused.
+    /// which it may also do where the server's side reads what is kept. `Memory` where memory was refused, and at a number that no run
+    /// comes to: a time from 2^62 on, a boot or a lease behind the last number, a longest term beyond 5 to 600 ticks, a host from 64
+    /// on, or more than 256 files behind an id.
     pub fn step(&mut self, event: &NameEvent) -> Stepped
         requires { CanComeOutside (length self.old.inner.clients) self.old.inner.skew.window event.now }
         ensures steps { (head : Head) (events : List NameEvent) → PlaysOutside head events self.old (K.content self.old.inner.server.keeper)

@@ -1,4 +1,4 @@
-use Rattle.std.proofs.Common.{rules, ◌≡◌, ◌∙◌, ap}
+use Rattle.std.proofs.Common.{◌∙◌, ap}
 use Rattle.nq_model.specs.Profile.{same_bytes}
 use Rattle.nq_directory.proofs.Called.{tested}
 use Rattle.nq_directory.proofs.prefix.Prefix.is.Goals as goal
