@@ -1,0 +1,7 @@
+pub mod Lining
+pub mod Grammar
+pub mod Mixing
+pub mod Putting
+pub mod Readied
+pub mod Seconds
+pub mod Spelling
