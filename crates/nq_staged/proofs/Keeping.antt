@@ -1,6 +1,5 @@
 -- What holds behind each event that was taken holds at the end: so all events of a staged schedule can be told in one.
-use Rattle.std.proofs.Common.{◌≡◌, ◌<◌, ◌≤◌, ℕ, ◌+◌, List, [], ◌∷◌, arith, length, reverse, zero, suc, ◌++◌, Option, Some, None, refl, sym, subst}
-use Rattle.std.proofs.lemmas.List.{reverse-append, reverse-reverse}
+use Rattle.std.proofs.Common.{◌≡◌, ◌<◌, ◌≤◌, ℕ, ◌+◌, List, [], ◌∷◌, arith, length, zero, suc, Option, Some, None, refl, subst}
 use Rattle.std.specs.List.{AllByRecursion}
 use Rattle.nq_asides.specs.Text.{IsTellable, mixed}
 use Rattle.nq_commit.specs.Playing.{PlaysOutside, StagedOver, stepped_outside}
@@ -16,12 +15,11 @@ use Rattle.nq_staged.proofs.Tellable.{IsPlainly, run-all}
 use Rattle.nq_staged.specs.Going.{Comes, RanTo}
 use Rattle.nq_staged.specs.Running.{IsTold}
 use Rattle.nq_staged.specs.declared.offer.Offer.{Offer}
-use Rattle.nq_staged_run.specs.Outside.{outside_run}
 use Rattle.nq_base.specs.declared.Event.{Event}
 use Rattle.nq_staged_run.specs.declared.StagedEvent.{StagedEvent}
 use Rattle.nq_model.specs.Stepped.{Stepped, done, no_packet, out_of_skew, too_many_events, too_many_packets, most_events}
 use Rattle.nq_model.specs.World.{Head as Beginning}
-use Rattle.nq_staged.specs.Playing.{Ended, Played, took, refused, and_then, answered, at_line, play, play_event, play_flow, play_line, play_lines, play_plain, play_round, play_ticks, ran, repeated, stopped, with_packet}
+use Rattle.nq_staged.specs.Playing.{Ended, Played, took, refused, and_then, answered, at_line, play, play_event, play_flow, play_lines, play_plain, play_round, play_ticks, ran, repeated, stopped, with_packet}
 
 -- it holds of the events, if all went well
 abbrev pub Ends : (List StagedEvent → Type 0) → Played → Type 0
@@ -118,17 +116,6 @@ module _ (head : Head) (second : head.version ≡ 2) where
   events_told asides lines text events spelled is = lines_told (most_events + 1) (length (head_lines head) + 1) asides lines spelled.1.1.0 [] events spelled.1.1.1 tt is
 
 -- ---- so can all inner events
-
-all-append : {X : Type 0} (P : X → Type 0) (xs ys : List X) → AllByRecursion P xs → AllByRecursion P ys → AllByRecursion P (xs ++ ys)
-all-append P [] ys a b = b
-all-append P (x ∷ xs) ys a b = (a.0, all-append P xs ys a.1 b)
-
-all-reversed : {X : Type 0} (P : X → Type 0) (xs : List X) → AllByRecursion P xs → AllByRecursion P (reverse xs)
-all-reversed P [] all = tt
-all-reversed P (x ∷ xs) all = subst (AllByRecursion P) (sym (reverse-append (x ∷ []) xs)) (all-append P (reverse xs) (x ∷ []) (all-reversed P xs all.1) (all.0, tt))
-
-pub all-reverse : {X : Type 0} (P : X → Type 0) (xs : List X) → AllByRecursion P (reverse xs) → AllByRecursion P xs
-all-reverse P xs all = subst (AllByRecursion P) (reverse-reverse xs) (all-reversed P (reverse xs) all)
 
 came_told : {K : Type 0} (head : Head) (asides : List (Option Offer)) (lines : List Line) (text : List ℕ) (w : StagedOver K) (told : Option Kept) (due : Ended) → head.version ≡ 2 → SpellsSchedule head lines text → play head (mixed asides lines) ≡ due → RanTo due (λ events. PlaysOutside (beginning head) events w told) → IsTold head w told
 came_told head asides lines text w told (ran events) second spelled is plays = record {

@@ -14,7 +14,7 @@ use Rattle.nq_replay.proofs.Journals.{plain_text}
 use Rattle.nq_script.specs.Lines.{once}
 use Rattle.nq_script.specs.Schedule.{SpellsSchedule}
 use Rattle.nq_script.specs.declared.heads.Head.{Head}
-use Rattle.nq_staged.specs.Running.{IsPrinted, behind_schedule, count_line, end_of}
+use Rattle.nq_staged.specs.Running.{IsPrinted, count_line, end_of}
 use Rattle.nq_staged_run.specs.Outer.{Counts}
 use Rattle.nq_staged_run.specs.Outside.{outside_run}
 use Rattle.nq_staged_run.specs.declared.StagedEvent.{StagedEvent}

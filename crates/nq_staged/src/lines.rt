@@ -1,6 +1,6 @@
 //! Lines of a staged schedule, one after another.
 
-ghost use Rattle.std.specs.Prelude.{◌≡◌, ◌≤◌, ◌+◌, ◌^◌, ◌<◌, ℕ, List, [], length, slice_get, Some};
+ghost use Rattle.std.specs.Prelude.{◌≡◌, ◌≤◌, ◌+◌, ◌^◌, ◌<◌, List, [], length, slice_get, Some};
 ghost use Rattle.nq_asides.specs.Text.{HoldsOfAsides, mixed};
 ghost use Rattle.nq_commit.specs.Playing.{PlaysOutside};
 ghost use Rattle.nq_model.specs.World.{Head};
