@@ -107,14 +107,13 @@ module _ {A : Type 0} (read : (hosts : ℕ) → List ℕ → Option A) where
   pub one-mixed : (g h : Head) (ls ms : List (MixedLine A)) (text : List ℕ) → SpellsMixed read g ls text → SpellsMixed read h ms text → (g ≡ h) × (ls ≡ ms)
   one-mixed g h ls ms text s t =
       let front = one-front g h s.body t.body text s.has t.has in
-      let one = one-schedule g h s.plainly t.plainly (plain_text read g s.body) s.spelled (subst (SpellsSchedule h t.plainly) (plain-same g h s.body t.body front) t.spelled) in
-      (
+      let one = one-schedule g h s.plainly t.plainly (plain_text read g s.body) s.spelled (subst (SpellsSchedule h t.plainly) (plain-same g h s.body t.body front) t.spelled) in (
         front.0,
         s.mixes
-        ∙ ap (λ p. mixed (asides_in (read g.hosts) s.body) p) one.1
-        ∙ ap (λ (k : Head). mixed (asides_in (read k.hosts) s.body) t.plainly) front.0
-        ∙ ap (λ b. mixed (asides_in (read h.hosts) b) t.plainly) front.1
-        ∙ sym t.mixes,
+            ∙ ap (λ p. mixed (asides_in (read g.hosts) s.body) p) one.1
+            ∙ ap (λ (k : Head). mixed (asides_in (read k.hosts) s.body) t.plainly) front.0
+            ∙ ap (λ b. mixed (asides_in (read h.hosts) b) t.plainly) front.1
+            ∙ sym t.mixes,
       )
 
   -- a text that is a schedule with asides goes wrong nowhere

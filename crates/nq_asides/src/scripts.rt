@@ -66,7 +66,10 @@ fn read_whole<A: AsideLine>(alloc: Global, text: &[u8]) -> Result<MixedScript<A>
 }
 
 /// Reads a text in which a line `flow` stands for each aside.
-fn read_plain<A: AsideLine>(alloc: Global, plain: PlainText<A>) -> Result<MixedScript<A>, ScriptFault>
+fn read_plain<A: AsideLine>(
+    alloc: Global,
+    plain: PlainText<A>,
+) -> Result<MixedScript<A>, ScriptFault>
     requires { length plain.bytes.items < 2 ^ 31 }
     ensures found { Answers result (λ s. SpellsSchedule s.script.head s.script.lines plain.bytes.items × (s.asides.items ≡ plain.asides.items)) (λ number. FirstBadLine plain.bytes.items number) }
     ensures first { Answers result (λ s. s.script.first ≡ length (head_lines s.script.head) + 1) (λ number. Unit {0}) }
@@ -77,7 +80,12 @@ fn read_plain<A: AsideLine>(alloc: Global, plain: PlainText<A>) -> Result<MixedS
 }
 
 /// A front, and bytes behind it in which a line `flow` stands for each aside.
-fn plain_text<A: AsideLine>(alloc: Global, hosts: u32, front: &[u8], body: &[u8]) -> Result<PlainText<A>, NoMemory>
+fn plain_text<A: AsideLine>(
+    alloc: Global,
+    hosts: u32,
+    front: &[u8],
+    body: &[u8],
+) -> Result<PlainText<A>, NoMemory>
     ensures plain { IfOk result (λ p. p.bytes.items ≡ front.now ++ plain_bytes (A.said hosts) body.now) }
     ensures asides { IfOk result (λ p. p.asides.items ≡ asides_in (A.said hosts) body.now) }
 {

@@ -166,7 +166,11 @@ fn begin_staged<L: Keeper + Drop>(
 
 /// Plays a staged schedule over a world in which nothing was played before. A flow may have one delivery more than there may be
 /// events.
-fn play_over<L: Keeper>(alloc: Global, world: &mut StagedWorld<L>, script: &MixedScript<Offer>) -> Played
+fn play_over<L: Keeper>(
+    alloc: Global,
+    world: &mut StagedWorld<L>,
+    script: &MixedScript<Offer>,
+) -> Played
     requires ready { IsReadyMixed IsOfHost script.now.script script.now.asides.items }
     requires settings { HasSettings script.now.script.head.hosts script.now.script.head.longest script.now.script.head.term world.old.inner }
     requires never { NeverFails L.faults L.follows world.old.inner.server.keeper }
