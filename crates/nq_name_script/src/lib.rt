@@ -1,11 +1,11 @@
 //! The text of schedules in which hosts list directories and find names: that of a schedule of version 2, in which lines
 //! `list H PREFIX` and `find H NAME` may stand where lines `flow` may.
 //!
-//! What such a text is stands in `specs/Text`.
+//! What such a text is stands in `specs/Text` of `nq_asides`, and what its asides say in `specs/Text` here.
 #![tactic(auto)]
 
+mod aside;
 mod lines;
-mod scripts;
 
+pub use aside::Aside;
 pub use lines::{parse_find, parse_list};
-pub use scripts::{Aside, NamesScript, VERSION, read_script};

@@ -1,6 +1,5 @@
 -- What holds behind each event that was taken holds at the end: so all events of a schedule with lists can be told in one.
-use Rattle.std.proofs.Common.{◌≡◌, ◌<◌, ◌≤◌, ℕ, ◌+◌, List, [], ◌∷◌, arith, length, reverse, zero, suc, ◌++◌, Option, Some, None, refl, sym, subst}
-use Rattle.std.proofs.lemmas.List.{reverse-append, reverse-reverse}
+use Rattle.std.proofs.Common.{◌≡◌, ◌<◌, ◌≤◌, ℕ, ◌+◌, List, [], ◌∷◌, arith, length, zero, suc, Option, Some, None, refl, subst}
 use Rattle.std.specs.List.{AllByRecursion}
 use Rattle.nq_names.specs.Playing.{NamesOver, stepped_outside}
 use Rattle.nq_model.specs.Kept.{Kept}
@@ -14,7 +13,7 @@ use Rattle.nq_script.specs.declared.lines.Line.{Line}
 use Rattle.nq_naming.proofs.Inside.{IsPlainly, run-all}
 use Rattle.nq_naming.specs.Going.{Comes, IsAtEnd, RanTo}
 use Rattle.nq_naming.specs.Running.{IsTold}
-use Rattle.nq_name_script.specs.Text.{IsTellable, beside, mixed, plain}
+use Rattle.nq_asides.specs.Text.{IsTellable, beside, mixed, plain}
 use Rattle.nq_name_script.specs.declared.Aside.{Aside}
 use Rattle.nq_base.specs.declared.Event.{Event}
 use Rattle.nq_names_run.specs.declared.NameEvent.{NameEvent}
@@ -143,17 +142,6 @@ module _ (head : Head) (second : head.version ≡ 2) where
   events_told asides lines text m spelled is = lines_told (most_events + 1) (length (head_lines head) + 1) asides lines spelled.1.1.0 first_moment m spelled.1.1.1 tt is
 
 -- ---- so can all inner events
-
-all-append : {X : Type 0} (P : X → Type 0) (xs ys : List X) → AllByRecursion P xs → AllByRecursion P ys → AllByRecursion P (xs ++ ys)
-all-append P [] ys a b = b
-all-append P (x ∷ xs) ys a b = (a.0, all-append P xs ys a.1 b)
-
-all-reversed : {X : Type 0} (P : X → Type 0) (xs : List X) → AllByRecursion P xs → AllByRecursion P (reverse xs)
-all-reversed P [] all = tt
-all-reversed P (x ∷ xs) all = subst (AllByRecursion P) (sym (reverse-append (x ∷ []) xs)) (all-append P (reverse xs) (x ∷ []) (all-reversed P xs all.1) (all.0, tt))
-
-pub all-reverse : {X : Type 0} (P : X → Type 0) (xs : List X) → AllByRecursion P (reverse xs) → AllByRecursion P xs
-all-reverse P xs all = subst (AllByRecursion P) (reverse-reverse xs) (all-reversed P (reverse xs) all)
 
 came_told : {K : Type 0} (head : Head) (asides : List (Option Aside)) (lines : List Line) (text : List ℕ) (w : NamesOver K) (told : Option Kept) (found : List ℕ) (due : Ended) → head.version ≡ 2 → SpellsSchedule head lines text → play head (mixed asides lines) ≡ due
     → RanTo due (λ m. IsAtEnd (beginning head) m w told found) → IsTold head w told

@@ -3,6 +3,7 @@
 -- are the source's counts of faults before and after, and `w` and `w'` the sink's.
 use Rattle.std.specs.List.{AllByRecursion}
 use Rattle.std.specs.Prelude.{◌≡◌, ◌⊎◌, ℕ, List, ◌++◌, Option, map, reverse}
+use Rattle.nq_asides.specs.Text.{IsTellable}
 use Rattle.nq_base.specs.declared.SkewBroken.{SkewBroken}
 use Rattle.nq_names.specs.Playing.{PlaysOutside, NamesOver}
 use Rattle.nq_ending.specs.declared.Ending.{Ending}
@@ -24,7 +25,7 @@ use Rattle.nq_script.specs.Schedule.{SpellsSchedule}
 use Rattle.nq_script.specs.declared.heads.Head.{Head}
 use Rattle.nq_naming.specs.Finding.{FindsAreTrue, lines_of}
 use Rattle.nq_naming.specs.Playing.{Ended, Moment, play, ran, stopped}
-use Rattle.nq_name_script.specs.Text.{FirstBadNames, IsTellable, SpellsNames, NamesLine}
+use Rattle.nq_name_script.specs.Text.{FirstBadNames, SpellsNames, NamesLine}
 use Rattle.nq_names_run.specs.Outer.{Outside}
 use Rattle.nq_names_run.specs.Outside.{outside_run}
 use Rattle.nq_world.specs.Answering.{told as answer_of}

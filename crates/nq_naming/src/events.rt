@@ -1,6 +1,6 @@
 //! Events of a schedule with lists, one after another. Packets are those that travel outside.
 
-ghost use Rattle.std.specs.Prelude.{◌≡◌, ◌≤◌, ℕ, List, ◌∷◌, length};
+ghost use Rattle.std.specs.Prelude.{◌≡◌, ◌≤◌, List, ◌∷◌, length};
 ghost use Rattle.nq_base.specs.declared.Event.{Event};
 ghost use Rattle.nq_names.specs.Playing.{CanComeOutside};
 ghost use Rattle.nq_model.specs.World.{Head};

@@ -9,6 +9,5 @@ mod events;
 mod lines;
 mod printing;
 mod running;
-mod schedules;
 
 pub use running::run_names;

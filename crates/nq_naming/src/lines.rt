@@ -1,6 +1,7 @@
 //! Lines of a schedule with lists, one after another.
 
 ghost use Rattle.std.specs.Prelude.{◌≡◌, ◌≤◌, ◌+◌, ◌^◌, ◌<◌, ℕ, Bool, List, [], Option, length, slice_get, Some, OnOk};
+ghost use Rattle.nq_asides.specs.Text.{HoldsOfAsides, beside, mixed};
 ghost use Rattle.nq_names.specs.Playing.{PlaysOutside};
 ghost use Rattle.nq_model.specs.World.{Head};
 ghost use Rattle.nq_play.specs.Going.{AreForWorld, IsForWorld, said};
@@ -9,16 +10,17 @@ ghost use Rattle.nq_script.specs.declared.lines.Line.{Line};
 ghost use Rattle.nq_model.specs.Kept.{Kept};
 ghost use Rattle.nq_naming.specs.Going.{Comes, Goes, IsAt, IsAtEnd, IsAtMoment};
 ghost use Rattle.nq_naming.specs.Playing.{Moment, first_moment, play_event, play_line, play_lines, play_plain, with_find};
-ghost use Rattle.nq_name_script.specs.Text.{AreForHosts, IsOfHost, NamesLine, aside_at, beside, mixed};
+ghost use Rattle.nq_name_script.specs.Text.{IsOfHost, NamesLine};
 ghost use Rattle.nq_names_run.specs.declared.NameEvent.{NameEvent};
 ghost use Rattle.nq_world.specs.Playing.{CountsFaults, HasSettings};
 
 use crate::events::{deliver, flow, rounds, take, take_times};
 use crate::printing::push_find;
+use nq_asides::{MixedScript, aside_at};
 use nq_base::{Host, Name, NoMemory};
 use nq_directory::Prefix;
 use nq_keeper::Keeper;
-use nq_name_script::{Aside, NamesScript};
+use nq_name_script::Aside;
 use nq_names::NameWorld;
 use nq_names_run::NameEvent;
 use nq_play::{Delivered, Played};
@@ -161,16 +163,6 @@ fn play_aside<K: Keeper>(
     }
 }
 
-/// What a host does in the line at a place, if it is none of a schedule.
-fn aside_at(asides: &[Option<Aside>], place: usize) -> Option<Aside>
-    ensures { result ≡ aside_at asides.now place }
-{
-    match asides.get(place) {
-        Some(aside) => *aside,
-        None => None,
-    }
-}
-
 /// Plays the line at a place, and appends what it found.
 fn play_at<K: Keeper>(
     world: &mut NameWorld<K>,
@@ -178,11 +170,11 @@ fn play_at<K: Keeper>(
     found: &mut Vec<u8>,
     hosts: u32,
     most: u32,
-    script: &NamesScript,
+    script: &MixedScript<Aside>,
     place: usize,
 ) -> Stepped
     requires hosts { hosts ≤ length world.old.inner.clients }
-    requires asides { AreForHosts (length world.old.inner.clients) script.now.asides.items }
+    requires asides { HoldsOfAsides (IsOfHost (length world.old.inner.clients)) script.now.asides.items }
     requires can { AreForWorld (length world.old.inner.clients) world.old.inner.skew.window script.now.script.lines }
     requires below { place < length script.now.script.lines }
     ensures goes { (line : NamesLine) → slice_get (mixed script.now.asides.items script.now.script.lines) place ≡ Some line → (head : Head) (m : Moment) → head.hosts ≡ hosts
@@ -216,10 +208,10 @@ pub(crate) fn play<K: Keeper>(
     world: &mut NameWorld<K>,
     found: &mut Vec<u8>,
     most: u32,
-    script: &NamesScript,
+    script: &MixedScript<Aside>,
 ) -> Played
     requires hosts { script.now.script.head.hosts ≤ length world.old.inner.clients }
-    requires asides { AreForHosts (length world.old.inner.clients) script.now.asides.items }
+    requires asides { HoldsOfAsides (IsOfHost (length world.old.inner.clients)) script.now.asides.items }
     requires can { AreForWorld (length world.old.inner.clients) world.old.inner.skew.window script.now.script.lines }
     requires few { script.now.script.first + length script.now.script.lines < 2 ^ 32 }
     requires none { found.old.items ≡ [] }

@@ -2,6 +2,7 @@
 
 ghost use Rattle.std.specs.Prelude.{◌≡◌, ◌⊎◌, ◌<◌, ◌≤◌, ◌^◌, ℕ, List, [], Some, length, IfOk};
 ghost use Rattle.nq_base.specs.declared.SkewBroken.{SkewBroken};
+ghost use Rattle.nq_asides.specs.Text.{IsReadyMixed, mixed};
 ghost use Rattle.nq_names.specs.Playing.{PlaysOutside};
 ghost use Rattle.nq_ending.specs.declared.Ending.{Ending};
 ghost use Rattle.nq_keeper.specs.StoredKeeper.{empty_kept};
@@ -16,17 +17,16 @@ ghost use Rattle.nq_script.specs.declared.heads.Head.{Head};
 ghost use Rattle.nq_naming.specs.Going.{Comes, IsAtEnd};
 ghost use Rattle.nq_naming.specs.Playing.{Ended, Moment, play};
 ghost use Rattle.nq_naming.specs.Running.{EndsNames, EndsNamesPlayed, EndsNamesText, FaultyNames, IsTold, PassesNames, PrintsRun, RunsNames, StopsNames};
-ghost use Rattle.nq_name_script.specs.Text.{IsReadyNames, mixed};
+ghost use Rattle.nq_name_script.specs.Text.{IsOfHost};
 ghost use Rattle.nq_world.specs.Playing.{HasSettings};
 
 use crate::lines::play;
-use crate::printing::print_parts;
-use crate::schedules::schedule_text;
+use nq_asides::{MixedScript, print_parts, read_script, schedule_text};
 use nq_base::NoMemory;
 use nq_ending::Ending;
 use nq_io::{Sink, Source, Whole, read_all};
 use nq_keeper::{Keeper, ListKeeper};
-use nq_name_script::{NamesScript, read_script};
+use nq_name_script::Aside;
 use nq_names::NameWorld;
 use nq_play::Played;
 use nq_replay::{begin_surely, tell_over, tell_script, tell_stop};
@@ -104,8 +104,8 @@ fn run_text<K: Sink>(alloc: Global, text: &[u8], out: &mut K) -> Ending
 }
 
 /// Runs a schedule with lists over a keeper in memory, which is told to fail in no call.
-fn run_in_memory<K: Sink>(alloc: Global, script: &NamesScript, out: &mut K) -> Ending
-    requires { IsReadyNames script.now.script script.now.asides.items }
+fn run_in_memory<K: Sink>(alloc: Global, script: &MixedScript<Aside>, out: &mut K) -> Ending
+    requires { IsReadyMixed IsOfHost script.now.script script.now.asides.items }
     ensures { EndsNamesPlayed result script.now.script.head (play script.now.script.head (mixed script.now.asides.items script.now.script.lines))
         (K.held out.old) (K.held out.new) (K.faults out.old) (K.faults out.new) }
 {
@@ -119,11 +119,11 @@ fn run_in_memory<K: Sink>(alloc: Global, script: &NamesScript, out: &mut K) -> E
 /// stopped.
 fn run_over<L: Keeper + Drop, K: Sink>(
     alloc: Global,
-    script: &NamesScript,
+    script: &MixedScript<Aside>,
     keeper: L,
     out: &mut K,
 ) -> Ending
-    requires ready { IsReadyNames script.now.script script.now.asides.items }
+    requires ready { IsReadyMixed IsOfHost script.now.script script.now.asides.items }
     requires empty { L.content keeper ≡ Some empty_kept }
     requires never { NeverFails L.faults L.follows keeper }
     ensures { EndsNamesPlayed result script.now.script.head (play script.now.script.head (mixed script.now.asides.items script.now.script.lines))
@@ -170,9 +170,9 @@ fn play_over<L: Keeper>(
     alloc: Global,
     world: &mut NameWorld<L>,
     found: &mut Vec<u8>,
-    script: &NamesScript,
+    script: &MixedScript<Aside>,
 ) -> Played
-    requires ready { IsReadyNames script.now.script script.now.asides.items }
+    requires ready { IsReadyMixed IsOfHost script.now.script script.now.asides.items }
     requires settings { HasSettings script.now.script.head.hosts script.now.script.head.longest script.now.script.head.term world.old.inner }
     requires never { NeverFails L.faults L.follows world.old.inner.server.keeper }
     requires none { found.old.items ≡ [] }

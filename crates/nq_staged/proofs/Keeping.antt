@@ -1,7 +1,7 @@
 -- What holds behind each event that was taken holds at the end: so all events of a staged schedule can be told in one.
-use Rattle.std.proofs.Common.{◌≡◌, ◌<◌, ◌≤◌, ℕ, ◌+◌, List, [], ◌∷◌, arith, length, reverse, zero, suc, ◌++◌, Option, Some, None, refl, sym, subst}
-use Rattle.std.proofs.lemmas.List.{reverse-append, reverse-reverse}
+use Rattle.std.proofs.Common.{◌≡◌, ◌<◌, ◌≤◌, ℕ, ◌+◌, List, [], ◌∷◌, arith, length, zero, suc, Option, Some, None, refl, subst}
 use Rattle.std.specs.List.{AllByRecursion}
+use Rattle.nq_asides.specs.Text.{IsTellable, mixed}
 use Rattle.nq_commit.specs.Playing.{PlaysOutside, StagedOver, stepped_outside}
 use Rattle.nq_model.specs.Kept.{Kept}
 use Rattle.nq_play.specs.Playing.{beginning}
@@ -14,13 +14,12 @@ use Rattle.nq_script.specs.declared.lines.Line.{Line}
 use Rattle.nq_staged.proofs.Tellable.{IsPlainly, run-all}
 use Rattle.nq_staged.specs.Going.{Comes, RanTo}
 use Rattle.nq_staged.specs.Running.{IsTold}
-use Rattle.nq_staged.specs.Text.{IsTellable, StagedLine, mixed, plain, stage}
-use Rattle.nq_staged_run.specs.Outside.{outside_run}
+use Rattle.nq_staged.specs.declared.offer.Offer.{Offer}
 use Rattle.nq_base.specs.declared.Event.{Event}
 use Rattle.nq_staged_run.specs.declared.StagedEvent.{StagedEvent}
 use Rattle.nq_model.specs.Stepped.{Stepped, done, no_packet, out_of_skew, too_many_events, too_many_packets, most_events}
 use Rattle.nq_model.specs.World.{Head as Beginning}
-use Rattle.nq_staged.specs.Playing.{Ended, Played, took, refused, and_then, answered, at_line, play, play_event, play_flow, play_line, play_lines, play_plain, play_round, play_ticks, ran, repeated, stopped, with_packet}
+use Rattle.nq_staged.specs.Playing.{Ended, Played, took, refused, and_then, answered, at_line, play, play_event, play_flow, play_lines, play_plain, play_round, play_ticks, ran, repeated, stopped, with_packet}
 
 -- it holds of the events, if all went well
 abbrev pub Ends : (List StagedEvent → Type 0) → Played → Type 0
@@ -96,48 +95,37 @@ module _ (head : Head) (second : head.version ≡ 2) where
   ran_on line (took es) next events so on is = on es so is
   ran_on line (refused answer) next events so on is = absurd (cc)
 
-  lines_told : (most number : ℕ) (stages : List (Option ℕ)) (lines : List Line) (texts : List (List ℕ)) (earlier events : List StagedEvent) → SpellsLines head lines texts → AreTold head earlier → play_lines (beginning head) most number (mixed stages lines) earlier ≡ ran events → AreTold head events
-  lines_told most number stages [] texts earlier events spelled so is = let same : earlier ≡ events = cc in subst (AreTold head) same so
-  lines_told most number stages (line ∷ lines) [] earlier events spelled so is = absurd spelled
+  lines_told : (most number : ℕ) (asides : List (Option Offer)) (lines : List Line) (texts : List (List ℕ)) (earlier events : List StagedEvent) → SpellsLines head lines texts → AreTold head earlier → play_lines (beginning head) most number (mixed asides lines) earlier ≡ ran events → AreTold head events
+  lines_told most number asides [] texts earlier events spelled so is = let same : earlier ≡ events = cc in subst (AreTold head) same so
+  lines_told most number asides (line ∷ lines) [] earlier events spelled so is = absurd spelled
   lines_told most number [] (line ∷ lines) (text ∷ texts) earlier events spelled so is =
       ran_on number (play_plain (beginning head) most line earlier) (play_lines (beginning head) most (number + 1) (mixed [] lines)) events
       (keeps_line most line text spelled.1 earlier so)
       (λ es here on. lines_told most (number + 1) [] lines texts es events spelled.2 here on) is
-  lines_told most number (None ∷ stages) (line ∷ lines) (text ∷ texts) earlier events spelled so is =
-      ran_on number (play_plain (beginning head) most line earlier) (play_lines (beginning head) most (number + 1) (mixed stages lines)) events
+  lines_told most number (None ∷ asides) (line ∷ lines) (text ∷ texts) earlier events spelled so is =
+      ran_on number (play_plain (beginning head) most line earlier) (play_lines (beginning head) most (number + 1) (mixed asides lines)) events
       (keeps_line most line text spelled.1 earlier so)
-      (λ es here on. lines_told most (number + 1) stages lines texts es events spelled.2 here on) is
-  lines_told most number (Some host ∷ stages) (line ∷ lines) (text ∷ texts) earlier events spelled so is =
-      ran_on number (play_event (beginning head) (StagedEvent.Stage host) earlier) (play_lines (beginning head) most (number + 1) (mixed stages lines)) events
-      (keeps_stage host earlier so)
-      (λ es here on. lines_told most (number + 1) stages lines texts es events spelled.2 here on) is
+      (λ es here on. lines_told most (number + 1) asides lines texts es events spelled.2 here on) is
+  lines_told most number (Some offer ∷ asides) (line ∷ lines) (text ∷ texts) earlier events spelled so is =
+      ran_on number (play_event (beginning head) (StagedEvent.Stage offer.host) earlier) (play_lines (beginning head) most (number + 1) (mixed asides lines)) events
+      (keeps_stage offer.host earlier so)
+      (λ es here on. lines_told most (number + 1) asides lines texts es events spelled.2 here on) is
 
-  pub events_told : (stages : List (Option ℕ)) (lines : List Line) (text : List ℕ) (events : List StagedEvent) → SpellsSchedule head lines text → play head (mixed stages lines) ≡ ran events → AreTold head events
+  pub events_told : (asides : List (Option Offer)) (lines : List Line) (text : List ℕ) (events : List StagedEvent) → SpellsSchedule head lines text → play head (mixed asides lines) ≡ ran events → AreTold head events
   unfolding play
-  events_told stages lines text events spelled is = lines_told (most_events + 1) (length (head_lines head) + 1) stages lines spelled.1.1.0 [] events spelled.1.1.1 tt is
+  events_told asides lines text events spelled is = lines_told (most_events + 1) (length (head_lines head) + 1) asides lines spelled.1.1.0 [] events spelled.1.1.1 tt is
 
 -- ---- so can all inner events
 
-all-append : {X : Type 0} (P : X → Type 0) (xs ys : List X) → AllByRecursion P xs → AllByRecursion P ys → AllByRecursion P (xs ++ ys)
-all-append P [] ys a b = b
-all-append P (x ∷ xs) ys a b = (a.0, all-append P xs ys a.1 b)
-
-all-reversed : {X : Type 0} (P : X → Type 0) (xs : List X) → AllByRecursion P xs → AllByRecursion P (reverse xs)
-all-reversed P [] all = tt
-all-reversed P (x ∷ xs) all = subst (AllByRecursion P) (sym (reverse-append (x ∷ []) xs)) (all-append P (reverse xs) (x ∷ []) (all-reversed P xs all.1) (all.0, tt))
-
-pub all-reverse : {X : Type 0} (P : X → Type 0) (xs : List X) → AllByRecursion P (reverse xs) → AllByRecursion P xs
-all-reverse P xs all = subst (AllByRecursion P) (reverse-reverse xs) (all-reversed P (reverse xs) all)
-
-came_told : {K : Type 0} (head : Head) (stages : List (Option ℕ)) (lines : List Line) (text : List ℕ) (w : StagedOver K) (told : Option Kept) (due : Ended) → head.version ≡ 2 → SpellsSchedule head lines text → play head (mixed stages lines) ≡ due → RanTo due (λ events. PlaysOutside (beginning head) events w told) → IsTold head w told
-came_told head stages lines text w told (ran events) second spelled is plays = record {
+came_told : {K : Type 0} (head : Head) (asides : List (Option Offer)) (lines : List Line) (text : List ℕ) (w : StagedOver K) (told : Option Kept) (due : Ended) → head.version ≡ 2 → SpellsSchedule head lines text → play head (mixed asides lines) ≡ due → RanTo due (λ events. PlaysOutside (beginning head) events w told) → IsTold head w told
+came_told head asides lines text w told (ran events) second spelled is plays = record {
   events = events;
   plays = plays;
-  tellable = run-all (IsTellable head) (deliver-told head) (beginning head) events (events_told head second stages lines text events spelled is);
+  tellable = run-all (IsTellable head) (deliver-told head) (beginning head) events (events_told head second asides lines text events spelled is);
 }
-came_told head stages lines text w told (stopped line answer) second spelled is plays = absurd plays
+came_told head asides lines text w told (stopped line answer) second spelled is plays = absurd plays
 
 -- a staged schedule that was played to its end
-pub played_told : {K : Type 0} (head : Head) (stages : List (Option ℕ)) (lines : List Line) (text : List ℕ) (played : Went) (w : StagedOver K) (told : Option Kept) → head.version ≡ 2 → SpellsSchedule head lines text → Comes played (play head (mixed stages lines)) (λ events. PlaysOutside (beginning head) events w told) → played ≡ Went.All → IsTold head w told
-played_told head stages lines text Went.All w told second spelled comes is = came_told head stages lines text w told (play head (mixed stages lines)) second spelled refl comes
-played_told head stages lines text (Went.Stopped line answer) w told second spelled comes is = absurd (cc)
+pub played_told : {K : Type 0} (head : Head) (asides : List (Option Offer)) (lines : List Line) (text : List ℕ) (played : Went) (w : StagedOver K) (told : Option Kept) → head.version ≡ 2 → SpellsSchedule head lines text → Comes played (play head (mixed asides lines)) (λ events. PlaysOutside (beginning head) events w told) → played ≡ Went.All → IsTold head w told
+played_told head asides lines text Went.All w told second spelled comes is = came_told head asides lines text w told (play head (mixed asides lines)) second spelled refl comes
+played_told head asides lines text (Went.Stopped line answer) w told second spelled comes is = absurd (cc)

@@ -4,7 +4,7 @@ use Rattle.nq_base.specs.declared.Event.{Event}
 use Rattle.nq_staged_run.specs.declared.StagedEvent.{StagedEvent}
 use Rattle.nq_model.specs.World.{Head}
 use Rattle.nq_staged.specs.Going.{Comes, Goes, RanTo, StoppedAt, WasRefused, WentTo}
-use Rattle.nq_staged.specs.Playing.{Ended, Played as Due, and_then, at_line, next_packet, play_event, play_flow, play_line, play_lines, play_plain, play_ticks, ran, refused, repeated, stopped, took, with_packet}
+use Rattle.nq_staged.specs.Playing.{Ended, Played as Due, and_then, at_line, next_packet, play_event, play_flow, play_line, play_lines, play_plain, play_ticks, ran, refused, repeated, took, with_packet}
 use Rattle.nq_play.specs.declared.Played.{Played}
 use Rattle.nq_script.specs.declared.lines.Line.{Line}
 use Rattle.nq_staged.specs.Text.{StagedLine}

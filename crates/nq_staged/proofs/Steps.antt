@@ -1,5 +1,5 @@
 -- What a step of a staged world means for what is played.
-use Rattle.std.proofs.Common.{◌≡◌, ℕ, ◌<◌, ◌≤◌, Bool, true, false, List, [], ◌∷◌, length, Option, Some, None, refl, sym, ap, subst, ◌∙◌, arith}
+use Rattle.std.proofs.Common.{◌≡◌, ℕ, ◌<◌, ◌≤◌, Bool, true, false, List, ◌∷◌, length, Option, refl, sym, ap, subst, ◌∙◌, arith}
 use Rattle.std.proofs.lemmas.Bool.Decides.{nat_tests}
 use Rattle.std.specs.Prelude.{nat_lt, if◌then◌else◌}
 use Rattle.nq_base.specs.declared.Event.{Event}
@@ -8,8 +8,8 @@ use Rattle.nq_model.specs.Kept.{Kept}
 use Rattle.nq_model.specs.Stepped.{Stepped as Answer, done, no_packet, out_of_skew, too_many_events, too_many_packets, most_events, tested_room}
 use Rattle.nq_model.specs.World.{Head}
 use Rattle.nq_play.specs.Delivering.{Marks, least_undelivered}
-use Rattle.nq_staged.specs.Going.{Goes, HasFlagOutside, IsAt, WasRefused, WentTo}
-use Rattle.nq_staged.specs.Playing.{Played, answered, next_packet, plain_events, play_event, refused, took}
+use Rattle.nq_staged.specs.Going.{Goes, HasFlagOutside, IsAt, WasRefused}
+use Rattle.nq_staged.specs.Playing.{answered, next_packet, plain_events, play_event}
 use Rattle.nq_staged_run.specs.declared.StagedEvent.{StagedEvent}
 use Rattle.nq_staged_run.specs.Outside.{outside_run}
 use Rattle.nq_world.specs.Answering.{told as answer_of}

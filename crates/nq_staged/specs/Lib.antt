@@ -1,4 +1,5 @@
 pub mod Text
+pub mod TextLaws
 pub mod Playing
 pub mod Going
 pub mod Running

@@ -1,5 +1,6 @@
 -- How the lines of a staged schedule are played, event by event. The events of a run are told with the newest first.
 use Rattle.std.specs.Prelude.{ℕ, ◌+◌, List, [], ◌∷◌, length, Option, Some, None, zero, suc}
+use Rattle.nq_asides.specs.Text.{beside, plain}
 use Rattle.nq_base.specs.declared.Event.{Event}
 use Rattle.nq_commit.specs.Playing.{stepped_outside}
 use Rattle.nq_model.specs.Stepped.{Stepped, done, too_many_events, most_events}
@@ -9,7 +10,7 @@ use Rattle.nq_play.specs.Playing.{beginning}
 use Rattle.nq_script.specs.Heads.{head_lines}
 use Rattle.nq_script.specs.declared.heads.Head.{Head}
 use Rattle.nq_script.specs.declared.lines.Line.{Line}
-use Rattle.nq_staged.specs.Text.{StagedLine, plain, stage}
+use Rattle.nq_staged.specs.Text.{StagedLine}
 use Rattle.nq_staged_run.specs.declared.StagedEvent.{StagedEvent}
 use Rattle.nq_staged_run.specs.Outside.{outside_run}
 
@@ -81,7 +82,7 @@ play_plain head most Line.End earlier = took earlier
 -- a line
 abbrev pub play_line : Beginning → (most : ℕ) → StagedLine → (earlier : List StagedEvent) → Played
 play_line head most (plain line) earlier = play_plain head most line earlier
-play_line head most (stage host) earlier = play_event head (StagedEvent.Stage host) earlier
+play_line head most (beside offer) earlier = play_event head (StagedEvent.Stage offer.host) earlier
 
 -- the events of a staged schedule whose lines were all played, or the line at which an event was not taken, and its answer
 pub data Ended : Type 0 where

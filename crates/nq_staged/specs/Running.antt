@@ -5,6 +5,7 @@ use Rattle.std.specs.Fmt.{decimal}
 use Rattle.std.specs.List.{AllByRecursion}
 use Rattle.std.specs.Prelude.{◌≡◌, ◌⊎◌, ℕ, List, ◌++◌, Option, codes, map, reverse}
 use Rattle.nq_base.specs.declared.SkewBroken.{SkewBroken}
+use Rattle.nq_asides.specs.Text.{IsTellable}
 use Rattle.nq_commit.specs.Playing.{PlaysOutside, StagedOver}
 use Rattle.nq_ending.specs.declared.Ending.{Ending}
 use Rattle.nq_io.specs.Faults.{Rose}
@@ -24,7 +25,7 @@ use Rattle.nq_script.specs.Lines.{once}
 use Rattle.nq_script.specs.Schedule.{SpellsSchedule}
 use Rattle.nq_script.specs.declared.heads.Head.{Head}
 use Rattle.nq_staged.specs.Playing.{Ended, play, ran, stopped}
-use Rattle.nq_staged.specs.Text.{FirstBadStaged, IsTellable, SpellsStaged, StagedLine}
+use Rattle.nq_staged.specs.Text.{FirstBadStaged, SpellsStaged, StagedLine}
 use Rattle.nq_staged_run.specs.declared.StagedEvent.{StagedEvent}
 use Rattle.nq_staged_run.specs.Outer.{Counts, Outside}
 use Rattle.nq_staged_run.specs.Outside.{outside_run}

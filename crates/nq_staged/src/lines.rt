@@ -1,6 +1,7 @@
 //! Lines of a staged schedule, one after another.
 
-ghost use Rattle.std.specs.Prelude.{◌≡◌, ◌≤◌, ◌+◌, ◌^◌, ◌<◌, ℕ, List, [], length, slice_get, Some};
+ghost use Rattle.std.specs.Prelude.{◌≡◌, ◌≤◌, ◌+◌, ◌^◌, ◌<◌, List, [], length, slice_get, Some};
+ghost use Rattle.nq_asides.specs.Text.{HoldsOfAsides, mixed};
 ghost use Rattle.nq_commit.specs.Playing.{PlaysOutside};
 ghost use Rattle.nq_model.specs.World.{Head};
 ghost use Rattle.nq_play.specs.Going.{AreForWorld, IsForWorld, said};
@@ -8,11 +9,13 @@ ghost use Rattle.nq_play.specs.declared.Played.{Played};
 ghost use Rattle.nq_script.specs.declared.lines.Line.{Line};
 ghost use Rattle.nq_staged.specs.Going.{Comes, Goes, IsAt};
 ghost use Rattle.nq_staged.specs.Playing.{play_event, play_line, play_lines, play_plain};
-ghost use Rattle.nq_staged.specs.Text.{AreForHosts, StagedLine, mixed, stage_at};
+ghost use Rattle.nq_staged.specs.Text.{IsOfHost, StagedLine};
 ghost use Rattle.nq_staged_run.specs.declared.StagedEvent.{StagedEvent};
 ghost use Rattle.nq_world.specs.Playing.{CountsFaults, HasSettings};
 
 use crate::events::{deliver, flow, rounds, take, take_times};
+use crate::offer::Offer;
+use nq_asides::{MixedScript, aside_at};
 use nq_base::Host;
 use nq_commit::StagedWorld;
 use nq_keeper::Keeper;
@@ -113,40 +116,29 @@ fn offer<K: Keeper>(world: &mut StagedWorld<K>, delivered: &mut Delivered, host:
     take(world, delivered, &event)
 }
 
-/// The host whose side offers in the line at a place, if one does.
-fn stage_at(stages: &[Option<Host>], place: usize) -> Option<Host>
-    ensures { result ≡ stage_at stages.now place }
-{
-    match stages.get(place) {
-        Some(stage) => *stage,
-        None => None,
-    }
-}
-
 /// Plays the line at a place.
 fn play_at<K: Keeper>(
     world: &mut StagedWorld<K>,
     delivered: &mut Delivered,
     hosts: u32,
     most: u32,
-    lines: &Lines,
-    stages: &[Option<Host>],
+    script: &MixedScript<Offer>,
     place: usize,
 ) -> Stepped
     requires hosts { hosts ≤ length world.old.inner.clients }
-    requires stages { AreForHosts (length world.old.inner.clients) stages.now }
-    requires can { AreForWorld (length world.old.inner.clients) world.old.inner.skew.window lines.now }
-    requires below { place < length lines.now }
-    ensures goes { (line : StagedLine) → slice_get (mixed stages.now lines.now) place ≡ Some line → (head : Head) (events : List StagedEvent) → head.hosts ≡ hosts
-        → IsAt head events world.old (K.content world.old.inner.server.keeper) delivered.old
+    requires asides { HoldsOfAsides (IsOfHost (length world.old.inner.clients)) script.now.asides.items }
+    requires can { AreForWorld (length world.old.inner.clients) world.old.inner.skew.window script.now.script.lines }
+    requires below { place < length script.now.script.lines }
+    ensures goes { (line : StagedLine) → slice_get (mixed script.now.asides.items script.now.script.lines) place ≡ Some line → (head : Head) (events : List StagedEvent)
+        → head.hosts ≡ hosts → IsAt head events world.old (K.content world.old.inner.server.keeper) delivered.old
         → Goes result (play_line head most line events) (λ es. IsAt head es world.new (K.content world.new.inner.server.keeper) delivered.new) }
     ensures faults { CountsFaults result (K.faults world.old.inner.server.keeper) (K.faults world.new.inner.server.keeper) }
     ensures follows { K.follows world.old.inner.server.keeper world.new.inner.server.keeper }
     ensures settings { HasSettings (length world.old.inner.clients) world.old.inner.skew.window world.old.inner.term world.new.inner }
 {
-    match stage_at(stages, place) {
-        Some(host) => offer(world, delivered, host),
-        None => play_plain_at(world, delivered, hosts, most, lines, place),
+    match aside_at(&script.asides, place) {
+        Some(aside) => offer(world, delivered, aside.host),
+        None => play_plain_at(world, delivered, hosts, most, &script.script.lines, place),
     }
 }
 
@@ -161,30 +153,29 @@ fn stopped(first: u32, place: usize, answer: Stepped) -> Played
     }
 }
 
-/// Plays lines over a world of so many hosts, in which nothing was played before. Of each line `stages` has the host whose side
-/// offers, if one does. The first line has this number in its text, and a flow may have so many deliveries.
+/// Plays lines over a world of so many hosts, in which nothing was played before. A flow may have so many deliveries.
 pub(crate) fn play<K: Keeper>(
     alloc: Global,
     world: &mut StagedWorld<K>,
-    hosts: u32,
     most: u32,
-    first: u32,
-    lines: &Lines,
-    stages: &[Option<Host>],
+    script: &MixedScript<Offer>,
 ) -> Played
-    requires hosts { hosts ≤ length world.old.inner.clients }
-    requires stages { AreForHosts (length world.old.inner.clients) stages.now }
-    requires can { AreForWorld (length world.old.inner.clients) world.old.inner.skew.window lines.now }
-    requires few { first + length lines.now < 2 ^ 32 }
-    ensures comes { (head : Head) → head.hosts ≡ hosts → PlaysOutside head [] world.old (K.content world.old.inner.server.keeper)
-        → Comes result (play_lines head most first (mixed stages.now lines.now) []) (λ events. PlaysOutside head events world.new (K.content world.new.inner.server.keeper)) }
+    requires hosts { script.now.script.head.hosts ≤ length world.old.inner.clients }
+    requires asides { HoldsOfAsides (IsOfHost (length world.old.inner.clients)) script.now.asides.items }
+    requires can { AreForWorld (length world.old.inner.clients) world.old.inner.skew.window script.now.script.lines }
+    requires few { script.now.script.first + length script.now.script.lines < 2 ^ 32 }
+    ensures comes { (head : Head) → head.hosts ≡ script.now.script.head.hosts → PlaysOutside head [] world.old (K.content world.old.inner.server.keeper)
+        → Comes result (play_lines head most script.now.script.first (mixed script.now.asides.items script.now.script.lines) [])
+        (λ events. PlaysOutside head events world.new (K.content world.new.inner.server.keeper)) }
     ensures stops { said result ≡ Stepped.Done → result ≡ Played.All }
     ensures faults { CountsFaults (said result) (K.faults world.old.inner.server.keeper) (K.faults world.new.inner.server.keeper) }
     ensures follows { K.follows world.old.inner.server.keeper world.new.inner.server.keeper }
 {
     let mut delivered = Delivered::new(alloc);
-    for place in 0..lines.len() {
-        match play_at(world, &mut delivered, hosts, most, lines, stages, place) {
+    let hosts = script.script.head.hosts;
+    let first = script.script.first;
+    for place in 0..script.script.lines.len() {
+        match play_at(world, &mut delivered, hosts, most, script, place) {
             Stepped::Done => {}
             answer => return stopped(first, place, answer),
         }

@@ -1,16 +1,10 @@
-//! What a staged run prints.
+//! The line of what was counted.
 
-ghost use Rattle.std.specs.Prelude.{◌≡◌, ◌++◌, IfOk, string_bytes};
+ghost use Rattle.std.specs.Prelude.{◌≡◌, IfOk, string_bytes};
 ghost use Rattle.nq_commit.specs.Around.{counts_of};
-ghost use Rattle.nq_journal.specs.Text.{journal_text};
-ghost use Rattle.nq_replay.specs.Schedules.{PrintsBytes};
 ghost use Rattle.nq_staged.specs.Running.{count_line};
 
-use crate::schedules::VERSION;
-use nq_base::{Journal, NoMemory};
-use nq_ending::Ending;
-use nq_io::{Put, Sink};
-use nq_journal::{Printed, print};
+use nq_base::NoMemory;
 use nq_staged_run::StagedCounts;
 use std::alloc::Global;
 
@@ -27,35 +21,5 @@ pub(crate) fn count_text(alloc: Global, counts: StagedCounts) -> Result<String, 
     match format!(in alloc; "staged {staged} commits {commits} unstaged {unstaged}\n") {
         Ok(line) => Ok(line),
         Err(_) => Err(NoMemory::Memory),
-    }
-}
-
-/// Prints a text, a journal in version 2, which has each entry, and another text. How it ends:
-///
-/// - `Done`: all of that was printed.
-/// - `WriteFault`: the sink failed, which it has counted; a front of that is printed.
-/// - `Memory`: memory was wanting; a front of that is printed.
-pub(crate) fn print_parts<K: Sink>(
-    alloc: Global,
-    before: &[u8],
-    journal: &Journal,
-    after: &[u8],
-    out: &mut K,
-) -> Ending
-    ensures { PrintsBytes result (before.now ++ (journal_text 2 journal.now.entries ++ after.now))
-        (K.held out.old) (K.held out.new) (K.faults out.old) (K.faults out.new) }
-{
-    match out.put(before) {
-        Put::All => {}
-        Put::Failed => return Ending::WriteFault,
-    }
-    match print(alloc, journal, VERSION, out) {
-        Printed::All => {}
-        Printed::Failed => return Ending::WriteFault,
-        Printed::Memory => return Ending::Memory,
-    }
-    match out.put(after) {
-        Put::All => Ending::Done,
-        Put::Failed => Ending::WriteFault,
     }
 }

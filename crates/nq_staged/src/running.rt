@@ -2,6 +2,7 @@
 
 ghost use Rattle.std.specs.Prelude.{◌≡◌, ◌⊎◌, ◌<◌, ◌≤◌, ◌^◌, ℕ, List, [], Some, length, IfOk};
 ghost use Rattle.nq_base.specs.declared.SkewBroken.{SkewBroken};
+ghost use Rattle.nq_asides.specs.Text.{IsReadyMixed, mixed};
 ghost use Rattle.nq_commit.specs.Playing.{PlaysOutside};
 ghost use Rattle.nq_ending.specs.declared.Ending.{Ending};
 ghost use Rattle.nq_keeper.specs.StoredKeeper.{empty_kept};
@@ -16,14 +17,14 @@ ghost use Rattle.nq_script.specs.declared.heads.Head.{Head};
 ghost use Rattle.nq_staged.specs.Going.{Comes};
 ghost use Rattle.nq_staged.specs.Playing.{Ended, play};
 ghost use Rattle.nq_staged.specs.Running.{EndsStaged, EndsStagedPlayed, EndsStagedText, FaultyStaged, IsTold, PassesStaged, PrintsRun, RunsStaged, StopsStaged};
-ghost use Rattle.nq_staged.specs.Text.{IsReadyStaged, mixed};
+ghost use Rattle.nq_staged.specs.Text.{IsOfHost};
 ghost use Rattle.nq_staged_run.specs.declared.StagedEvent.{StagedEvent};
 ghost use Rattle.nq_world.specs.Playing.{HasSettings};
 
 use crate::lines::play;
-use crate::printing::{count_text, print_parts};
-use crate::schedules::schedule_text;
-use crate::texts::{StagedScript, read_script};
+use crate::offer::Offer;
+use crate::printing::count_text;
+use nq_asides::{MixedScript, print_parts, read_script, schedule_text};
 use nq_base::NoMemory;
 use nq_commit::StagedWorld;
 use nq_ending::Ending;
@@ -104,9 +105,9 @@ fn run_text<K: Sink>(alloc: Global, text: &[u8], out: &mut K) -> Ending
 }
 
 /// Runs a staged schedule over a keeper in memory, which is told to fail in no call.
-fn run_in_memory<K: Sink>(alloc: Global, script: &StagedScript, out: &mut K) -> Ending
-    requires { IsReadyStaged script.now.script script.now.stages.items }
-    ensures { EndsStagedPlayed result script.now.script.head (play script.now.script.head (mixed script.now.stages.items script.now.script.lines))
+fn run_in_memory<K: Sink>(alloc: Global, script: &MixedScript<Offer>, out: &mut K) -> Ending
+    requires { IsReadyMixed IsOfHost script.now.script script.now.asides.items }
+    ensures { EndsStagedPlayed result script.now.script.head (play script.now.script.head (mixed script.now.asides.items script.now.script.lines))
         (K.held out.old) (K.held out.new) (K.faults out.old) (K.faults out.new) }
 {
     match ListKeeper::new(alloc, Vec::new(alloc)) {
@@ -119,14 +120,14 @@ fn run_in_memory<K: Sink>(alloc: Global, script: &StagedScript, out: &mut K) -> 
 /// stopped.
 fn run_over<L: Keeper + Drop, K: Sink>(
     alloc: Global,
-    script: &StagedScript,
+    script: &MixedScript<Offer>,
     keeper: L,
     out: &mut K,
 ) -> Ending
-    requires ready { IsReadyStaged script.now.script script.now.stages.items }
+    requires ready { IsReadyMixed IsOfHost script.now.script script.now.asides.items }
     requires empty { L.content keeper ≡ Some empty_kept }
     requires never { NeverFails L.faults L.follows keeper }
-    ensures { EndsStagedPlayed result script.now.script.head (play script.now.script.head (mixed script.now.stages.items script.now.script.lines))
+    ensures { EndsStagedPlayed result script.now.script.head (play script.now.script.head (mixed script.now.asides.items script.now.script.lines))
         (K.held out.old) (K.held out.new) (K.faults out.old) (K.faults out.new) }
 {
     let Ok(mut world) = begin_staged(alloc, &script.script.head, keeper) else {
@@ -165,26 +166,20 @@ fn begin_staged<L: Keeper + Drop>(
 
 /// Plays a staged schedule over a world in which nothing was played before. A flow may have one delivery more than there may be
 /// events.
-fn play_over<L: Keeper>(alloc: Global, world: &mut StagedWorld<L>, script: &StagedScript) -> Played
-    requires ready { IsReadyStaged script.now.script script.now.stages.items }
+fn play_over<L: Keeper>(
+    alloc: Global,
+    world: &mut StagedWorld<L>,
+    script: &MixedScript<Offer>,
+) -> Played
+    requires ready { IsReadyMixed IsOfHost script.now.script script.now.asides.items }
     requires settings { HasSettings script.now.script.head.hosts script.now.script.head.longest script.now.script.head.term world.old.inner }
     requires never { NeverFails L.faults L.follows world.old.inner.server.keeper }
     ensures comes { PlaysOutside (beginning script.now.script.head) [] world.old (L.content world.old.inner.server.keeper)
-        → Comes result (play script.now.script.head (mixed script.now.stages.items script.now.script.lines))
+        → Comes result (play script.now.script.head (mixed script.now.asides.items script.now.script.lines))
         (λ events. PlaysOutside (beginning script.now.script.head) events world.new (L.content world.new.inner.server.keeper)) }
     ensures reason { HasReason result }
 {
-    let most = MOST_EVENTS + 1;
-    let StagedScript { script, stages } = script;
-    play(
-        alloc,
-        world,
-        script.head.hosts,
-        most,
-        script.first,
-        &script.lines,
-        stages,
-    )
+    play(alloc, world, MOST_EVENTS + 1, script)
 }
 
 /// Prints what a world made whose staged schedule was played to its end, or tells where it stopped.

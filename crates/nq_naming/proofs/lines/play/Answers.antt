@@ -1,6 +1,7 @@
 use Rattle.std.proofs.Common.{◌≡◌, ◌+◌, ◌<◌, ◌≤◌, ◌∙◌, length, refl, sym, ap, subst, arith}
-use Rattle.nq_naming.proofs.Mixing.{mixed-length}
-use Rattle.nq_name_script.specs.Text.{AreForHosts, mixed}
+use Rattle.nq_asides.proofs.Mixing.{mixed-length}
+use Rattle.nq_asides.specs.Text.{HoldsOfAsides, mixed}
+use Rattle.nq_name_script.specs.Text.{IsOfHost}
 use Rattle.nq_naming.proofs.Onward.{comes-here, is-there, line-on, lines-end, lines-step, ran-here, stops-line}
 use Rattle.nq_naming.proofs.Moments.{at-end}
 use Rattle.nq_naming.proofs.Steps.{faults-on, settings-on}
@@ -25,7 +26,7 @@ loop-place-init g c = record {
 
 pub play_at-requires-clause-asides : goal.play_at-requires-clause-asides
 play_at-requires-clause-asides g c =
-    subst (λ n. AreForHosts n c.args.script.now.asides.items) (sym c.loop-place.invariant.settings.hosts_are) c.requires.asides
+    subst (λ n. HoldsOfAsides (IsOfHost n) c.args.script.now.asides.items) (sym c.loop-place.invariant.settings.hosts_are) c.requires.asides
 
 pub play_at-requires-clause-can : goal.play_at-requires-clause-can
 play_at-requires-clause-can g c =

@@ -1,6 +1,6 @@
 use Rattle.std.proofs.Common.{◌≡◌, ◌+◌, [], drop, length}
 use Rattle.nq_model.specs.World.{Head}
-use Rattle.nq_name_script.specs.Text.{mixed}
+use Rattle.nq_asides.specs.Text.{mixed}
 use Rattle.nq_names.specs.Playing.{PlaysOutside}
 use Rattle.nq_naming.proofs.Onward.{IsOn}
 use Rattle.nq_naming.specs.Going.{IsAtMoment}

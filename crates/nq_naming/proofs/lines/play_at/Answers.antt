@@ -1,22 +1,23 @@
 use Rattle.std.proofs.Common.{◌∙◌, ap, length, sym}
-use Rattle.nq_naming.proofs.Mixing.{aside-here, line-lists, line-plain, line-there}
+use Rattle.nq_asides.proofs.Mixing.{aside-holds, line-beside, line-plain, line-there}
+use Rattle.nq_asides.specs.Text.{aside_at}
+use Rattle.nq_name_script.specs.Text.{IsOfHost}
 use Rattle.nq_naming.proofs.Moments.{plain-moment}
 use Rattle.nq_naming.proofs.Onward.{goes-same}
 use Rattle.nq_naming.specs.Playing.{play_line}
-use Rattle.nq_name_script.specs.Text.{aside_at}
 use Rattle.nq_naming.proofs.lines.play_at.Goals as goal
 
 pub play_aside-requires : goal.play_aside-requires
 play_aside-requires g c =
     let s = c.args.script.now in
-    aside-here (length c.args.world.now.inner.clients) s.asides.items c.args.place c.in-Some.aside c.requires.asides (sym (c.aside_at.ensures ∙ ap (λ l. aside_at l c.args.place) c.deref.ensures.value) ∙ c.in-Some.is)
+    aside-holds (IsOfHost (length c.args.world.now.inner.clients)) s.asides.items c.args.place c.in-Some.aside c.requires.asides (sym (c.aside_at.ensures ∙ ap (λ l. aside_at l c.args.place) c.deref.ensures.value) ∙ c.in-Some.is)
 
 pub returns-in-Some-clause-goes : goal.returns-in-Some-clause-goes
 returns-in-Some-clause-goes g c = λ line here head m hosts at.
     let s = c.args.script.now in
     let there = line-there s.script.lines c.args.place c.requires.below in
     goes-same c.play_aside.result _ _ _
-    (ap (λ l. play_line head c.args.most l m) (line-lists s.asides.items s.script.lines c.args.place c.in-Some.aside there.0 line there.1 (sym (c.aside_at.ensures ∙ ap (λ l. aside_at l c.args.place) c.deref.ensures.value) ∙ c.in-Some.is) here))
+    (ap (λ l. play_line head c.args.most l m) (line-beside s.asides.items s.script.lines c.args.place c.in-Some.aside there.0 line there.1 (sym (c.aside_at.ensures ∙ ap (λ l. aside_at l c.args.place) c.deref.ensures.value) ∙ c.in-Some.is) here))
     (c.play_aside.ensures.goes head c.args.most m at)
 
 pub returns-in-None-clause-goes : goal.returns-in-None-clause-goes

@@ -2,17 +2,18 @@ use Rattle.std.proofs.Common.{arith, refl, subst, sym}
 use Rattle.nq_play.specs.Playing.{beginning}
 use Rattle.nq_replay.proofs.Heads.{are_for_world, few_lines}
 use Rattle.nq_replay.proofs.Never.{reasoned}
-use Rattle.nq_naming.proofs.Readied.{is-ready}
+use Rattle.nq_asides.proofs.Readied.{is-ready}
+use Rattle.nq_asides.specs.Text.{HoldsOfAsides}
 use Rattle.nq_naming.specs.Playing.{play}
-use Rattle.nq_name_script.specs.Text.{AreForHosts}
+use Rattle.nq_name_script.specs.Text.{IsOfHost}
 use Rattle.nq_naming.proofs.running.play_over.Goals as goal
 
 pub play-requires : goal.play-requires
 play-requires g c =
-    let ready = is-ready c.args.script.now.script c.args.script.now.asides.items c.requires.ready in
+    let ready = is-ready IsOfHost c.args.script.now.script c.args.script.now.asides.items c.requires.ready in
     record {
       hosts = let same = c.requires.settings.hosts_are in omega arith;
-      asides = subst (λ n. AreForHosts n c.args.script.now.asides.items) (sym c.requires.settings.hosts_are) c.requires.ready.asides_are;
+      asides = subst (λ n. HoldsOfAsides (IsOfHost n) c.args.script.now.asides.items) (sym c.requires.settings.hosts_are) c.requires.ready.asides_are;
       can = are_for_world c.args.script.now.script c.args.world.now.inner ready c.requires.settings;
       few = few_lines c.args.script.now.script ready;
       none = c.requires.none;

@@ -1,6 +1,4 @@
 use Rattle.std.proofs.Common.{◌+◌, ◌-◌, ◌∙◌}
-use Rattle.nq_base.specs.declared.Event.{Event}
-use Rattle.nq_staged_run.specs.declared.StagedEvent.{StagedEvent}
 use Rattle.nq_staged.proofs.Onward.{goes-on, repeat-step, stops-here}
 use Rattle.nq_staged.proofs.Steps.{faults-on, settings-on}
 use Rattle.nq_staged.specs.Playing.{play_round, repeated}

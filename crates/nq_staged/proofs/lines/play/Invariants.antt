@@ -1,19 +1,19 @@
-use Rattle.std.proofs.Common.{◌≡◌, ◌+◌, List, [], drop, length}
-use Rattle.nq_base.specs.declared.Event.{Event}
-use Rattle.nq_staged_run.specs.declared.StagedEvent.{StagedEvent}
+use Rattle.std.proofs.Common.{◌≡◌, ◌+◌, [], drop, length}
+use Rattle.nq_asides.specs.Text.{mixed}
+use Rattle.nq_commit.specs.Playing.{PlaysOutside}
 use Rattle.nq_model.specs.World.{Head}
 use Rattle.nq_staged.proofs.Onward.{IsOn}
 use Rattle.nq_staged.specs.Going.{IsAt}
 use Rattle.nq_staged.specs.Playing.{play_lines}
-use Rattle.nq_staged.specs.Text.{mixed}
-use Rattle.nq_commit.specs.Playing.{PlaysOutside}
 use Rattle.nq_world.specs.Playing.{HasSettings}
 use Rattle.nq_staged.proofs.lines.play.Given as goal
 
 abbrev pub invariant-loop-place : goal.invariant-loop-place
 invariant-loop-place g l = record {
-  on : (head : Head) → head.hosts ≡ l.hosts → PlaysOutside head [] l.fn.world (g.K.Keeper.content l.fn.world.inner.server.keeper)
-      → IsOn (λ es. IsAt head es l.world (g.K.Keeper.content l.world.inner.server.keeper) l.delivered) (play_lines head l.most (l.first + l.place) (drop l.place (mixed l.stages l.lines))) (play_lines head l.most l.first (mixed l.stages l.lines) []);
+  on : (head : Head) → head.hosts ≡ l.script.script.head.hosts → PlaysOutside head [] l.fn.world (g.K.Keeper.content l.fn.world.inner.server.keeper)
+      → IsOn (λ es. IsAt head es l.world (g.K.Keeper.content l.world.inner.server.keeper) l.delivered)
+      (play_lines head l.most (l.script.script.first + l.place) (drop l.place (mixed l.script.asides.items l.script.script.lines)))
+      (play_lines head l.most l.script.script.first (mixed l.script.asides.items l.script.script.lines) []);
   faults : g.K.Keeper.faults l.world.inner.server.keeper ≡ g.K.Keeper.faults l.fn.world.inner.server.keeper;
   follows : g.K.Keeper.follows l.fn.world.inner.server.keeper l.world.inner.server.keeper;
   settings : HasSettings (length l.fn.world.inner.clients) l.fn.world.inner.skew.window l.fn.world.inner.term l.world.inner;

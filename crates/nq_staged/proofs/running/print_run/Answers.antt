@@ -1,13 +1,13 @@
-use Rattle.std.proofs.Common.{◌≡◌, ◌∙◌, List, ℕ, inl, map, subst, sym}
+use Rattle.std.proofs.Common.{◌≡◌, ◌∙◌, inl, map, subst, sym}
 use Rattle.std.specs.List.{AllByRecursion}
 use Rattle.nq_commit.specs.Around.{counts_of}
 use Rattle.nq_play.specs.Playing.{beginning}
 use Rattle.nq_script.specs.Lines.{once}
 use Rattle.nq_script.specs.Schedule.{SpellsSchedule}
-use Rattle.nq_staged.proofs.Keeping.{all-reverse}
 use Rattle.nq_staged.proofs.Printed.{is-printed}
 use Rattle.nq_staged.specs.Running.{count_line}
-use Rattle.nq_staged.specs.Text.{IsTellable}
+use Rattle.nq_asides.proofs.Reversing.{all-reverse}
+use Rattle.nq_asides.specs.Text.{IsTellable}
 use Rattle.nq_staged.proofs.running.print_run.Goals as goal
 
 pub schedule_text-requires-clause-told : goal.schedule_text-requires-clause-told
