@@ -1,5 +1,5 @@
 -- Whole files in blocks.
-use Rattle.std.specs.Prelude.{ℕ, ◌+◌, ◌-◌, ◌*◌, ◌/◌, ◌==◌, ◌&&◌, List, ◌++◌, Option, Some, None, zero, suc, length, take, drop, replicate, nat_le, if◌then◌else◌}
+use Rattle.std.specs.Prelude.{ℕ, ◌+◌, ◌-◌, ◌*◌, ◌/◌, ◌==◌, ◌&&◌, List, [], ◌++◌, Option, Some, None, zero, suc, length, take, drop, replicate, nat_le, if◌then◌else◌}
 
 -- the most bytes of a file: those of 1024 blocks but the first
 abbrev pub most_bytes : ℕ
@@ -19,3 +19,8 @@ length_in (suc length) blocks = if nat_le length most_bytes && (blocks_for lengt
 unfoldable pub piece_of : (place : ℕ) → List ℕ → List ℕ
 piece_of place bytes =
     take 4096 (drop (4096 * place) bytes) ++ replicate (4096 - length (take 4096 (drop (4096 * place) bytes))) 0
+
+-- the first pieces of a file, one behind the other
+abbrev pub joined_pieces : (count : ℕ) → List ℕ → List ℕ
+joined_pieces zero bytes = []
+joined_pieces (suc count) bytes = joined_pieces count bytes ++ piece_of count bytes

@@ -1,12 +1,14 @@
 //! Whole files in blocks. The first block of a file tells how many bytes the file has, and the others have these bytes, the last
 //! of them filled up with zeros.
 
-ghost use Rattle.std.specs.Prelude.{◌≡◌, ◌+◌, ◌-◌, ◌^◌, ◌*◌, ◌++◌, ◌<◌, ◌≤◌, length, take, replicate, IfOk, OnOk};
+ghost use Rattle.std.specs.Prelude.{◌≡◌, ◌+◌, ◌-◌, ◌^◌, ◌*◌, ◌++◌, ◌<◌, ◌≤◌, ℕ, List, Some, length, take, replicate, vec_len, vec_capacity, IsOk, IfOk, OnOk, OnErr};
 ghost use Rattle.nq_base.specs.Block.{filled, word};
-ghost use Rattle.nq_prompt.specs.Pieces.{blocks_for, length_in, most_bytes, piece_of};
+ghost use Rattle.nq_base.specs.Seen.{seen_bytes};
+ghost use Rattle.nq_prompt.specs.Pieces.{blocks_for, joined_pieces, length_in, most_bytes, piece_of};
 
 use nq_base::{Block, NoMemory, Seen};
 use nq_words::push_bytes;
+use nq_xdr::push_words;
 use std::alloc::Global;
 
 /// The most bytes of a file: those of 1024 blocks but the first.
@@ -23,8 +25,16 @@ pub fn blocks_for(length: usize) -> u32
 
 /// How many bytes a file has whose first block has this value, and that has so many blocks; None where it was not put as a whole file,
 /// or not to its end.
-#[tactic(auto, unfolding(crate::specs::Pieces::length_in, crate::specs::Pieces::blocks_for, crate::specs::Pieces::most_bytes))]
 pub fn length_in(value: u32, blocks: u32) -> Option<usize>
+    ensures step { result ≡ length_in value blocks }
+    ensures told { (size : ℕ) → size ≤ most_bytes → value ≡ 1 + size → blocks ≡ blocks_for size → result ≡ Some size }
+{
+    length_told(value, blocks)
+}
+
+/// How many bytes a first block with this value tells, where there are the blocks for so many.
+#[tactic(auto, unfolding(crate::specs::Pieces::length_in, crate::specs::Pieces::blocks_for, crate::specs::Pieces::most_bytes))]
+fn length_told(value: u32, blocks: u32) -> Option<usize>
     ensures { result ≡ length_in value blocks }
 {
     let length = value.checked_sub(1)? as usize;
@@ -82,24 +92,38 @@ fn push_zeros(bytes: &mut Vec<u8>, count: usize) -> Result<(), NoMemory>
 }
 
 /// Appends the bytes of a block.
+///
+/// # Errors
+///
+/// Only want of memory, and then `out` is as before. Where it has room for a block none is wanted.
 pub fn push_body(out: &mut Vec<u8>, body: &Block) -> Result<(), NoMemory>
-    ensures { OnOk result (out.new.items ≡ out.old.items ++ body.now) }
+    ensures pushed { OnOk result (out.new.items ≡ out.old.items ++ body.now) }
+    ensures refused { OnErr result (out.new.items ≡ out.old.items) }
+    ensures succeeds { vec_len out.old + 4096 ≤ vec_capacity out.old → IsOk result }
 {
-    match body.seen() {
-        Seen::Bytes(bytes) => push_bytes(out, bytes),
+    out.reserve(Block::SIZE)?;
+    push_seen(out, body.seen());
+    Ok(())
+}
+
+/// Appends what a block holds. There is room for it.
+fn push_seen(out: &mut Vec<u8>, seen: Seen<'_>)
+    requires size { length (seen_bytes seen) ≡ 4096 }
+    requires room { vec_len out.old + 4096 ≤ vec_capacity out.old }
+    ensures { out.new.items ≡ out.old.items ++ seen_bytes seen }
+{
+    match seen {
+        Seen::Bytes(bytes) => out.extend_from_slice(bytes).unwrap(),
         Seen::Filled(value) => push_filled(out, value),
     }
 }
 
-/// Appends a word of four bytes, 1024 times.
-fn push_filled(out: &mut Vec<u8>, value: u32) -> Result<(), NoMemory>
-    ensures { OnOk result (out.new.items ≡ out.old.items ++ filled value) }
+/// Appends a word of four bytes, 1024 times. There is room for it.
+fn push_filled(out: &mut Vec<u8>, value: u32)
+    requires { vec_len out.old + 4096 ≤ vec_capacity out.old }
+    ensures { out.new.items ≡ out.old.items ++ filled value }
 {
-    let word = word_of(value);
-    for _round in 0..1024u32 {
-        push_bytes(out, &word)?;
-    }
-    Ok(())
+    push_words(out, word_of(value), Block::SIZE / 4);
 }
 
 /// The four bytes of a number, the highest first.
@@ -112,4 +136,12 @@ fn word_of(value: u32) -> [u8; 4]
         (value / 0x0100 % 0x0100) as u8,
         (value % 0x0100) as u8,
     ]
+}
+
+/// Cuts the pieces of a file, which stand one behind the other, to as many bytes as the file has.
+pub fn cut_to(bytes: &mut Vec<u8>, size: usize)
+    ensures cut { bytes.new.items ≡ take size bytes.old.items }
+    ensures whole { (count : ℕ) (file : List ℕ) → length file ≡ size → size ≤ 4096 * count → bytes.old.items ≡ joined_pieces count file → bytes.new.items ≡ file }
+{
+    bytes.truncate(size);
 }
