@@ -5,7 +5,7 @@ ghost use Rattle.std.specs.Prelude.{◌<◌};
 use crate::desk::UserDesk;
 use nq_base::{Answer, Block, BlockNo, Call, FileId, Name, NoMemory, Value};
 use nq_ending::Halt;
-use nq_prompt::{MOST_BYTES, blocks_for, length_in, piece, push_body};
+use nq_prompt::{MOST_BYTES, blocks_for, cut_to, length_in, piece, push_body};
 use std::alloc::{AllocError, Global};
 
 /// Why a file was not put or not got.
@@ -112,7 +112,7 @@ pub(crate) fn get_file(
         let body = fetch(alloc, desk, file, block)?;
         push_body(&mut bytes, &body)?;
     }
-    bytes.truncate(length);
+    cut_to(&mut bytes, length);
     Ok(bytes)
 }
 
