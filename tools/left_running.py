@@ -26,7 +26,7 @@ PORT = 20560
 # The longest lease in seconds; a recovery takes 8 more.
 LONGEST = "5"
 # More requests than are answered before the server is killed.
-ENDLESS = "1000000000"
+ENDLESS = "100000000"
 # A port of nobody, and that of the last host.
 STRANGERS_PORT, LAST_HOSTS_PORT = 31000, PORT + 64
 
