@@ -8,5 +8,5 @@ mod starts;
 
 pub use answers::answer_text;
 pub use lines::{Line, line_of};
-pub use pieces::{MOST_BYTES, blocks_for, cut_to, length_in, piece, push_body};
+pub use pieces::{MOST_BYTES, blocks_for, cut_to, first_block, length_in, piece, push_body};
 pub use starts::{FIRST_START, next_start, start_text};

@@ -1,13 +1,13 @@
-//! Whole files in blocks. The first block of a file tells how many bytes the file has, and the others have these bytes, the last
-//! of them filled up with zeros.
+//! Whole files in blocks. The first block of a file has a number, one more than how many bytes the file has, and a mark behind it. The others
+//! have these bytes, the last of them filled up with zeros.
 
-ghost use Rattle.std.specs.Prelude.{◌≡◌, ◌+◌, ◌-◌, ◌^◌, ◌*◌, ◌++◌, ◌<◌, ◌≤◌, ℕ, List, Some, length, take, replicate, vec_len, vec_capacity, IsOk, IfOk, OnOk, OnErr};
+ghost use Rattle.std.specs.Prelude.{◌≡◌, ◌+◌, ◌-◌, ◌^◌, ◌*◌, ◌++◌, ◌<◌, ◌≤◌, ℕ, List, Some, None, length, take, drop, replicate, codes, bytes_eq, vec_len, vec_capacity, IsOk, IfOk, OnOk, OnErr};
 ghost use Rattle.nq_base.specs.Block.{filled, word};
 ghost use Rattle.nq_base.specs.Seen.{seen_bytes};
-ghost use Rattle.nq_prompt.specs.Pieces.{blocks_for, joined_pieces, length_in, most_bytes, piece_of};
+ghost use Rattle.nq_prompt.specs.Pieces.{blocks_for, first_of, head_of, joined_pieces, length_in, length_told, most_bytes, piece_of};
 
 use nq_base::{Block, NoMemory, Seen};
-use nq_words::push_bytes;
+use nq_words::{is, push_bytes};
 use nq_xdr::push_words;
 use std::alloc::Global;
 
@@ -23,23 +23,76 @@ pub fn blocks_for(length: usize) -> u32
     1 + length.div_ceil(Block::SIZE) as u32
 }
 
-/// How many bytes a file has whose first block has this value, and that has so many blocks; None where it was not put as a whole file,
-/// or not to its end.
-pub fn length_in(value: u32, blocks: u32) -> Option<usize>
-    ensures step { result ≡ length_in value blocks }
-    ensures told { (size : ℕ) → size ≤ most_bytes → value ≡ 1 + size → blocks ≡ blocks_for size → result ≡ Some size }
+/// The first block of a file of so many bytes that is put to its end.
+///
+/// # Errors
+///
+/// Only want of memory.
+pub fn first_block(alloc: Global, size: usize) -> Result<Block, NoMemory>
+    requires { size ≤ most_bytes }
+    ensures { IfOk result (λ block. block ≡ first_of size) }
 {
-    length_told(value, blocks)
+    piece(alloc, &head_of(size), 0)
 }
 
-/// How many bytes a first block with this value tells, where there are the blocks for so many.
-#[tactic(auto, unfolding(crate::specs::Pieces::length_in, crate::specs::Pieces::blocks_for, crate::specs::Pieces::most_bytes))]
-fn length_told(value: u32, blocks: u32) -> Option<usize>
-    ensures { result ≡ length_in value blocks }
+/// The first bytes of a file of so many bytes that is put to its end.
+fn head_of(size: usize) -> [u8; 8]
+    requires { size ≤ most_bytes }
+    ensures { result ≡ head_of size }
 {
-    let length = value.checked_sub(1)? as usize;
-    if length <= MOST_BYTES && blocks_for(length) == blocks {
-        Some(length)
+    let value = 1 + size as u32;
+    [
+        (value / 0x0100_0000) as u8,
+        (value / 0x0001_0000 % 0x0100) as u8,
+        (value / 0x0100 % 0x0100) as u8,
+        (value % 0x0100) as u8,
+        b'f',
+        b'i',
+        b'l',
+        b'e',
+    ]
+}
+
+/// How many bytes a file has with this first block, and so many blocks; None where it was not put as a whole file, or not to its end. No
+/// block that repeats a number is taken for the first one of a whole file.
+pub fn length_in(first: &Block, blocks: u32) -> Option<usize>
+    ensures step { result ≡ length_in first.now blocks }
+    ensures told { (size : ℕ) → size ≤ most_bytes → first.now ≡ first_of size → blocks ≡ blocks_for size → result ≡ Some size }
+    ensures other { (v : ℕ) → first.now ≡ filled v → result ≡ None }
+{
+    length_read(first, blocks)
+}
+
+/// How many bytes a first block tells.
+#[tactic(auto, unfolding(crate::specs::Pieces::length_in))]
+fn length_read(first: &Block, blocks: u32) -> Option<usize>
+    ensures { result ≡ length_in first.now blocks }
+{
+    if is_marked(first) {
+        length_told(first.value(), blocks)
+    } else {
+        None
+    }
+}
+
+/// Whether the mark of a whole file stands in a block.
+fn is_marked(first: &Block) -> bool
+    ensures { result ≡ bytes_eq (take 4 (drop 4 first.now)) (codes "file") }
+{
+    match first.seen() {
+        Seen::Bytes(bytes) => is(&bytes[4..8], b"file"),
+        Seen::Filled(value) => is(&word_of(value), b"file"),
+    }
+}
+
+/// The length that a number tells, where there are the blocks for it.
+#[tactic(auto, unfolding(crate::specs::Pieces::length_told, crate::specs::Pieces::blocks_for, crate::specs::Pieces::most_bytes))]
+fn length_told(value: u32, blocks: u32) -> Option<usize>
+    ensures { result ≡ length_told value blocks }
+{
+    let size = value.checked_sub(1)? as usize;
+    if size <= MOST_BYTES && blocks_for(size) == blocks {
+        Some(size)
     } else {
         None
     }
@@ -141,7 +194,8 @@ fn word_of(value: u32) -> [u8; 4]
 /// Cuts the pieces of a file, which stand one behind the other, to as many bytes as the file has.
 pub fn cut_to(bytes: &mut Vec<u8>, size: usize)
     ensures cut { bytes.new.items ≡ take size bytes.old.items }
-    ensures whole { (count : ℕ) (file : List ℕ) → length file ≡ size → size ≤ 4096 * count → bytes.old.items ≡ joined_pieces count file → bytes.new.items ≡ file }
+    ensures whole { (count : ℕ) (file : List ℕ) → length file ≡ size → size ≤ 4096 * count → bytes.old.items ≡ joined_pieces count file
+        → bytes.new.items ≡ file }
 {
     bytes.truncate(size);
 }
