@@ -80,9 +80,24 @@ fn is_marked(first: &Block) -> bool
     ensures { result ≡ bytes_eq (take 4 (drop 4 first.now)) (codes "file") }
 {
     match first.seen() {
-        Seen::Bytes(bytes) => is(&bytes[4..8], b"file"),
-        Seen::Filled(value) => is(&word_of(value), b"file"),
+        Seen::Bytes(bytes) => has_mark(bytes),
+        Seen::Filled(value) => fills_mark(value),
     }
+}
+
+/// Whether the mark of a whole file stands behind the first word of these bytes.
+fn has_mark(bytes: &[u8]) -> bool
+    requires { length bytes.now ≡ 4096 }
+    ensures { result ≡ bytes_eq (take 4 (drop 4 bytes.now)) (codes "file") }
+{
+    is(&bytes[4..8], b"file")
+}
+
+/// Whether a block that repeats this number has the mark of a whole file.
+fn fills_mark(value: u32) -> bool
+    ensures { result ≡ bytes_eq (take 4 (drop 4 (filled value))) (codes "file") }
+{
+    is(&word_of(value), b"file")
 }
 
 /// The length that a number tells, where there are the blocks for it.
