@@ -178,7 +178,7 @@ pub fn push_body(out: &mut Vec<u8>, body: &Block) -> Result<(), NoMemory>
 fn push_seen(out: &mut Vec<u8>, seen: Seen<'_>)
     requires size { length (seen_bytes seen) ≡ 4096 }
     requires room { vec_len out.old + 4096 ≤ vec_capacity out.old }
-    ensures { out.new.items ≡ out.old.items ++ seen_bytes seen }
+    ensures { out.new.items ≡ out.old.items ++ seen_bytes seen.entry }
 {
     match seen {
         Seen::Bytes(bytes) => out.extend_from_slice(bytes).unwrap(),

@@ -1,4 +1,4 @@
-use Rattle.nq_prompt.proofs.Pieces.{cut-pieces}
+use Rattle.nq_prompt.proofs.Joining.{cut-pieces}
 use Rattle.nq_prompt.proofs.pieces.cut_to.Goals as goal
 
 pub returns-clause-whole : goal.returns-clause-whole

@@ -1,6 +1,6 @@
 use Rattle.std.proofs.Common.{◌∙◌, codes, sym, ap}
 use Rattle.std.specs.Prelude.{bytes_eq}
-use Rattle.nq_prompt.proofs.Pieces.{second-word}
+use Rattle.nq_prompt.proofs.Joining.{second-word}
 use Rattle.nq_prompt.proofs.pieces.fills_mark.Goals as goal
 
 pub returns : goal.returns

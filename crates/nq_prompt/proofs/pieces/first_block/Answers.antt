@@ -1,4 +1,4 @@
-use Rattle.nq_prompt.proofs.Pieces.{first-piece}
+use Rattle.nq_prompt.proofs.Joining.{first-piece}
 use Rattle.nq_prompt.proofs.pieces.first_block.Goals as goal
 
 pub returns : goal.returns

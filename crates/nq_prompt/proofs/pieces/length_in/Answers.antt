@@ -1,5 +1,5 @@
 use Rattle.std.proofs.Common.{◌∙◌}
-use Rattle.nq_prompt.proofs.Pieces.{none-in, told}
+use Rattle.nq_prompt.proofs.Joining.{none-in, told}
 use Rattle.nq_prompt.proofs.pieces.length_in.Goals as goal
 
 pub returns-clause-told : goal.returns-clause-told

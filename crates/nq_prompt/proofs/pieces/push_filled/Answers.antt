@@ -1,5 +1,5 @@
 use Rattle.std.proofs.Common.{◌++◌, ◌∙◌, ap}
-use Rattle.nq_prompt.proofs.Pieces.{filled-words}
+use Rattle.nq_prompt.proofs.Joining.{filled-words}
 use Rattle.nq_prompt.proofs.pieces.push_filled.Goals as goal
 use Rattle.nq_xdr.specs.Words.{repeats}
 

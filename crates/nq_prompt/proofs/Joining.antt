@@ -32,8 +32,14 @@ filled-none : (k : ℕ) → filled-to k [] ≡ replicate k 0
 filled-none k =
     ap (λ (t : List ℕ). t ++ replicate (k - length t) 0) (take_all k [] (omega arith)) ∙ ap (λ (n : ℕ). replicate n 0) (none-less k)
 
+none-more : (k : ℕ) → k ≡ 0 + k
+none-more k = omega arith
+
+one-more : (m k : ℕ) → suc (m + k) ≡ suc m + k
+one-more m k = omega arith
+
 filled-further : (m k : ℕ) (bytes : List ℕ) → filled-to m bytes ++ filled-to k (drop m bytes) ≡ filled-to (m + k) bytes
-filled-further zero k bytes = refl
+filled-further zero k bytes = ap (λ (n : ℕ). filled-to n bytes) (none-more k)
 filled-further (suc m) k [] =
     ap (λ (b : List ℕ). b ++ filled-to k []) (filled-none (suc m))
     ∙ ap (λ (b : List ℕ). replicate (suc m) 0 ++ b) (filled-none k)
@@ -43,6 +49,7 @@ filled-further (suc m) k (byte ∷ bytes) =
     ap (λ (n : ℕ). byte ∷ ((take m bytes ++ replicate n 0) ++ filled-to k (drop m bytes))) (one-less m (length (take m bytes)))
     ∙ ap (λ (b : List ℕ). byte ∷ b) (filled-further m k bytes)
     ∙ ap (λ (n : ℕ). byte ∷ (take (m + k) bytes ++ replicate n 0)) (sym (one-less (m + k) (length (take (m + k) bytes))))
+    ∙ ap (λ (n : ℕ). filled-to n (byte ∷ bytes)) (one-more m k)
 
 once-more : (count : ℕ) → 4096 * count + 4096 ≡ 4096 * suc count
 once-more count = omega arith
