@@ -1,17 +1,20 @@
 #!/usr/bin/env python3
-"""Times clients against `nqnfs serve` over the loopback interface, beside a bare echo.
+"""Times clients against a server over the loopback interface, beside a bare echo.
 
-  bench/loopback.py [--program FILE] [--requests N]
+  bench/loopback.py [--program FILE | --daemon FILE] [--requests N] [--rounds N] [--pin]
 
-The clients and the echo are bench/loopback.c, which `cc` compiles. Each client asks one request after another, each when the reply to the
-last one is there. For LOOKUP, READ without a wish and WRITE that goes through it prints requests per second, and the median and the 99th
-percentile of the round trip. READ is tried with 1, 8 and 64 clients, each time beside an echo that answers each datagram by the 4136 bytes
-that a reply to READ has. Then it leaves the server alone for two seconds and prints how much of a processor that took.
+The server is `nqnfs serve`, or with --daemon `nqnfsd`. The clients and the echo are bench/loopback.c, which `cc` compiles. Each client asks
+one request after another, each when the reply to the last one is there. For LOOKUP, READ without a wish and WRITE that goes through it prints
+requests per second, and the median and the 99th percentile of the round trip: of each the median of all rounds. READ is tried with 1, 8 and 64
+clients, in each round behind an echo that answers each datagram by the 4136 bytes that a reply to READ has. Beside WRITE stand four bare
+writes of 4096 bytes to a file in the same folder, each with its sync. With --pin the server, or the echo, has one processor for itself, and the
+clients have another. In the end the server is left alone for two seconds, and the share of a processor that it took is printed.
 """
 
 import argparse
 import os
 import pathlib
+import statistics
 import subprocess
 import tempfile
 import time
@@ -21,46 +24,98 @@ PORT = 20560
 ECHO_PORT = 21560
 # Turns of a server, which waits a little in each where nothing comes.
 MOST_TURNS = 1_000_000
+# On which processors a server and the clients run where they are pinned.
+SERVER_PLACE, CLIENT_PLACE = 2, 3
 
 
-def asked(tool, port, clients, requests, kind):
-    """Requests per second, and the median and 99th percentile of the round trip in microseconds."""
-    words = [tool, "ask", str(port), str(clients), str(requests), kind]
-    seconds, median, late = map(float, subprocess.run(words, check=True, capture_output=True, text=True).stdout.split())
-    return requests / seconds, median, late
+class Bench:
+    """What is measured, and where."""
+
+    def __init__(self, given, folder):
+        self.folder = folder
+        self.tool = f"{folder}/loopback"
+        self.program = pathlib.Path(given.daemon or given.program).resolve()
+        self.is_daemon = given.daemon is not None
+        self.requests = given.requests
+        self.rounds = given.rounds
+        self.is_pinned = given.pin
+        subprocess.run(["cc", "-O2", "-o", self.tool, ROOT / "bench/loopback.c"], check=True)
+
+    def placed(self, words, place):
+        """The words that start a program, on one processor where they are pinned."""
+        return ["taskset", "-c", str(place), *map(str, words)] if self.is_pinned else [*map(str, words)]
+
+    def asked(self, port, clients, requests, kind):
+        """Requests per second, and the median and 99th percentile of the round trip in microseconds."""
+        words = self.placed([self.tool, "ask", port, clients, requests, kind], CLIENT_PLACE)
+        said = subprocess.run(words, check=True, capture_output=True, text=True).stdout
+        seconds, median, late = map(float, said.split())
+        return requests / seconds, median, late
+
+    def echoed(self, clients):
+        """What a bare echo takes."""
+        echo = subprocess.Popen(self.placed([self.tool, "echo", ECHO_PORT, self.requests], SERVER_PLACE))
+        try:
+            time.sleep(0.3)
+            return self.asked(ECHO_PORT, clients, self.requests, "echo")
+        finally:
+            echo.kill()
+            echo.wait()
+
+    def started(self):
+        """A server over an empty image."""
+        image = pathlib.Path(self.folder, "nqnfs.img")
+        image.unlink(missing_ok=True)
+        words = [self.program, image]
+        if not self.is_daemon:
+            subprocess.run([self.program, "format"], cwd=self.folder, check=True)
+            words = [self.program, "serve", MOST_TURNS]
+        words = self.placed(words, SERVER_PLACE)
+        server = subprocess.Popen(words, cwd=self.folder, stdout=subprocess.DEVNULL)
+        time.sleep(0.5)
+        return server
+
+    def served(self, clients, requests, kind):
+        """What a server of its own takes."""
+        server = self.started()
+        try:
+            return self.asked(PORT, clients, requests, kind)
+        finally:
+            server.kill()
+            server.wait()
+
+    def idles(self):
+        """The share of a processor that a server takes with nothing to do."""
+        server = self.started()
+        try:
+            before, begun = processor_seconds(server.pid), time.perf_counter()
+            time.sleep(2)
+            return (processor_seconds(server.pid) - before) / (time.perf_counter() - begun)
+        finally:
+            server.kill()
+            server.wait()
+
+    def synced(self, rounds):
+        """How often a second four bare writes can be made, each with its sync."""
+        with open(f"{self.folder}/bare", "wb") as file:
+            begun = time.perf_counter()
+            for _ in range(rounds):
+                for place in range(4):
+                    os.pwrite(file.fileno(), bytes(4096), 4096 * place)
+                    os.fsync(file.fileno())
+            return rounds / (time.perf_counter() - begun)
+
+    def medians(self, *kinds):
+        """The medians of all rounds, in which one kind is measured behind the other."""
+        seen = [[kind() for kind in kinds] for _ in range(self.rounds)]
+        return [tuple(map(statistics.median, zip(*column))) for column in zip(*seen)]
 
 
 def tell(what, figures, echo=None):
     """Prints a line of the table."""
     rate, median, late = figures
     beside = f"{rate / echo[0]:.2f}" if echo else ""
-    print(f"| {what} | {rate:,.0f} | {median:.0f} us | {late:.0f} us | {beside} |")
-
-
-def echoed(tool, clients, requests):
-    """What a bare echo takes."""
-    echo = subprocess.Popen([tool, "echo", str(ECHO_PORT), str(requests)])
-    try:
-        time.sleep(0.3)
-        return asked(tool, ECHO_PORT, clients, requests, "echo")
-    finally:
-        echo.kill()
-        echo.wait()
-
-
-def served(tool, program, folder, clients, requests, kind):
-    """What a server of its own takes, and the share of a processor that it takes afterwards, with nothing to do."""
-    subprocess.run([program, "format"], cwd=folder, check=True)
-    server = subprocess.Popen([program, "serve", str(MOST_TURNS)], cwd=folder, stdout=subprocess.DEVNULL)
-    try:
-        time.sleep(0.5)
-        figures = asked(tool, PORT, clients, requests, kind)
-        before, begun = processor_seconds(server.pid), time.perf_counter()
-        time.sleep(2)
-        return figures, (processor_seconds(server.pid) - before) / (time.perf_counter() - begun)
-    finally:
-        server.kill()
-        server.wait()
+    print(f"| {what} | {rate:,.0f} | {median:.1f} us | {late:.1f} us | {beside} |", flush=True)
 
 
 def processor_seconds(process):
@@ -72,22 +127,29 @@ def processor_seconds(process):
 def main():
     parser = argparse.ArgumentParser(description=__doc__.splitlines()[0])
     parser.add_argument("--program", default=str(ROOT / "crates/nqnfs/out/nqnfs"))
+    parser.add_argument("--daemon")
     parser.add_argument("--requests", type=int, default=100_000)
+    parser.add_argument("--writes", type=int, default=1_000)
+    parser.add_argument("--rounds", type=int, default=5)
+    parser.add_argument("--pin", action="store_true")
     given = parser.parse_args()
-    program = str(pathlib.Path(given.program).resolve())
     with tempfile.TemporaryDirectory() as folder:
-        tool = f"{folder}/loopback"
-        subprocess.run(["cc", "-O2", "-o", tool, ROOT / "bench/loopback.c"], check=True)
+        bench = Bench(given, folder)
         print("| request | a second | median | 99th percentile | beside the echo |")
         print("|---|---|---|---|---|")
-        for kind in "lookup", "write":
-            tell(kind.upper(), served(tool, program, folder, 1, given.requests, kind)[0])
+        tell("LOOKUP", *bench.medians(lambda: bench.served(1, given.requests, "lookup")))
+        bare, write = bench.medians(
+            lambda: (bench.synced(given.writes // 5),), lambda: bench.served(1, given.writes, "write")
+        )
+        print(f"| four bare writes, each with its sync | {bare[0]:,.0f} | | | |", flush=True)
+        tell("WRITE", write)
         for clients in 1, 8, 64:
-            echo = echoed(tool, clients, given.requests)
-            figures, idle = served(tool, program, folder, clients, given.requests, "read")
+            echo, read = bench.medians(
+                lambda: bench.echoed(clients), lambda: bench.served(clients, given.requests, "read")
+            )
             tell(f"echo, {clients} clients", echo)
-            tell(f"READ, {clients} clients", figures, echo)
-        print(f"a server that has nothing to do takes {idle:.1%} of a processor")
+            tell(f"READ, {clients} clients", read, echo)
+        print(f"a server that has nothing to do takes {bench.idles():.1%} of a processor")
 
 
 if __name__ == "__main__":

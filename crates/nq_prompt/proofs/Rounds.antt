@@ -1,9 +1,8 @@
 -- One more round of a loop that appends.
-use Rattle.std.proofs.Common.{◌≡◌, ◌<◌, ℕ, zero, suc, List, [], ◌∷◌, ◌++◌, Some, length, take, refl, sym, ap, ◌∙◌, append_assoc, append-nil, arith}
+use Rattle.std.proofs.Common.{◌≡◌, ◌<◌, ℕ, zero, suc, List, [], ◌∷◌, ◌++◌, Some, length, take, refl, sym, ap, ◌∙◌, append_assoc, arith}
 use Rattle.std.specs.List.{flat_map}
 use Rattle.std.specs.Prelude.{slice_get}
 use Rattle.std.proofs.lemmas.List.{flat_map_more}
-use Rattle.nq_base.specs.Block.{filled, repeated, word}
 
 take-more : {A : Type 0} (xs : List A) (k : ℕ) (x : A) → slice_get xs k ≡ Some x → take (suc k) xs ≡ take k xs ++ x ∷ []
 take-more [] k x e = absurd (cc)
@@ -28,16 +27,3 @@ one_more f xs k x old front now new is so_far more =
     ∙ append_assoc old (front ++ flat_map f (take k xs)) (f x)
     ∙ ap (λ b. old ++ b) (flat_map_more f front (take k xs) x)
     ∙ ap (λ t. old ++ (front ++ flat_map f t)) (sym (take-more xs k x is))
-
-repeated-more : (n v : ℕ) → repeated n v ++ word v ≡ repeated (suc n) v
-repeated-more zero v = sym (append-nil (word v))
-repeated-more (suc n) v = append_assoc (word v) (repeated n v) (word v) ∙ ap (λ b. word v ++ b) (repeated-more n v)
-
--- one more word
-pub word_more : (n v : ℕ) (old now new : List ℕ) → now ≡ old ++ repeated n v → new ≡ now ++ word v → new ≡ old ++ repeated (suc n) v
-word_more n v old now new so_far more =
-    more ∙ ap (λ b. b ++ word v) so_far ∙ append_assoc old (repeated n v) (word v) ∙ ap (λ b. old ++ b) (repeated-more n v)
-
-pub all-rounds : (v : ℕ) → repeated 1024 v ≡ filled v
-unfolding filled
-all-rounds v = refl

@@ -1,14 +1,28 @@
 //! Answers in words.
 
 ghost use Rattle.std.specs.Fmt.{decimal};
-ghost use Rattle.std.specs.Prelude.{◌≡◌, ◌<◌, ◌++◌, IfSome, OnOk, length, slice_get};
+ghost use Rattle.std.specs.Prelude.{◌≡◌, ◌<◌, ◌++◌, IfOk, IfSome, OnOk, length, slice_get};
 ghost use Rattle.nq_prompt.specs.Answers.{answer_words, loss_words, lost_words, reason_of, value_words};
 
 use nq_base::{Answer, Losses, NoMemory, Value};
 use nq_words::{push_bytes, push_digits};
+use std::alloc::Global;
 
-/// Appends an answer in words, without an end of line: its first word is that of a journal, and the reason stands behind it.
-pub fn push_answer(out: &mut Vec<u8>, answer: &Answer) -> Result<(), NoMemory>
+/// An answer in words, without an end of line: its first word is that of a journal, and the reason stands behind it.
+///
+/// # Errors
+///
+/// Only want of memory.
+pub fn answer_text(alloc: Global, answer: &Answer) -> Result<Vec<u8>, NoMemory>
+    ensures { IfOk result (λ text. text.items ≡ answer_words answer.now) }
+{
+    let mut text = Vec::new(alloc);
+    push_answer(&mut text, answer)?;
+    Ok(text)
+}
+
+/// Appends an answer in words.
+fn push_answer(out: &mut Vec<u8>, answer: &Answer) -> Result<(), NoMemory>
     ensures { OnOk result (out.new.items ≡ out.old.items ++ answer_words answer.now) }
 {
     match answer {

@@ -6,7 +6,7 @@ mod lines;
 mod pieces;
 mod starts;
 
-pub use answers::push_answer;
+pub use answers::answer_text;
 pub use lines::{Line, line_of};
-pub use pieces::{MOST_BYTES, blocks_for, length_in, piece, push_body};
-pub use starts::{FIRST_START, next_start, push_start};
+pub use pieces::{MOST_BYTES, blocks_for, cut_to, first_block, length_in, piece, push_body};
+pub use starts::{FIRST_START, next_start, start_text};

@@ -1,12 +1,14 @@
-//! Whole files in blocks. The first block of a file tells how many bytes the file has, and the others have these bytes, the last
-//! of them filled up with zeros.
+//! Whole files in blocks. The first block of a file has a number, one more than how many bytes the file has, and a mark behind it. The others
+//! have these bytes, the last of them filled up with zeros.
 
-ghost use Rattle.std.specs.Prelude.{◌≡◌, ◌+◌, ◌-◌, ◌^◌, ◌*◌, ◌++◌, ◌<◌, ◌≤◌, length, take, replicate, IfOk, OnOk};
+ghost use Rattle.std.specs.Prelude.{◌≡◌, ◌+◌, ◌-◌, ◌^◌, ◌*◌, ◌++◌, ◌<◌, ◌≤◌, ℕ, List, Some, None, length, take, drop, replicate, codes, bytes_eq, vec_len, vec_capacity, IsOk, IfOk, OnOk, OnErr};
 ghost use Rattle.nq_base.specs.Block.{filled, word};
-ghost use Rattle.nq_prompt.specs.Pieces.{blocks_for, length_in, most_bytes, piece_of};
+ghost use Rattle.nq_base.specs.Seen.{seen_bytes};
+ghost use Rattle.nq_prompt.specs.Pieces.{blocks_for, first_of, head_of, joined_pieces, length_in, length_told, most_bytes, piece_of};
 
 use nq_base::{Block, NoMemory, Seen};
-use nq_words::push_bytes;
+use nq_words::{is, push_bytes};
+use nq_xdr::push_words;
 use std::alloc::Global;
 
 /// The most bytes of a file: those of 1024 blocks but the first.
@@ -21,15 +23,91 @@ pub fn blocks_for(length: usize) -> u32
     1 + length.div_ceil(Block::SIZE) as u32
 }
 
-/// How many bytes a file has whose first block has this value, and that has so many blocks; None where it was not put as a whole file,
-/// or not to its end.
-#[tactic(auto, unfolding(crate::specs::Pieces::length_in, crate::specs::Pieces::blocks_for, crate::specs::Pieces::most_bytes))]
-pub fn length_in(value: u32, blocks: u32) -> Option<usize>
-    ensures { result ≡ length_in value blocks }
+/// The first block of a file of so many bytes that is put to its end.
+///
+/// # Errors
+///
+/// Only want of memory.
+pub fn first_block(alloc: Global, size: usize) -> Result<Block, NoMemory>
+    requires { size ≤ most_bytes }
+    ensures { IfOk result (λ block. block ≡ first_of size) }
 {
-    let length = value.checked_sub(1)? as usize;
-    if length <= MOST_BYTES && blocks_for(length) == blocks {
-        Some(length)
+    piece(alloc, &head_of(size), 0)
+}
+
+/// The first bytes of a file of so many bytes that is put to its end.
+fn head_of(size: usize) -> [u8; 8]
+    requires { size ≤ most_bytes }
+    ensures { result ≡ head_of size }
+{
+    let value = 1 + size as u32;
+    [
+        (value / 0x0100_0000) as u8,
+        (value / 0x0001_0000 % 0x0100) as u8,
+        (value / 0x0100 % 0x0100) as u8,
+        (value % 0x0100) as u8,
+        b'f',
+        b'i',
+        b'l',
+        b'e',
+    ]
+}
+
+/// How many bytes a file has with this first block, and so many blocks; None where it was not put as a whole file, or not to its end. No
+/// block that repeats a number is taken for the first one of a whole file.
+pub fn length_in(first: &Block, blocks: u32) -> Option<usize>
+    ensures step { result ≡ length_in first.now blocks }
+    ensures told { (size : ℕ) → size ≤ most_bytes → first.now ≡ first_of size → blocks ≡ blocks_for size → result ≡ Some size }
+    ensures other { (v : ℕ) → first.now ≡ filled v → result ≡ None }
+{
+    length_read(first, blocks)
+}
+
+/// How many bytes a first block tells.
+#[tactic(auto, unfolding(crate::specs::Pieces::length_in))]
+fn length_read(first: &Block, blocks: u32) -> Option<usize>
+    ensures { result ≡ length_in first.now blocks }
+{
+    if is_marked(first) {
+        length_told(first.value(), blocks)
+    } else {
+        None
+    }
+}
+
+/// Whether the mark of a whole file stands in a block.
+fn is_marked(first: &Block) -> bool
+    ensures { result ≡ bytes_eq (take 4 (drop 4 first.now)) (codes "file") }
+{
+    match first.seen() {
+        Seen::Bytes(bytes) => has_mark(bytes),
+        Seen::Filled(value) => fills_mark(value),
+    }
+}
+
+/// Whether the mark of a whole file stands behind the first word of these bytes.
+fn has_mark(bytes: &[u8]) -> bool
+    requires { length bytes.now ≡ 4096 }
+    ensures { result ≡ bytes_eq (take 4 (drop 4 bytes.now)) (codes "file") }
+{
+    is(&bytes[4..8], b"file")
+}
+
+/// Whether a block that repeats this number has the mark of a whole file.
+fn fills_mark(value: u32) -> bool
+    ensures { result ≡ bytes_eq (take 4 (drop 4 (filled value))) (codes "file") }
+{
+    is(&word_of(value), b"file")
+}
+
+/// The length that a number tells, where there are the blocks for it.
+#[tactic(auto, unfolding(crate::specs::Pieces::length_told, crate::specs::Pieces::blocks_for, crate::specs::Pieces::most_bytes))]
+fn length_told(value: u32, blocks: u32) -> Option<usize>
+    ensures { result ≡ length_told value blocks }
+{
+    let size = value.checked_sub(1)? as usize;
+    if size <= MOST_BYTES && blocks_for(size) == blocks {
+        Some(size)
     } else {
         None
     }
@@ -82,24 +160,38 @@ fn push_zeros(bytes: &mut Vec<u8>, count: usize) -> Result<(), NoMemory>
 }
 
 /// Appends the bytes of a block.
+///
+/// # Errors
+///
+/// Only want of memory, and then `out` is as before. Where it has room for a block none is wanted.
 pub fn push_body(out: &mut Vec<u8>, body: &Block) -> Result<(), NoMemory>
-    ensures { OnOk result (out.new.items ≡ out.old.items ++ body.now) }
+    ensures pushed { OnOk result (out.new.items ≡ out.old.items ++ body.now) }
+    ensures refused { OnErr result (out.new.items ≡ out.old.items) }
+    ensures succeeds { vec_len out.old + 4096 ≤ vec_capacity out.old → IsOk result }
 {
-    match body.seen() {
-        Seen::Bytes(bytes) => push_bytes(out, bytes),
+    out.reserve(Block::SIZE)?;
+    push_seen(out, body.seen());
+    Ok(())
+}
+
+/// Appends what a block holds. There is room for it.
+fn push_seen(out: &mut Vec<u8>, seen: Seen<'_>)
+    requires size { length (seen_bytes seen) ≡ 4096 }
+    requires room { vec_len out.old + 4096 ≤ vec_capacity out.old }
+    ensures { out.new.items ≡ out.old.items ++ seen_bytes seen.entry }
+{
+    match seen {
+        Seen::Bytes(bytes) => out.extend_from_slice(bytes).unwrap(),
         Seen::Filled(value) => push_filled(out, value),
     }
 }
 
-/// Appends a word of four bytes, 1024 times.
-fn push_filled(out: &mut Vec<u8>, value: u32) -> Result<(), NoMemory>
-    ensures { OnOk result (out.new.items ≡ out.old.items ++ filled value) }
+/// Appends a word of four bytes, 1024 times. There is room for it.
+fn push_filled(out: &mut Vec<u8>, value: u32)
+    requires { vec_len out.old + 4096 ≤ vec_capacity out.old }
+    ensures { out.new.items ≡ out.old.items ++ filled value }
 {
-    let word = word_of(value);
-    for _round in 0..1024u32 {
-        push_bytes(out, &word)?;
-    }
-    Ok(())
+    push_words(out, word_of(value), Block::SIZE / 4);
 }
 
 /// The four bytes of a number, the highest first.
@@ -112,4 +204,13 @@ fn word_of(value: u32) -> [u8; 4]
         (value / 0x0100 % 0x0100) as u8,
         (value % 0x0100) as u8,
     ]
+}
+
+/// Cuts the pieces of a file, which stand one behind the other, to as many bytes as the file has.
+pub fn cut_to(bytes: &mut Vec<u8>, size: usize)
+    ensures cut { bytes.new.items ≡ take size bytes.old.items }
+    ensures whole { (count : ℕ) (file : List ℕ) → length file ≡ size → size ≤ 4096 * count → bytes.old.items ≡ joined_pieces count file
+        → bytes.new.items ≡ file }
+{
+    bytes.truncate(size);
 }

@@ -1,10 +1,11 @@
 //! How often a host was started, as a file tells it: a number, and the end of a line.
 
-ghost use Rattle.std.specs.Prelude.{◌≡◌, ◌++◌, OnOk};
+ghost use Rattle.std.specs.Prelude.{◌≡◌, IfOk};
 ghost use Rattle.nq_prompt.specs.Starts.{next_start, start_line};
 
 use nq_base::NoMemory;
 use nq_words::{cut, number, push_digits};
+use std::alloc::Global;
 
 /// The first start of a host.
 pub const FIRST_START: u32 = 1;
@@ -24,11 +25,16 @@ pub fn next_start(text: &[u8]) -> Option<u32>
     Some(1 + last as u32)
 }
 
-/// Appends the text that tells a start.
-pub fn push_start(out: &mut Vec<u8>, start: u32) -> Result<(), NoMemory>
-    ensures { OnOk result (out.new.items ≡ out.old.items ++ start_line start) }
+/// The text that tells a start.
+///
+/// # Errors
+///
+/// Only want of memory.
+pub fn start_text(alloc: Global, start: u32) -> Result<Vec<u8>, NoMemory>
+    ensures { IfOk result (λ text. text.items ≡ start_line start) }
 {
-    push_digits(out, u64::from(start))?;
-    out.push(b'\n')?;
-    Ok(())
+    let mut text = Vec::new(alloc);
+    push_digits(&mut text, u64::from(start))?;
+    text.push(b'\n')?;
+    Ok(text)
 }

@@ -9,4 +9,4 @@ mod report;
 
 pub use counted::CountedLink;
 pub use counts::{Counts, PROCEDURES};
-pub use report::Report;
+pub use report::{Gauge, Report};

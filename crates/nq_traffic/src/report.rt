@@ -7,12 +7,19 @@ use nq_daemon::Watcher;
 use nq_io::{Put, Sink};
 use std::alloc::Global;
 
+/// Somebody who knows how much memory the program has.
+pub trait Gauge {
+    /// So many kilobytes; None where that is not known. No contract speaks of it.
+    fn kilobytes(&mut self) -> Option<u64>;
+}
+
 /// A watcher who prints a line of counts each time that so many ticks have passed, and otherwise only counts. A line that cannot be made
 /// or printed is left out.
 #[derive(Drop)]
-pub struct Report<S> {
+pub struct Report<S, G> {
     alloc: Global,
     out: S,
+    gauge: G,
     every: Option<u64>,
     last: u64,
     told: Told,
@@ -27,12 +34,21 @@ struct Told {
     through: u64,
 }
 
-impl<S> Report<S> {
-    /// A report to this sink, with a line for each so many ticks, if any.
-    pub fn new(alloc: Global, out: S, every: Option<u64>) -> Report<S> {
+/// How the program stands at a moment.
+#[derive(Clone, Copy)]
+struct Standing {
+    now: Ticks,
+    rows: usize,
+    kilobytes: Option<u64>,
+}
+
+impl<S, G> Report<S, G> {
+    /// A report to this sink, with a line for each so many ticks, if any. The gauge is asked for each line.
+    pub fn new(alloc: Global, out: S, gauge: G, every: Option<u64>) -> Report<S, G> {
         Report {
             alloc,
             out,
+            gauge,
             every,
             last: 0,
             told: Told {
@@ -42,20 +58,6 @@ impl<S> Report<S> {
                 through: 0,
             },
         }
-    }
-}
-
-impl<S> Report<S> {
-    /// The sink.
-    pub fn into_out(self) -> S {
-        let Report {
-            alloc: _,
-            out,
-            every: _,
-            last: _,
-            told: _,
-        } = self;
-        out
     }
 }
 
@@ -84,14 +86,13 @@ fn push_count(alloc: Global, line: &mut String, name: &str, count: u64) -> Resul
 /// The line of counts.
 fn line_of(
     alloc: Global,
-    now: Ticks,
-    rows: usize,
+    standing: &Standing,
     counts: &Counts,
     told: &Told,
 ) -> Result<String, NoMemory> {
     let mut line = String::new(alloc);
     line.push_str("after")?;
-    push_count(alloc, &mut line, "seconds", now.0)?;
+    push_count(alloc, &mut line, "seconds", standing.now.0)?;
     line.push_str(": calls")?;
     for (name, count) in PROCEDURES.iter().zip(counts.calls.iter()) {
         if *count > 0 {
@@ -99,14 +100,22 @@ fn line_of(
         }
     }
     push_answers(alloc, &mut line, counts)?;
-    line.push_str("; told")?;
-    push_count(alloc, &mut line, "grants", told.grants)?;
-    push_count(alloc, &mut line, "fences", told.fences)?;
-    push_count(alloc, &mut line, "delayed-stored", told.stored)?;
-    push_count(alloc, &mut line, "through-stored", told.through)?;
-    push_count(alloc, &mut line, "rows", rows as u64)?;
+    push_told(alloc, &mut line, told)?;
+    push_count(alloc, &mut line, "rows", standing.rows as u64)?;
+    if let Some(kilobytes) = standing.kilobytes {
+        push_count(alloc, &mut line, "kilobytes", kilobytes)?;
+    }
     line.push_str("\n")?;
     Ok(line)
+}
+
+/// What the journals told.
+fn push_told(alloc: Global, line: &mut String, told: &Told) -> Result<(), NoMemory> {
+    line.push_str("; told")?;
+    push_count(alloc, line, "grants", told.grants)?;
+    push_count(alloc, line, "fences", told.fences)?;
+    push_count(alloc, line, "delayed-stored", told.stored)?;
+    push_count(alloc, line, "through-stored", told.through)
 }
 
 /// The counts of what was sent.
@@ -122,7 +131,7 @@ fn push_answers(alloc: Global, line: &mut String, counts: &Counts) -> Result<(),
     push_count(alloc, line, "unsent", counts.unsent)
 }
 
-impl<L, S: Sink> Watcher<CountedLink<L>> for Report<S> {
+impl<L, S: Sink, G: Gauge> Watcher<CountedLink<L>> for Report<S, G> {
     fn turned(&mut self, link: &CountedLink<L>, now: Ticks, rows: usize, log: &Journal) {
         for entry in log.entries() {
             self.told.note(entry);
@@ -132,7 +141,12 @@ impl<L, S: Sink> Watcher<CountedLink<L>> for Report<S> {
             return;
         }
         self.last = now.0;
-        if let Ok(line) = line_of(self.alloc, now, rows, link.counts(), &self.told) {
+        let standing = Standing {
+            now,
+            rows,
+            kilobytes: self.gauge.kilobytes(),
+        };
+        if let Ok(line) = line_of(self.alloc, &standing, link.counts(), &self.told) {
             match self.out.put(line.as_bytes()) {
                 Put::All | Put::Failed => {}
             }

@@ -1,6 +1,6 @@
 //! A client at work, call by call.
 
-use nq_base::{Answer, Call, Journal, Who};
+use nq_base::{Answer, Call, Host, Inc, Journal, Who};
 use nq_client::Client;
 use nq_clock::{Clock, StdClock};
 use nq_ending::Halt;
@@ -14,6 +14,9 @@ const MOST_TURNS: u32 = 1 << 30;
 
 /// The term that a client wants, in ticks.
 const TERM: u32 = 30;
+
+/// After how many ticks without an answer the leases are not given back.
+const FAREWELL: u64 = 10;
 
 /// How a client works.
 #[derive(Clone, Copy)]
@@ -135,6 +138,36 @@ impl UserDesk {
             ClientTurn::Memory => Err(Halt::Memory),
             ClientTurn::Spent => Err(Halt::Spent),
         }
+    }
+
+    /// The host.
+    pub(crate) fn host(&self) -> Host {
+        self.client.who().host
+    }
+
+    /// Gives all leases back: the host begins this incarnation, and the server ends the leases of those before as it attaches it. What
+    /// was delayed still is lost.
+    ///
+    /// # Errors
+    ///
+    /// Those of [`UserDesk::open`]. The leases may then run on.
+    pub(crate) fn give_back(self, alloc: Global, inc: Inc) -> Result<(), Halt> {
+        let UserDesk {
+            client,
+            patience: _,
+            next: _,
+            link,
+            clock,
+        } = self;
+        let host = client.who().host;
+        client.stop();
+        let terms = Terms {
+            who: Who { host, inc },
+            patience: FAREWELL,
+        };
+        let desk = UserDesk::open(alloc, terms, link, clock)?;
+        desk.close();
+        Ok(())
     }
 
     /// Ends the client. What it delays still is lost.

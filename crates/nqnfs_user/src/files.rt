@@ -5,7 +5,7 @@ ghost use Rattle.std.specs.Prelude.{◌<◌};
 use crate::desk::UserDesk;
 use nq_base::{Answer, Block, BlockNo, Call, FileId, Name, NoMemory, Value};
 use nq_ending::Halt;
-use nq_prompt::{MOST_BYTES, blocks_for, length_in, piece, push_body};
+use nq_prompt::{MOST_BYTES, blocks_for, cut_to, first_block, length_in, piece, push_body};
 use std::alloc::{AllocError, Global};
 
 /// Why a file was not put or not got.
@@ -42,7 +42,7 @@ impl From<NoMemory> for FileFault {
 }
 
 /// Puts these bytes as the file of this name, which is made or gets another length. All is stored behind the call, and was read back
-/// from the server and compared. The first block has 0 until all else is stored, and then one more than the length.
+/// from the server and compared. The first block has 0 until all else is stored, and then one more than the length, and a mark.
 ///
 /// # Errors
 ///
@@ -69,7 +69,8 @@ pub(crate) fn put_file(
             return Err(FileFault::Differs);
         }
     }
-    put(alloc, desk, file, 0, Block::fill(1 + bytes.len() as u32))?;
+    let first = first_block(alloc, bytes.len())?;
+    put(alloc, desk, file, 0, first)?;
     Ok(file)
 }
 
@@ -104,7 +105,7 @@ pub(crate) fn get_file(
         return Err(FileFault::NotWhole);
     }
     let first = fetch(alloc, desk, file, 0)?;
-    let Some(length) = length_in(first.value(), blocks) else {
+    let Some(length) = length_in(&first, blocks) else {
         return Err(FileFault::NotWhole);
     };
     let mut bytes = Vec::with_capacity(alloc, Block::SIZE)?;
@@ -112,7 +113,7 @@ pub(crate) fn get_file(
         let body = fetch(alloc, desk, file, block)?;
         push_body(&mut bytes, &body)?;
     }
-    bytes.truncate(length);
+    cut_to(&mut bytes, length);
     Ok(bytes)
 }
 

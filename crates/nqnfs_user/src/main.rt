@@ -104,12 +104,7 @@ fn be_host(rt: &HostRuntime, host: Host) -> Result<Ending, AllocError> {
 /// Reads lines at a desk, if it was opened.
 fn work(rt: &HostRuntime, desk: Result<UserDesk, Halt>) -> Ending {
     let ended = match desk {
-        Ok(desk) => {
-            let mut desk = desk;
-            let ended = Prompt::new(rt).serve_lines(&mut desk);
-            desk.close();
-            ended
-        }
+        Ok(desk) => sit(rt, desk),
         Err(why) => Err(why),
     };
     match ended {
@@ -119,6 +114,38 @@ fn work(rt: &HostRuntime, desk: Result<UserDesk, Halt>) -> Ending {
             let _told = eprintln!(rt; "nqnfs_user: {words}");
             ending
         }
+    }
+}
+
+/// Reads lines at a desk to their end, and gives the leases back behind them.
+fn sit(rt: &HostRuntime, desk: UserDesk) -> Result<(), Halt> {
+    let mut desk = desk;
+    let ended = Prompt::new(rt).serve_lines(&mut desk);
+    match ended {
+        Ok(()) => {
+            leave(rt, desk);
+            Ok(())
+        }
+        Err(why) => {
+            desk.close();
+            Err(why)
+        }
+    }
+}
+
+/// Gives the leases of a desk back, and says where that did not go well.
+fn leave(rt: &HostRuntime, desk: UserDesk) {
+    let is_given = match next_inc(rt, desk.host()) {
+        Ok(inc) => desk.give_back(rt.alloc(), inc).is_ok(),
+        Err(_) => {
+            desk.close();
+            false
+        }
+    };
+    if !is_given {
+        let _told = eprintln!(rt;
+            "nqnfs_user: the leases were not given back; whoever comes next may wait for 38 seconds"
+        );
     }
 }
 

@@ -4,7 +4,7 @@ use crate::desk::UserDesk;
 use crate::files::{FileFault, get_file, put_file};
 use nq_base::{Answer, Call, FileId, Name};
 use nq_ending::Halt;
-use nq_prompt::{Line, MOST_BYTES, line_of, push_answer};
+use nq_prompt::{Line, MOST_BYTES, answer_text, line_of};
 use std::fs::{self, File};
 use std::io::{self, BufRead, BufReader, ErrorKind, Write};
 use std::str;
@@ -134,8 +134,7 @@ fn ask(rt: &HostRuntime) {
 
 /// Tells an answer.
 fn tell_answer(rt: &HostRuntime, answer: &Answer) {
-    let mut line = Vec::new(rt.alloc());
-    if push_answer(&mut line, answer).is_ok() {
+    if let Ok(line) = answer_text(rt.alloc(), answer) {
         if let Ok(words) = str::from_utf8(&line) {
             let _told = println!(rt; "{words}");
         }

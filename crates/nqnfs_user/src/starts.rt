@@ -1,7 +1,7 @@
 //! The number of a host's start, its incarnation, which rises with each: a small file keeps the last one.
 
 use nq_base::{Host, Inc};
-use nq_prompt::{FIRST_START, next_start, push_start};
+use nq_prompt::{FIRST_START, next_start, start_text};
 use std::fs::{self, File};
 use std::io::{self, ErrorKind, Write};
 
@@ -16,11 +16,9 @@ pub(crate) fn next_inc(rt: &HostRuntime, host: Host) -> io::Result<Inc> {
     let name = format!(in rt.alloc(); "nqnfs-host-{host}")?;
     let fresh = format!(in rt.alloc(); "nqnfs-host-{host}.new")?;
     let next = start_after(rt, name.as_str())?;
-    let mut line = Vec::new(rt.alloc());
-    match push_start(&mut line, next) {
-        Ok(()) => {}
-        Err(_) => return Err(io::Error::from(ErrorKind::OutOfMemory)),
-    }
+    let Ok(line) = start_text(rt.alloc(), next) else {
+        return Err(io::Error::from(ErrorKind::OutOfMemory));
+    };
     write_synced(rt, fresh.as_str(), &line)?;
     fs::rename(rt, fresh.as_str(), name.as_str())?;
     File::open(rt, ".")?.sync_all()?;

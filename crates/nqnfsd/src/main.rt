@@ -2,6 +2,7 @@
 //! killed, which is safe at any moment. Where there is no image it makes one.
 #![tactic(auto)]
 
+mod memory;
 mod serving;
 mod words;
 

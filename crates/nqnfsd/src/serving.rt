@@ -2,6 +2,7 @@
 
 ghost use Rattle.std.specs.Prelude.{◌≤◌};
 
+use crate::memory::Resident;
 use nq_base::{Journal, Party, Ticks};
 use nq_clock::StdClock;
 use nq_daemon::{MOST_TURNS, Watcher};
@@ -117,7 +118,12 @@ fn serve_disk(
     let mut teller = Teller {
         rt,
         image,
-        report: Report::new(rt.alloc(), StdSink::new(io::writer(rt)), every),
+        report: Report::new(
+            rt.alloc(),
+            StdSink::new(io::writer(rt)),
+            Resident::new(rt),
+            every,
+        ),
     };
     match serve_image(
         rt.alloc(),
