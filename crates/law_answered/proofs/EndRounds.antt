@@ -71,7 +71,7 @@ module _ (most : ℕ) (head : Head) where
 
   -- ---- who is quiet and has no open call
 
-  quiet-ends : (q : Play) → IsLawful most head q → (host : ℕ) (c : Client) → slice_get q.world.clients host ≡ Some c → IsQuiet c → c.call ≡ None → EndsWithin most c
+  pub quiet-ends : (q : Play) → IsLawful most head q → (host : ℕ) (c : Client) → slice_get q.world.clients host ≡ Some c → IsQuiet c → c.call ≡ None → EndsWithin most c
   quiet-ends q l host c at quiet answered = record {
     answered = answered;
     idle = λ t e. none-some t (sym quiet.no_request ∙ e);
@@ -84,7 +84,7 @@ module _ (most : ℕ) (head : Head) where
   }
 
   -- where all leases over delayed writes are over there are none
-  quiet-stored : (c : Client) → IsQuiet c → EndsWithin 0 c → HasStored c
+  pub quiet-stored : (c : Client) → IsQuiet c → EndsWithin 0 c → HasStored c
   quiet-stored c quiet e = record { none_delayed = none-dirty c.dirty refl; none_under_way = quiet.no_push }
     where
       none-dirty : (ds : List Push) → c.dirty ≡ ds → c.dirty ≡ []

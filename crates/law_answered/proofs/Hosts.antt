@@ -9,11 +9,12 @@ use Rattle.nq_model.specs.Lines.{Play, play, play_flow, flow_first, play_hosts, 
 use Rattle.nq_model.specs.Message.{Message}
 use Rattle.nq_model.specs.World.{Head, World, after_client, after_server, at_client, step}
 use Rattle.law_progress.specs.CalmRoundsAreLawful.{IsLawful}
-use Rattle.law_progress.proofs.CalmIsLawful.{flows}
+use Rattle.law_progress.proofs.CalmIsLawful.{played-quiet, flows}
 use Rattle.walk_client.proofs.ClientFacts.{Alone}
 use Rattle.walk_client.proofs.ClientMoves.{some-same, none-some}
 use Rattle.walk_run.proofs.Worlds.{Holds, get-set-same, get-set-other, run-holds}
 use Rattle.walk_server.proofs.Rows.{same-number, number-same}
+use Rattle.law_rounds.specs.WholeRounds.{play_order}
 use Rattle.law_rounds.proofs.Coming.{Delivery, no_packet, at_server, at_host, ignored, no_client, delivery}
 
 -- ---- lists
@@ -71,6 +72,12 @@ module _ (most : ℕ) (head : Head) (host : ℕ) where
       first : (ks : List ℕ) → At P (flow_first ks p).world
       first [] = all
       first (k ∷ ks) = delivered P keeps p.world (subst (λ u. Holds u) (sym l.is_run) (run-holds head p.events)) k all
+
+  pub order-keeps : (P : Client → Type 0) → Stays P → (order : List ℕ) (p : Play) → IsLawful most head p → At P p.world → At P (play_order order p).world
+  order-keeps P keeps [] p l all = all
+  order-keeps P keeps (k ∷ order) p l all =
+      order-keeps P keeps order (play p (Event.Deliver k)) (played-quiet most head p (Event.Deliver k) tt refl l)
+      (delivered P keeps p.world (subst (λ u. Holds u) (sym l.is_run) (run-holds head p.events)) k all)
 
   -- ---- ticks
 

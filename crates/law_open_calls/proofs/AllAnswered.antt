@@ -1,128 +1,140 @@
--- Every call is answered once the network is calm.
-use Rattle.std.proofs.Common.{◌≡◌, ◌≤◌, ◌⊎◌, ℕ, ◌+◌, ◌*◌, false, zero, suc, List, Some, length, refl, sym, subst, ap, ◌∙◌, arith, inl, inr}
-use Rattle.std.specs.Prelude.{All, slice_get}
-use Rattle.nq_base.specs.declared.Event.{Event}
+-- Every call is answered by whole rounds in which links keep their order, so also by calm rounds.
+use Rattle.std.proofs.Common.{◌≡◌, ◌≤◌, ◌<◌, ◌⊎◌, ℕ, ◌+◌, ◌*◌, ◌++◌, false, List, [], ◌∷◌, Some, length, refl, subst, ap, ◌∙◌, arith, inl, inr}
+use Rattle.std.specs.Prelude.{slice_get}
+use Rattle.std.proofs.lemmas.List.{length-append}
 use Rattle.nq_model.specs.Client.{Client}
 use Rattle.nq_model.specs.Lines.{Play}
 use Rattle.nq_model.specs.Profile.{skew, write_slack}
-use Rattle.nq_model.specs.World.{Head, run}
-use Rattle.nq_model.specs.Skew.{IsWithinSkew}
-use Rattle.nq_promises.specs.Bounds.{KeepsBounds}
-use Rattle.law_deliveries.specs.DeliveryEnds.{AreUnderWay, calmed}
+use Rattle.nq_model.specs.World.{Head}
+use Rattle.law_deliveries.specs.DeliveryEnds.{calmed}
 use Rattle.law_progress.specs.CallsAreAnswered.{IsAnswered}
-use Rattle.law_progress.specs.CalmRound.{calm_round, calm_rounds}
 use Rattle.law_progress.specs.CalmRoundsAreLawful.{IsLawful}
 use Rattle.law_progress.specs.QuietDeliveries.{recovers}
-use Rattle.law_progress.proofs.AllAttached.{rounds-more}
-use Rattle.law_progress.proofs.CalmEnds.{IsRising, rounds-rising, calmed-rising}
-use Rattle.law_progress.proofs.CalmIsLawful.{rounds}
-use Rattle.law_rounds.specs.RoundsEndQuiet.{IsSmall, all_delivered, IsQuiet}
-use Rattle.law_rounds.proofs.Flows.{round-small, rounds-small}
-use Rattle.law_rounds.proofs.RecoveryRounds.{recoveries-end}
-use Rattle.law_answered.proofs.EndRounds.{fresh-quiet}
+use Rattle.law_progress.proofs.CalmEnds.{IsRising, calmed-rising}
+use Rattle.law_rounds.specs.RoundsEndQuiet.{IsSmall}
+use Rattle.law_rounds.specs.WholeRounds.{whole_round, whole_rounds, AreWhole, LinksKeepOrder}
+use Rattle.law_rounds.proofs.Flows.{Covered, whole-small, wholes-small, wholes-cover, later-covers}
+use Rattle.law_rounds.proofs.Orders.{whole-lawful, wholes-lawful, whole-rising, wholes-rising, rounds-append, whole-parts, links-behind, Parts, parts}
+use Rattle.law_rounds.proofs.Quiet.{order-ends-quiet}
+use Rattle.law_rounds.proofs.RecoveryRounds.{serves-from, serving-rounds}
 use Rattle.law_answered.proofs.Hosts.{all-found}
 use Rattle.law_open_calls.specs.CallsAnswered.{rounds_for}
+use Rattle.law_open_calls.specs.WholeCallsAnswered.{WholeCallsAnswered, served_rounds_for, ServedCallsAnswered}
 use Rattle.law_open_calls.proofs.Counts.{open_calls, none-open}
-use Rattle.law_open_calls.proofs.FourRounds.{rounds-less, blocks, attached-next}
-use Rattle.law_open_calls.proofs.Rounds.{Round}
-
-left-over : (m k : ℕ) → k ≤ m → (r : ℕ) × (k + r ≡ m)
-left-over m zero below = (m, omega arith)
-left-over zero (suc k) below = absurd (omega arith)
-left-over (suc m) (suc k) below = let z = left-over m k (omega arith) in (z.0, let e = z.1 in omega arith)
-
--- a play that led to a small one is small
-small-then : (base : Play) (m n k : ℕ) → k ≤ m → IsSmall (calm_rounds (n + (m + 1)) base) → IsSmall (calm_rounds (n + k) base)
-small-then base m n k below fits =
-    let z = left-over m k below in
-    let sum = z.1 in
-    let e : n + (m + 1) ≡ (n + k) + (z.0 + 1) = omega arith in
-    rounds-small (z.0 + 1) (calm_rounds (n + k) base) (subst (λ (q : Play). IsSmall q) (ap (λ i. calm_rounds i base) e
-    ∙ rounds-more (n + k) (z.0 + 1) base) fits)
+use Rattle.law_open_calls.proofs.FourRounds.{Rounds, rounds-less, blocks, attached-last}
 
 module _ (most : ℕ) (head : Head) where
-  abbrev R : Play → Type 0
-  R r = Round most head r
-
-  module _ (base : Play) (l : IsLawful most head base) (rising : IsRising base) (n : ℕ) (calls : ℕ) (few_calls : open_calls base.world.clients ≤ calls)
-      (small : IsSmall (calm_rounds ((2 + n) + (4 * calls + 1)) base)) (serving_then : (k : ℕ) → k ≤ 4 * calls
-      → recovers (calm_rounds ((2 + n) + k) base).world.server.phase ≡ false) where
-    one-more : (k : ℕ) → calm_rounds ((2 + n) + (k + 1)) base ≡ calm_round (calm_rounds ((2 + n) + k) base)
-    one-more k = let e : (2 + n) + (k + 1) ≡ ((2 + n) + k) + 1 = omega arith in ap (λ m. calm_rounds m base) e ∙ rounds-more ((2 + n) + k) 1 base
-
-    small-at : (k : ℕ) → k ≤ 4 * calls → IsSmall (all_delivered (calm_rounds ((2 + n) + k) base))
-    small-at k few =
-        let z = left-over (4 * calls) k few in
-        let sum = z.1 in
-        let e : (2 + n) + (4 * calls + 1) ≡ ((2 + n) + (k + 1)) + z.0 = omega arith in
-        let split : calm_rounds ((2 + n) + (4 * calls + 1)) base ≡ calm_rounds z.0 (calm_rounds ((2 + n) + (k + 1)) base) = ap
-        (λ i. calm_rounds i base) e ∙ rounds-more ((2 + n) + (k + 1)) z.0 base in
-        let one : IsSmall (calm_rounds ((2 + n) + (k + 1)) base) = rounds-small z.0 (calm_rounds ((2 + n) + (k + 1)) base) (subst (λ
-        (q : Play). IsSmall q) split small) in
-        round-small (calm_rounds ((2 + n) + k) base) (subst (λ (q : Play). IsSmall q) (one-more k) one)
-
-    round-at : (k : ℕ) → k ≤ 4 * calls → R (calm_rounds ((2 + n) + k) base)
-    round-at k few =
-        let e : (2 + n) + k ≡ 2 + (n + k) = omega arith in
-        record {
-          lawful = rounds most head ((2 + n) + k) base l;
-          rising = rounds-rising ((2 + n) + k) base rising;
-          serves = serving_then k few;
-          quiet = subst (λ m. (host : ℕ) (c : Client) → slice_get (all_delivered (calm_rounds m base)).world.clients host ≡ Some c → IsQuiet c) (sym e)
-              (fresh-quiet most head base l rising (n + k) (subst (λ m. IsSmall (all_delivered (calm_rounds m base))) e (small-at k few)));
-        }
-
-    from : (k : ℕ) → k ≤ 4 * calls → R (calm_rounds k (calm_rounds (2 + n) base))
-    from k few = subst (λ (q : Play). R q) (rounds-more (2 + n) k base) (round-at k few)
-
-    last : calm_rounds ((2 + n) + (4 * calls + 1)) base ≡ calm_rounds (4 * calls + 1) (calm_rounds (2 + n) base)
-    last = rounds-more (2 + n) (4 * calls + 1) base
-
-    none : open_calls (calm_rounds ((2 + n) + (4 * calls + 1)) base).world.clients ≡ 0
-    none = by (blocks most head calls (calm_rounds (2 + n) base) from (rounds most head (2 + n) base l))
-      where
-        by : (open_calls (calm_rounds (4 * calls + 1) (calm_rounds (2 + n) base)).world.clients + calls ≤ open_calls (calm_rounds 1 (calm_rounds
-            (2 + n) base)).world.clients) ⊎ (open_calls (calm_rounds (4 * calls + 1) (calm_rounds (2 + n) base)).world.clients ≡ 0)
-            → open_calls (calm_rounds ((2 + n) + (4 * calls + 1)) base).world.clients ≡ 0
-        by (inr zero_now) = ap (λ (q : Play). open_calls q.world.clients) last ∙ zero_now
-        by (inl fewer) =
-            let one = rounds-less most head 1 (calm_rounds (2 + n) base) (rounds most head (2 + n) base l) in
-            let two = rounds-less most head (2 + n) base l in
-            let same : open_calls (calm_rounds ((2 + n) + (4 * calls + 1)) base).world.clients ≡ open_calls (calm_rounds (4 * calls + 1) (calm_rounds
-            (2 + n) base)).world.clients = ap (λ (q : Play). open_calls q.world.clients) last in
-            omega arith
-
-    answered-last : (host : ℕ) (c : Client) → slice_get (calm_rounds ((2 + n) + (4 * calls + 1)) base).world.clients host ≡ Some c → IsAnswered c
-    answered-last host c at = record {
-      attached = attached-next most head (calm_rounds ((2 + n) + 4 * calls) base) (round-at (4 * calls) (omega arith)) host c (subst (λ
-          (q : Play). slice_get q.world.clients host ≡ Some c) (one-more (4 * calls)) at);
-      answered = none-open (calm_rounds ((2 + n) + (4 * calls + 1)) base).world.clients host c at none;
-    }
-
-  pub all-answered :
-      (events : List Event)
-      → KeepsBounds most head events
-      → IsWithinSkew head.hosts most events
-      → (under_way : List ℕ) (more : ℕ)
-      → AreUnderWay (length (run head events).packets) under_way
-      → IsSmall (calm_rounds (rounds_for most (open_calls (run head events).clients) + more) (calmed head events under_way))
-      → All IsAnswered (calm_rounds (rounds_for most (open_calls (run head events).clients) + more) (calmed head events under_way)).world.clients
-  unfolding calmed
-  all-answered events bounds within under_way more all small =
-      let base = calmed head events under_way in
-      let l : IsLawful most head base = record { is_run = refl; bounds = bounds; within = within } in
-      let rising = calmed-rising head events under_way all in
-      let e : rounds_for most (open_calls (run head events).clients) + more ≡ (2 + (most + 6 + more)) + (4 * open_calls (run head events).clients + 1) =
-      numbers most (open_calls (run head events).clients) more in
-      let fits : IsSmall (calm_rounds ((2 + (most + 6 + more)) + (4 * open_calls (run head events).clients + 1)) base) = subst (λ m. IsSmall
-      (calm_rounds m base)) e small in
-      subst (λ m. All IsAnswered (calm_rounds m base).world.clients) (sym e)
-      (all-found IsAnswered (calm_rounds ((2 + (most + 6 + more)) + (4 * open_calls (run head events).clients + 1)) base).world.clients
-      (answered-last base l rising (most + 6 + more) (open_calls (run head events).clients) (omega arith) fits (λ k few.
-      let sum : most + (skew + write_slack) + (more + k) ≡ (2 + (most + 6 + more)) + k = omega arith in
-      subst (λ m. recovers (calm_rounds m base).world.server.phase ≡ false) sum
-      (recoveries-end most head events bounds within under_way (more + k) all (subst (λ m. IsSmall (calm_rounds m base)) (sym sum) (small-then base
-      (4 * open_calls (run head events).clients) (2 + (most + 6 + more)) k few fits))))))
+  -- from a play on in which no client waits for a reply that was lost, and the server serves
+  rounds-from : (orders : List (List ℕ)) (r : Play) → IsLawful most head r → IsRising r → recovers r.world.server.phase ≡ false
+      → ((host : ℕ) → host < head.hosts → Covered most head host 0 r) → AreWhole orders r → LinksKeepOrder orders r → IsSmall (whole_rounds orders r)
+      → Rounds most head orders r
+  rounds-from [] r l rising serves covers whole links small = tt
+  rounds-from (order ∷ orders) r l rising serves covers whole links small = (
+    record {
+      lawful = l;
+      rising = rising;
+      serves = serves;
+      in_order = links.0;
+      arrives = whole.0;
+      quiet = order-ends-quiet most head order r l whole.0 (whole-small order r later) covers;
+    },
+    rounds-from orders (whole_round order r) (whole-lawful most head order r l) (whole-rising order r rising) (serving-rounds (order ∷ []) r serves)
+        (λ host below. wholes-cover most head host (order ∷ []) r l below later (covers host below)) whole.1 links.1 small,
+  )
     where
-      numbers : (most calls more : ℕ) → rounds_for most calls + more ≡ (2 + (most + 6 + more)) + (4 * calls + 1)
-      numbers most calls more = omega arith
+      later : IsSmall (whole_round order r)
+      later = wholes-small orders (whole_round order r) small
+
+  module _ (base : Play) (l : IsLawful most head base) (rising : IsRising base) where
+    -- behind some rounds, after which the server serves
+    answered-behind :
+        (front back : List (List ℕ))
+        → 2 ≤ length front
+        → recovers (whole_rounds front base).world.server.phase ≡ false
+        → 4 * open_calls base.world.clients + 1 ≤ length back
+        → AreWhole (front ++ back) base
+        → LinksKeepOrder (front ++ back) base
+        → IsSmall (whole_rounds (front ++ back) base)
+        → (host : ℕ) (c : Client)
+        → slice_get (whole_rounds (front ++ back) base).world.clients host ≡ Some c
+        → IsAnswered c
+    answered-behind front [] two serves many whole links small host c at = absurd (omega arith)
+    answered-behind front (order ∷ back) two serves many whole links small host c at = record {
+      attached = attached-last most head back order (whole_rounds front base) all host c there;
+      answered = none-open (whole_rounds back (whole_round order (whole_rounds front base))).world.clients host c there none;
+    }
+      where
+        is : whole_rounds (front ++ order ∷ back) base ≡ whole_rounds back (whole_round order (whole_rounds front base))
+        is = rounds-append front (order ∷ back) base
+
+        fits : IsSmall (whole_rounds back (whole_round order (whole_rounds front base)))
+        fits = subst (λ (q : Play). IsSmall q) is small
+
+        there : slice_get (whole_rounds back (whole_round order (whole_rounds front base))).world.clients host ≡ Some c
+        there = subst (λ (q : Play). slice_get q.world.clients host ≡ Some c) is at
+
+        lawful : IsLawful most head (whole_rounds front base)
+        lawful = wholes-lawful most head front base l
+
+        all : Rounds most head (order ∷ back) (whole_rounds front base)
+        all = rounds-from (order ∷ back) (whole_rounds front base) lawful (wholes-rising front base rising) serves
+            (λ h below. later-covers most head h front base two l below (wholes-small (order ∷ back) (whole_rounds front base) fits))
+            (whole-parts front (order ∷ back) base whole).1 (links-behind front (order ∷ back) base links) fits
+
+        none : open_calls (whole_rounds back (whole_round order (whole_rounds front base))).world.clients ≡ 0
+        none = by (blocks most head (open_calls base.world.clients) order back (whole_rounds front base) (omega arith) lawful all)
+          where
+            by : (open_calls (whole_rounds back (whole_round order (whole_rounds front base))).world.clients + open_calls base.world.clients
+                ≤ open_calls (whole_round order (whole_rounds front base)).world.clients)
+                ⊎ (open_calls (whole_rounds back (whole_round order (whole_rounds front base))).world.clients ≡ 0)
+                → open_calls (whole_rounds back (whole_round order (whole_rounds front base))).world.clients ≡ 0
+            by (inr zero_now) = zero_now
+            by (inl fewer) =
+                let one = rounds-less most head (order ∷ []) (whole_rounds front base) lawful in
+                let two_now = rounds-less most head front base l in
+                omega arith
+
+    -- in two parts
+    module _ (orders : List (List ℕ)) (whole : AreWhole orders base) (links : LinksKeepOrder orders base) (small : IsSmall (whole_rounds orders base))
+        (host : ℕ) (c : Client) (at : slice_get (whole_rounds orders base).world.clients host ≡ Some c) where
+      split-answered : (count : ℕ) (s : Parts count orders) → 2 ≤ count → recovers (whole_rounds s.front base).world.server.phase ≡ false
+          → count + (4 * open_calls base.world.clients + 1) ≤ length orders → IsAnswered c
+      split-answered count s two serves many =
+          let both : length orders ≡ length s.front + length s.back = ap (λ (os : List (List ℕ)). length os) s.split ∙ length-append s.front s.back in
+          let first = s.many in
+          answered-behind s.front s.back (omega arith) serves (omega arith) (subst (λ os. AreWhole os base) s.split whole)
+          (subst (λ os. LinksKeepOrder os base) s.split links) (subst (λ os. IsSmall (whole_rounds os base)) s.split small) host c
+          (subst (λ os. slice_get (whole_rounds os base).world.clients host ≡ Some c) s.split at)
+
+      pub answered-from : rounds_for most (open_calls base.world.clients) ≤ length orders → IsAnswered c
+      answered-from many = by (parts (most + (skew + write_slack)) orders (omega arith))
+        where
+          by : Parts (most + (skew + write_slack)) orders → IsAnswered c
+          by s =
+              let first = s.many in
+              let fits = subst (λ (q : Play). IsSmall q) (rounds-append s.front s.back base) (subst (λ os. IsSmall (whole_rounds os base)) s.split small) in
+              split-answered (most + (skew + write_slack)) s (omega arith)
+              (serves-from most head base l s.front (omega arith) (whole-parts s.front s.back base (subst (λ os. AreWhole os base) s.split whole)).0
+              (wholes-small s.back (whole_rounds s.front base) fits)) (omega arith)
+
+      pub served-from : recovers base.world.server.phase ≡ false → served_rounds_for (open_calls base.world.clients) ≤ length orders → IsAnswered c
+      served-from serves many = by (parts 2 orders (omega arith))
+        where
+          by : Parts 2 orders → IsAnswered c
+          by s = split-answered 2 s (omega arith) (serving-rounds s.front base serves) (omega arith)
+
+pub whole-calls-answered : WholeCallsAnswered
+unfolding calmed
+whole-calls-answered most head events bounds within under_way orders all many whole links small =
+    let base = calmed head events under_way in
+    all-found IsAnswered (whole_rounds orders base).world.clients (λ host c at.
+    answered-from most head base (record { is_run = refl; bounds = bounds; within = within }) (calmed-rising head events under_way all) orders whole links
+    small host c at many)
+
+pub served-calls-answered : ServedCallsAnswered
+unfolding calmed
+served-calls-answered most head events bounds within serves under_way orders all many whole links small =
+    let base = calmed head events under_way in
+    all-found IsAnswered (whole_rounds orders base).world.clients (λ host c at.
+    served-from most head base (record { is_run = refl; bounds = bounds; within = within }) (calmed-rising head events under_way all) orders whole links
+    small host c at serves many)

@@ -4,10 +4,11 @@ use Rattle.std.specs.Prelude.{slice_get, slice_set}
 use Rattle.nq_base.specs.declared.Event.{Event}
 use Rattle.nq_model.specs.Client.{Client, ClientStep, UnderWay}
 use Rattle.nq_model.specs.ClientStep.{client_tick}
-use Rattle.nq_model.specs.Lines.{Play, play, play_flow, flow_first, play_hosts, play_rounds}
+use Rattle.nq_model.specs.Lines.{Play, play, play_hosts, play_rounds}
 use Rattle.nq_model.specs.World.{Head, World, after_client, after_server, at_client, step}
 use Rattle.law_progress.specs.CalmRoundsAreLawful.{IsLawful}
-use Rattle.law_progress.proofs.CalmIsLawful.{flows}
+use Rattle.law_progress.proofs.CalmIsLawful.{played-quiet}
+use Rattle.law_rounds.specs.WholeRounds.{play_order}
 use Rattle.law_rounds.proofs.Coming.{Delivery, no_packet, at_server, at_host, ignored, no_client, delivery}
 use Rattle.walk_client.proofs.ClientMoves.{some-same, none-some}
 use Rattle.walk_run.proofs.Worlds.{Holds, run-holds}
@@ -64,15 +65,11 @@ delivered-less w holds k = by (delivery w k)
         omega arith
 
 module _ (most : ℕ) (head : Head) where
-  pub first-less : (ks : List ℕ) (p : Play) → IsLawful most head p → open_calls (flow_first ks p).world.clients ≤ open_calls p.world.clients
-  first-less [] p l = omega arith
-  first-less (k ∷ ks) p l = delivered-less p.world (subst (λ u. Holds u) (sym l.is_run) (run-holds head p.events)) k
-
-  pub flow-less : (n : ℕ) (p : Play) → IsLawful most head p → open_calls (play_flow n p).world.clients ≤ open_calls p.world.clients
-  flow-less zero p l = omega arith
-  flow-less (suc n) p l =
-      let first = first-less p.fresh p l in
-      let later = flow-less n (flow_first p.fresh p) (flows most head 1 p l) in
+  pub order-less : (order : List ℕ) (p : Play) → IsLawful most head p → open_calls (play_order order p).world.clients ≤ open_calls p.world.clients
+  order-less [] p l = omega arith
+  order-less (k ∷ order) p l =
+      let first = delivered-less p.world (subst (λ u. Holds u) (sym l.is_run) (run-holds head p.events)) k in
+      let later = order-less order (play p (Event.Deliver k)) (played-quiet most head p (Event.Deliver k) tt refl l) in
       omega arith
 
 -- ---- ticks

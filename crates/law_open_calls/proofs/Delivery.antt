@@ -35,10 +35,11 @@ use Rattle.law_progress.proofs.CalmEnds.{IsRising, played-rising}
 use Rattle.law_progress.proofs.CalmIsLawful.{played-quiet}
 use Rattle.law_progress.proofs.QuietFlows.{delivered-phase}
 use Rattle.law_requests.proofs.WorldSequences.{run-draws}
+use Rattle.law_rounds.proofs.Next.{IsNext, next-in}
 use Rattle.law_rounds.proofs.Coming.{Delivery, no_packet, at_server, at_host, ignored, no_client, delivery}
 use Rattle.walk_client.proofs.ClientFacts.{fits_job}
 use Rattle.walk_client.proofs.ClientMoves.{some-same, none-some}
-use Rattle.walk_run.proofs.Packets.{In, in-append, in-get, Asked, Told, message-same, not-both}
+use Rattle.walk_run.proofs.Packets.{In, in-append, in-left, in-right, in-get, Asked, Told, message-same, not-both}
 use Rattle.walk_run.proofs.Worlds.{IsAt, Holds, IsSent, by_host, by_server, get-set-same, get-set-other, set-there, to-told, run-holds}
 use Rattle.walk_sends.proofs.StepSends.{HearSends, hear-sends}
 use Rattle.walk_server.proofs.Rows.{same-number, number-same, found-row}
@@ -50,7 +51,8 @@ use Rattle.law_open_calls.proofs.Counts.{open_calls, ended-fewer}
 use Rattle.law_open_calls.proofs.Given.{AllInLine, ordered, ordered-on, tags, served}
 use Rattle.law_open_calls.proofs.HearerAt.{hearer}
 use Rattle.law_open_calls.proofs.Hope.{Cancels, PutsOff, Clear}
-use Rattle.law_open_calls.proofs.Queue.{packets_of, queue, queue-head, queue-next, head-packet, head-comes, rest-later, there-is}
+use Rattle.law_open_calls.proofs.Front.{Fronts, to-front, moves-from}
+use Rattle.law_open_calls.proofs.Queue.{packets_of, queue, queue-parts, rest-parts, before-apart, queue-next, head-packet, head-comes, rest-comes, rest-later, there-is}
 use Rattle.law_open_calls.proofs.Served.{IsWant, by_read, by_lease, IsServed, Fits, read_fits, write_fits, Wanting, by_call, by_renewal}
 use Rattle.law_open_calls.proofs.ServerHopes.{Asker, Fate, all_on, off, fate, clear-on, off-clear, off-hope}
 use Rattle.law_open_calls.proofs.UnderWay.{InOrder, TagsFit, WantedNow, of_call, of_row, Wants, NoneRenew, Moves, all_move, all_but, Paused, hear-sent, none-renews, serves-is}
@@ -98,24 +100,37 @@ module _ (most : ℕ) (head : Head) where
     alone : WritesAlone p.world.server.table.rows
     alone = subst (λ (u : World). WritesAlone u.server.table.rows) (sym st.lawful.is_run) (stands-apart head p.events).alone
 
-    module _ (k : ℕ) (ks : List ℕ) (first : p.fresh ≡ k ∷ ks) where
+    module _ (k : ℕ) (next : IsNext p k) where
       abbrev rest : List Packet
-      rest = packets_of p.world.packets ks
+      rest = packets_of p.world.packets (next.before ++ next.behind)
 
       abbrev after : Play
       after = play p (Event.Deliver k)
 
-      queue-is : (y : Packet) → slice_get p.world.packets k ≡ Some y → queue p ≡ y ∷ rest
-      queue-is y sent = queue-head p k ks first st.rising y sent
-
       in-rest : (y z : Packet) → slice_get p.world.packets k ≡ Some y → In rest z → In (queue p) z
-      in-rest y z sent i = subst (λ q. In q z) (sym (queue-is y sent)) (inr i)
+      in-rest y z sent i = subst (λ q. In q z) (sym (queue-parts p k next st.rising y sent)) (later (in-append (packets_of p.world.packets next.before)
+          (packets_of p.world.packets next.behind) z (subst (λ q. In q z) (rest-parts p k next st.rising) i)))
+        where
+          later : In (packets_of p.world.packets next.before) z ⊎ In (packets_of p.world.packets next.behind) z
+              → In (packets_of p.world.packets next.before ++ y ∷ packets_of p.world.packets next.behind) z
+          later (inl j) = in-left (packets_of p.world.packets next.before) (y ∷ packets_of p.world.packets next.behind) z j
+          later (inr j) = in-right (packets_of p.world.packets next.before) (y ∷ packets_of p.world.packets next.behind) z (inr j)
+
+      -- the packet itself is under way
+      in-head : (y : Packet) → slice_get p.world.packets k ≡ Some y → In (queue p) y
+      in-head y sent = subst (λ q. In q y) (sym (queue-parts p k next st.rising y sent)) (in-right (packets_of p.world.packets next.before)
+          (y ∷ packets_of p.world.packets next.behind) y (inl refl))
+
+      -- it may as well stand first: what hopes and what is clear stays so
+      queue-front : (y : Packet) → slice_get p.world.packets k ≡ Some y → Fronts p.world (queue p) (y ∷ rest)
+      queue-front y sent = subst (λ q. Fronts p.world q (y ∷ rest)) (sym (queue-parts p k next st.rising y sent))
+          (subst (λ q. Fronts p.world (packets_of p.world.packets next.before ++ y ∷ packets_of p.world.packets next.behind) (y ∷ q))
+          (sym (rest-parts p k next st.rising))
+          (to-front p.world y (packets_of p.world.packets next.before) (packets_of p.world.packets next.behind)
+          (λ z i one. before-apart p k next st.rising y z sent i one)))
 
       rest-sent : (z : Packet) → In rest z → In p.world.packets z
-      rest-sent z i = let c = (rest-later p k ks first st.rising z i).0 in in-get p.world.packets c.number z c.is
-
-      wants-of : (y : Packet) → slice_get p.world.packets k ≡ Some y → Wants p.world (y ∷ rest)
-      wants-of y sent = subst (λ q. Wants p.world q) (queue-is y sent) st.wants
+      rest-sent z i = let c = rest-comes p k next st.rising z i in in-get p.world.packets c.number z c.is
 
       -- what a step leads to
       record Next (v : World) (q : List Packet) (y : Packet) : Type 0 where
@@ -130,7 +145,7 @@ module _ (most : ℕ) (head : Head) where
       module _ (y : Packet) (sent : slice_get p.world.packets k ≡ Some y) (b x : ℕ) (r : Request) (c : Client) (at : slice_get p.world.clients b ≡ Some c)
           (is : y ≡ from_host b (call x r)) where
         head-is : Comes p (from_host b (call x r))
-        head-is = record { number = k; fresh = subst (λ ns. In ns k) (sym first) (inl refl); is = sent ∙ ap Some is }
+        head-is = record { number = k; fresh = next-in p k next; is = sent ∙ ap Some is }
 
         order : InOrder p b c
         order = ordered most head p st.lawful st.order b c at
@@ -149,9 +164,9 @@ module _ (most : ℕ) (head : Head) where
           held = λ f own found. (tags most head p st.lawful b c at (st.on b c at)).held f own found;
           holder = λ f own found. holder b c at f own found;
           alone = alone;
-          wants = λ f want w. wanting f want (st.wants b x f c r want at (subst (λ q. In q (from_host b (call x r))) (sym (queue-is y sent)) (inl is)) w);
-          unreplied = λ f want w t a asks i inc. order.unreplied x f r want t a head-is w asks (rest-later p k ks first st.rising (to_host b
-              (reply t.xid a)) i).0 inc;
+          wants = λ f want w. wanting f want (st.wants b x f c r want at (subst (λ z. In (queue p) z) is (in-head y sent)) w);
+          unreplied = λ f want w t a asks i inc. order.unreplied x f r want t a head-is w asks (rest-comes p k next st.rising (to_host b
+              (reply t.xid a)) i) inc;
         }
           where
             wanting : (f : ℕ) (want : Want) → WantedNow p.world.server.table.rows (queue p) b c x f want → Wanting p.world.server.table.rows b c f want
@@ -202,9 +217,13 @@ module _ (most : ℕ) (head : Head) where
                     of_row n.0 idle n.1 (ap caches n.2.mode ∙ kind) (subst (λ m. greater_mode m want.mode ≡ m) (sym n.2.mode) mode) least-now
                 whose true e =
                     let same : host ≡ b = same-number host b e in
-                    let low : z ≤ x = least x r (subst (λ n. In (queue p) (from_host n (call x r))) (sym same) (subst (λ ps. In ps (from_host b
-                    (call x r))) (sym (queue-is y sent)) (inl is))) in
-                    let c2 = rest-later p k ks first st.rising (from_host b (call z q)) (subst (λ n. In rest (from_host n (call z q))) same i) in
+                    let low : z ≤ x = least x r (subst (λ n. In (queue p) (from_host n (call x r))) (sym same) (subst (λ z. In (queue p) z) is
+                    (in-head y sent))) in
+                    let c2 = rest-later p k next st.rising y (from_host b (call z q)) sent (record {
+                      sender = ap (λ (o : Packet). o.sender) (sym is);
+                      to =
+                          ap (λ (o : Packet). o.to) (sym is);
+                    }) (subst (λ n. In rest (from_host n (call z q))) same i) in
                     let high : x < z = order.rises x z r q head-is c2.0 c2.1 in
                     absurd (omega arith)
 
@@ -310,8 +329,8 @@ module _ (most : ℕ) (head : Head) where
             unreplied : (l : Ticket) → c.ticket ≡ Some l → PutsOff h0 c l y → ⊥
             unreplied l asks o =
                 (ordered most head p st.lawful st.order h0 c at).unreplied x f r want l (Reply.Refused c.who.inc o.status)
-                (rest-later p k ks first st.rising (from_host h0 (call x r)) i).0 w asks
-                (head-comes p k ks first st.rising (to_host h0 (reply l.xid (Reply.Refused c.who.inc o.status))) (sent ∙ ap Some o.is)) refl
+                (rest-comes p k next st.rising (from_host h0 (call x r)) i) w asks
+                (head-comes p k next st.rising (to_host h0 (reply l.xid (Reply.Refused c.who.inc o.status))) (sent ∙ ap Some o.is)) refl
         still-wanted x f r want i w (of_row row idle found kind mode least) = of_row row (still-idle t.client.call refl) found kind mode least-now
           where
             still-idle : (o : Option UnderWay) → t.client.call ≡ o → t.client.call ≡ None
@@ -322,8 +341,8 @@ module _ (most : ℕ) (head : Head) where
             low =
                 let there : Asked p.world.packets c.who.host x r = subst (λ n. Asked p.world.packets n x r) (sym own.here) (rest-sent (from_host h0
                 (call x r)) i) in
-                (own.mail.asked x r c.who there ((ordered most head p st.lawful st.order h0 c at).asks x r (rest-later p k ks first st.rising
-                (from_host h0 (call x r)) i).0)).number refl
+                (own.mail.asked x r c.who there ((ordered most head p st.lawful st.order h0 c at).asks x r (rest-comes p k next st.rising
+                (from_host h0 (call x r)) i))).number refl
 
             least-now : (v : ℕ) (o : Request) → In (rest ++ map (from_host h0) t.sends) (from_host h0 (call v o)) → x ≤ v
             least-now v o j = from (in-append rest (map (from_host h0) t.sends) (from_host h0 (call v o)) j)
@@ -507,19 +526,18 @@ module _ (most : ℕ) (head : Head) where
       lead : (v : World) (more : List Packet) (y : Packet) → slice_get p.world.packets k ≡ Some y → step p.world (Event.Deliver k) ≡ v
           → v.packets ≡ p.world.packets ++ more → Next v (rest ++ more) y → Delivered
       lead v more y sent to packets n =
-          let q : queue (play p (Event.Deliver k)) ≡ rest ++ more = queue-next p k ks first st.rising more (ap (λ (w : World). w.packets) to ∙ packets) in
+          let q : queue (play p (Event.Deliver k)) ≡ rest ++ more = queue-next p k next st.rising more (ap (λ (w : World). w.packets) to ∙ packets) in
           goes_on_so (record {
             lawful = played-quiet most head p (Event.Deliver k) tt refl st.lawful;
             rising = played-rising p (Event.Deliver k) st.rising;
             serves = delivered-phase p.world k (slice_get p.world.packets k) ∙ st.serves;
             on = subst (λ (w : World). (host : ℕ) (c : Client) → slice_get w.clients host ≡ Some c → c.attached ≡ true) (sym to) n.on;
-            order = ordered-on most head p k ks st.lawful st.rising first st.on st.order;
+            order = ordered-on most head p k next st.lawful st.rising st.on st.order;
             wants = subst (λ (w : World). Wants w (queue (play p (Event.Deliver k)))) (sym to) (subst (λ z. Wants v z) (sym q) n.wants);
             none_renew = subst (λ (w : World). NoneRenew w) (sym to) n.none_renew;
           })
           (subst (λ (w : World). Moves p.world w (queue p) (queue (play p (Event.Deliver k)))) (sym to)
-          (subst (λ z. Moves p.world v (queue p) z) (sym q)
-          (subst (λ z. Moves p.world v z (rest ++ more)) (sym (queue-is y sent)) n.moves)))
+          (subst (λ z. Moves p.world v (queue p) z) (sym q) (moves-from p.world v (queue p) (y ∷ rest) (rest ++ more) (queue-front y sent) n.moves)))
           (subst (λ (w : World). Paused p.world w) (sym to) n.pauses)
 
       to-host-is : (y : Packet) (h : ℕ) → slice_get p.world.packets k ≡ Some y → y.to ≡ Party.Client h → y ≡ to_host h y.message
@@ -575,7 +593,7 @@ module _ (most : ℕ) (head : Head) where
               (in-get p.world.packets k y sent)) hears (λ v has none. none-some v (sym was ∙ has)) is)
 
           by : Delivery p.world k (step p.world (Event.Deliver k)) → Delivered
-          by (no_packet none is) = let y = head-packet p k ks first st.rising in none-some y.0 (sym none ∙ y.1)
+          by (no_packet none is) = let y = head-packet p k next st.rising in none-some y.0 (sym none ∙ y.1)
           by (at_server y sent to is) = at-a-server y sent to is (holds.sent y (in-get p.world.packets k y sent))
           by (at_host h y c t sent to at hears is) = hears-it y h c t sent to at hears is c.call t.client.call refl refl
           by (ignored h y c sent to at hears is) = silent y h sent to (λ d there. ap (λ (z : Client). hear z k y.message) (some-same d c (sym there

@@ -1,19 +1,21 @@
 -- The two frames of a delivery. Either a call is answered in it, or: what is clear stays so, and who is put off has a clear way; and where no row
 -- is in the way at its start, there is always one who hopes.
-use Rattle.std.proofs.Common.{◌≡◌, ◌≤◌, ◌<◌, ◌⊎◌, ℕ, ◌==◌, Bool, true, false, zero, suc, List, [], ◌∷◌, Some, refl, sym, subst, ap, ◌∙◌, arith, inl, inr}
+use Rattle.std.proofs.Common.{◌≡◌, ◌≤◌, ◌<◌, ◌⊎◌, ℕ, ◌==◌, Bool, true, false, List, [], ◌∷◌, Some, refl, sym, subst, ◌∙◌, arith, inl, inr}
 use Rattle.std.specs.Prelude.{slice_get}
 use Rattle.nq_base.specs.declared.Event.{Event}
 use Rattle.nq_base.specs.declared.Row.{Row}
 use Rattle.nq_model.specs.Client.{Client, UnderWay}
-use Rattle.nq_model.specs.Lines.{Play, play, play_flow, flow_first}
+use Rattle.nq_model.specs.Lines.{Play, play}
 use Rattle.nq_model.specs.Message.{Packet}
 use Rattle.nq_model.specs.World.{Head, World}
 use Rattle.law_progress.specs.CalmRoundsAreLawful.{IsLawful}
-use Rattle.law_progress.proofs.CalmIsLawful.{flows}
+use Rattle.law_progress.proofs.CalmIsLawful.{played-quiet}
 use Rattle.law_rounds.specs.RoundsEndQuiet.{IsQuiet}
+use Rattle.law_rounds.specs.WholeRounds.{play_order, IsInOrder}
+use Rattle.law_rounds.proofs.Next.{next-among}
 use Rattle.walk_client.proofs.ClientMoves.{none-some}
 use Rattle.walk_server.proofs.Rows.{same-number, number-same}
-use Rattle.law_open_calls.proofs.Counts.{open_calls, first-less, flow-less}
+use Rattle.law_open_calls.proofs.Counts.{open_calls, order-less}
 use Rattle.law_open_calls.proofs.Delivery.{State, Delivered, fewer, goes_on_so, delivers}
 use Rattle.law_open_calls.proofs.UnderWay.{Moves, all_move, all_but, Paused}
 use Rattle.law_open_calls.proofs.Hope.{file_of_call, access_of_call, Hopeful, told, waits, vacated, Passes, goes, hoped, InWay, Clear}
@@ -102,32 +104,22 @@ module _ (most : ℕ) (head : Head) (F : World → List Packet → Type 0) (move
     answered : open_calls p.world.clients < count → Ends p count
     stands : State most head p → F p.world (queue p) → Ends p count
 
-  ends-flow : (n : ℕ) (p : Play) → State most head p → F p.world (queue p) → Ends (play_flow n p) (open_calls p.world.clients)
-  ends-flow zero p st f = stands st f
-  ends-flow (suc n) p st f = first p.fresh refl (ends-flow n)
+  pub order-ends : (order : List ℕ) (p : Play) → IsInOrder order p → State most head p → F p.world (queue p)
+      → Ends (play_order order p) (open_calls p.world.clients)
+  order-ends [] p in_order st f = stands st f
+  order-ends (k ∷ order) p in_order st f = by (delivers most head p st k (next-among p.world.packets p.fresh k in_order.0)) (order-ends order)
     where
-      again : (k : ℕ) (ks : List ℕ) → (e : p.fresh ≡ k ∷ ks) → ((q : Play) → State most head q → F q.world (queue q)
-          → Ends (play_flow n q) (open_calls q.world.clients)) → Delivered most head p st k ks e
-          → Ends (play_flow n (play p (Event.Deliver k))) (open_calls p.world.clients)
-      again k ks e rec (fewer less) =
-          let l = flows most head 1 p st.lawful in
-          let one : flow_first p.fresh p ≡ play p (Event.Deliver k) = ap (λ fs. flow_first fs p) e in
-          let later = flow-less most head n (play p (Event.Deliver k)) (subst (λ (q : Play). IsLawful most head q) one l) in
-          answered (omega arith)
-      again k ks e rec (goes_on_so next m s) =
-          let l = flows most head 0 p st.lawful in
-          let one : open_calls (play p (Event.Deliver k)).world.clients ≤ open_calls p.world.clients = first-less most head (k ∷ ks) p l in
-          widen one (rec (play p (Event.Deliver k)) next (moves p.world (play p (Event.Deliver k)).world (queue p) (queue (play p (Event.Deliver k))) m s f))
-        where
-          widen : {q : Play} → open_calls (play p (Event.Deliver k)).world.clients ≤ open_calls p.world.clients
-              → Ends q (open_calls (play p (Event.Deliver k)).world.clients) → Ends q (open_calls p.world.clients)
-          widen less (answered a) = answered (omega arith)
-          widen less (stands s g) = stands s g
+      l : IsLawful most head (play p (Event.Deliver k))
+      l = played-quiet most head p (Event.Deliver k) tt refl st.lawful
 
-      first : (fs : List ℕ) → p.fresh ≡ fs → ((q : Play) → State most head q → F q.world (queue q) → Ends (play_flow n q) (open_calls q.world.clients))
-          → Ends (play_flow n (flow_first fs p)) (open_calls p.world.clients)
-      first [] e rec = rec p st f
-      first (k ∷ ks) e rec = again k ks e rec (delivers most head p st k ks e)
+      widen : {q : Play} → open_calls (play p (Event.Deliver k)).world.clients ≤ open_calls p.world.clients
+          → Ends q (open_calls (play p (Event.Deliver k)).world.clients) → Ends q (open_calls p.world.clients)
+      widen less (answered a) = answered (omega arith)
+      widen less (stands s g) = stands s g
 
-  pub flow-ends : (n : ℕ) (p : Play) → State most head p → F p.world (queue p) → Ends (play_flow n p) (open_calls p.world.clients)
-  flow-ends = ends-flow
+      by : Delivered most head p st k (next-among p.world.packets p.fresh k in_order.0) → ((q : Play) → IsInOrder order q → State most head q
+          → F q.world (queue q) → Ends (play_order order q) (open_calls q.world.clients))
+          → Ends (play_order order (play p (Event.Deliver k))) (open_calls p.world.clients)
+      by (fewer less) rec = answered (let later = order-less most head order (play p (Event.Deliver k)) l in omega arith)
+      by (goes_on_so next m s) rec = widen (order-less most head (k ∷ []) p st.lawful) (rec (play p (Event.Deliver k)) in_order.1 next
+          (moves p.world (play p (Event.Deliver k)).world (queue p) (queue (play p (Event.Deliver k))) m s f))

@@ -1,5 +1,5 @@
 -- What the frames of a delivery rest on: the queues of all hosts are in line, no tag is later than its row's, and what a request does at the server.
-use Rattle.std.proofs.Common.{◌≡◌, ◌<◌, ℕ, true, false, List, [], ◌∷◌, Option, Some, None, length, refl, sym, subst, ap, ◌∙◌, arith}
+use Rattle.std.proofs.Common.{◌≡◌, ◌<◌, ℕ, true, false, [], Option, Some, None, length, refl, sym, subst, ap, ◌∙◌, arith}
 use Rattle.std.specs.Prelude.{slice_get}
 use Rattle.nq_base.specs.declared.Event.{Event}
 use Rattle.nq_base.specs.declared.Request.{Request}
@@ -20,6 +20,7 @@ use Rattle.law_calm.proofs.HostsBelow.{get-below}
 use Rattle.law_progress.specs.CalmRoundsAreLawful.{IsLawful}
 use Rattle.law_progress.proofs.CalmEnds.{IsRising}
 use Rattle.walk_server.proofs.RowChanges.{HasUniqueKeys}
+use Rattle.law_rounds.proofs.Next.{IsNext}
 use Rattle.law_queues.proofs.InLine.{InLine, not-answered-yet}
 use Rattle.law_queues.proofs.QueueRounds.{delivered-queue, round-queue}
 use Rattle.law_queues.proofs.StepNumbers.{NoVacated}
@@ -55,11 +56,11 @@ module _ (most : ℕ) (head : Head) where
         rises = λ x y r s first later less. line.rising x y r s first later less;
       }
 
-  pub ordered-on : (p : Play) (k : ℕ) (ks : List ℕ) → IsLawful most head p → IsRising p → p.fresh ≡ k ∷ ks
+  pub ordered-on : (p : Play) (k : ℕ) → IsNext p k → IsLawful most head p → IsRising p
       → ((host : ℕ) (c : Client) → slice_get p.world.clients host ≡ Some c → c.attached ≡ true) → AllInLine p → AllInLine (play p (Event.Deliver k))
   unfolding AllInLine
-  ordered-on p k ks l rises first on all host few =
-      (delivered-queue most head host p k ks first (record { lawful = l; rises = rises; on = on host; below = few; line = all host few })).line
+  ordered-on p k next l rises on all host few =
+      (delivered-queue most head host p k next (record { lawful = l; rises = rises; on = on host; below = few; line = all host few })).line
 
   pub begins : (p : Play) → IsLawful most head p → IsRising p → p.fresh ≡ []
       → ((host : ℕ) (c : Client) → slice_get p.world.clients host ≡ Some c → (c.attached ≡ true) × (c.ticket ≡ None)) → AllInLine (play_rounds 1 p)

@@ -7,6 +7,7 @@ pub mod CallRequests
 pub mod HearerAt
 pub mod Counts
 pub mod UnderWay
+pub mod Front
 pub mod Delivery
 pub mod Frames
 pub mod FoundLeases
@@ -16,8 +17,10 @@ pub mod Ticks
 pub mod Rounds
 pub mod FourRounds
 pub mod AllAnswered
+pub mod WholeStored
 pub mod InTime
 pub mod SomeCalls
+pub mod SomeOrders
 pub mod ServedBy
 pub mod Given
 pub mod Theorem

@@ -1,5 +1,5 @@
 -- What is under way in a play, in order; and what a delivery makes of it.
-use Rattle.std.proofs.Common.{◌≡◌, ◌≤◌, ◌<◌, ℕ, ◌+◌, ◌-◌, ◌++◌, zero, suc, List, [], ◌∷◌, Option, Some, None, length, refl, sym, subst, ap, ◌∙◌, arith, inl, inr}
+use Rattle.std.proofs.Common.{◌≡◌, ◌≤◌, ◌<◌, ◌⊎◌, ℕ, ◌+◌, ◌-◌, ◌==◌, ◌++◌, not, if◌then◌else◌, Bool, true, false, zero, suc, List, [], ◌∷◌, Option, Some, None, length, refl, sym, subst, ap, ◌∙◌, arith, inl, inr}
 use Rattle.std.specs.Prelude.{slice_get}
 use Rattle.std.proofs.lemmas.List.{length-append}
 use Rattle.nq_base.specs.declared.Event.{Event}
@@ -9,7 +9,9 @@ use Rattle.nq_model.specs.World.{step}
 use Rattle.law_deliveries.proofs.Items.{Rise, without-first}
 use Rattle.law_progress.proofs.CalmEnds.{IsRising}
 use Rattle.law_progress.proofs.PacketsCome.{Comes, get-kept}
-use Rattle.walk_run.proofs.Packets.{In}
+use Rattle.law_rounds.proofs.Next.{OneLink, IsNext, next-in, rise-behind}
+use Rattle.walk_run.proofs.Packets.{In, in-append, in-left, in-right}
+use Rattle.walk_server.proofs.Rows.{same-number}
 
 -- the packets of some numbers, in order
 abbrev pub with_packet : Option Packet → List Packet → List Packet
@@ -97,46 +99,100 @@ two-lists ps (k ∷ ks) ms = by (two-lists ps ks ms) (slice_get ps k)
     by again None = again
     by again (Some q) = ap (λ ys. q ∷ ys) again
 
-module _ (p : Play) (k : ℕ) (ks : List ℕ) (first : p.fresh ≡ k ∷ ks) (rising : IsRising p) where
-  rises : Rise 0 (length p.world.packets) (k ∷ ks)
-  rises = subst (λ ns. Rise 0 (length p.world.packets) ns) first rising
+-- what is left where a number among rising ones is taken out
+without-next : (low high k : ℕ) (before behind : List ℕ) → Rise low high (before ++ k ∷ behind) → without k (before ++ k ∷ behind) ≡ before ++ behind
+without-next low high k [] behind r = without-first k high behind r.1
+without-next low high k (j ∷ before) behind r = by (j == k) refl (without-next (j + 1) high k before behind r.1)
+  where
+    above : (low : ℕ) (before : List ℕ) → Rise low high (before ++ k ∷ behind) → low ≤ k
+    above low [] r = r.0
+    above low (i ∷ before) r = let first : low ≤ i = r.0 in let rest = above (i + 1) before r.1 in omega arith
 
-  -- the first packet, and the others
+    by : (b : Bool) → (j == k) ≡ b → without k (before ++ k ∷ behind) ≡ before ++ behind
+        → (if not b then j ∷ without k (before ++ k ∷ behind) else without k (before ++ k ∷ behind)) ≡ j ∷ (before ++ behind)
+    by false e rest = ap (λ ns. j ∷ ns) rest
+    by true e rest = let same = same-number j k e in let late = above (j + 1) before r.1 in absurd (omega arith)
+
+rise-without : (low high k : ℕ) (before behind : List ℕ) → Rise low high (before ++ k ∷ behind) → Rise low high (before ++ behind)
+rise-without low high k [] behind r = by behind r.1
+  where
+    by : (ns : List ℕ) → Rise (k + 1) high ns → Rise low high ns
+    by [] rest = let first : low ≤ k = r.0 in omega arith
+    by (n ∷ ns) rest = (let first : low ≤ k = r.0 in let second = rest.0 in omega arith, rest.1)
+rise-without low high k (j ∷ before) behind r = (r.0, rise-without (j + 1) high k before behind r.1)
+
+module _ (p : Play) (k : ℕ) (next : IsNext p k) (rising : IsRising p) where
+  rises : Rise 0 (length p.world.packets) (next.before ++ k ∷ next.behind)
+  rises = subst (λ ns. Rise 0 (length p.world.packets) ns) next.split rising
+
+  -- the next packet
   pub head-packet : (y : Packet) × (slice_get p.world.packets k ≡ Some y)
-  head-packet = there-is p.world.packets k (rise-below 0 (length p.world.packets) (k ∷ ks) rises k (inl refl)).1 (slice_get p.world.packets k) refl
+  head-packet =
+      let low = (rise-below 0 (length p.world.packets) (next.before ++ k ∷ next.behind) rises k (in-right next.before (k ∷ next.behind) k (inl refl))).1 in
+      there-is p.world.packets k low (slice_get p.world.packets k) refl
 
-  pub rest : List Packet
-  rest = packets_of p.world.packets ks
+  -- those before it, and those behind it
+  pub queue-parts : (y : Packet) → slice_get p.world.packets k ≡ Some y
+      → queue p ≡ packets_of p.world.packets next.before ++ y ∷ packets_of p.world.packets next.behind
+  queue-parts y is =
+      ap (packets_of p.world.packets) next.split
+      ∙ two-lists p.world.packets next.before (k ∷ next.behind)
+      ∙ ap (λ o. packets_of p.world.packets next.before ++ with_packet o (packets_of p.world.packets next.behind)) is
 
-  pub queue-head : (y : Packet) → slice_get p.world.packets k ≡ Some y → queue p ≡ y ∷ packets_of p.world.packets ks
-  queue-head y is = ap (packets_of p.world.packets) first ∙ ap (λ o. with_packet o (packets_of p.world.packets ks)) is
+  pub rest-parts : packets_of p.world.packets (next.before ++ next.behind)
+      ≡ packets_of p.world.packets next.before ++ packets_of p.world.packets next.behind
+  rest-parts = two-lists p.world.packets next.before next.behind
 
-  -- the others have greater numbers
-  pub rest-later : (y : Packet) → In (packets_of p.world.packets ks) y → (c : Comes p y) × (k < c.number)
-  rest-later y i =
-      let h = in-numbers p.world.packets ks y i in
-      let late = (rise-below (k + 1) (length p.world.packets) ks rises.1 h.number h.among).0 in
-      (record { number = h.number; fresh = subst (λ ns. In ns h.number) (sym first) (inr h.among); is = h.is }, omega arith)
+  -- those before it are of other links
+  pub before-apart : (y z : Packet) → slice_get p.world.packets k ≡ Some y → In (packets_of p.world.packets next.before) z → OneLink z y → ⊥
+  before-apart y z sent i one = let h = in-numbers p.world.packets next.before z i in next.apart h.number z y h.among h.is sent one
+
+  left-fresh : (n : ℕ) → In (next.before ++ next.behind) n → In p.fresh n
+  left-fresh n i = subst (λ ns. In ns n) (sym next.split) (by (in-append next.before next.behind n i))
+    where
+      by : In next.before n ⊎ In next.behind n → In (next.before ++ k ∷ next.behind) n
+      by (inl early) = in-left next.before (k ∷ next.behind) n early
+      by (inr late) = in-right next.before (k ∷ next.behind) n (inr late)
+
+  -- the others are under way, and those of its link have greater numbers
+  pub rest-comes : (z : Packet) → In (packets_of p.world.packets (next.before ++ next.behind)) z → Comes p z
+  rest-comes z i =
+      let h = in-numbers p.world.packets (next.before ++ next.behind) z i in
+      record { number = h.number; fresh = left-fresh h.number h.among; is = h.is }
+
+  pub rest-later : (y z : Packet) → slice_get p.world.packets k ≡ Some y → OneLink z y → In (packets_of p.world.packets (next.before ++ next.behind)) z
+      → (c : Comes p z) × (k < c.number)
+  rest-later y z sent one i = by (in-numbers p.world.packets (next.before ++ next.behind) z i)
+    where
+      by : HasNumber p.world.packets (next.before ++ next.behind) z → (c : Comes p z) × (k < c.number)
+      by h = which (in-append next.before next.behind h.number h.among)
+        where
+          which : In next.before h.number ⊎ In next.behind h.number → (c : Comes p z) × (k < c.number)
+          which (inl early) = absurd (next.apart h.number z y early h.is sent one)
+          which (inr late) = (
+            record { number = h.number; fresh = left-fresh h.number h.among; is = h.is },
+            rise-behind 0 (length p.world.packets) k h.number next.before next.behind rises late,
+          )
 
   pub head-comes : (y : Packet) → slice_get p.world.packets k ≡ Some y → Comes p y
-  head-comes y is = record { number = k; fresh = subst (λ ns. In ns k) (sym first) (inl refl); is = is }
+  head-comes y is = record { number = k; fresh = next-in p k next; is = is }
 
-  -- after the delivery of the first the others are under way, and behind them what the step sent
+  -- after its delivery the others are under way, and behind them what the step sent
   pub queue-next : (more : List Packet) → (step p.world (Event.Deliver k)).packets ≡ p.world.packets ++ more
-      → queue (play p (Event.Deliver k)) ≡ packets_of p.world.packets ks ++ more
+      → queue (play p (Event.Deliver k)) ≡ packets_of p.world.packets (next.before ++ next.behind) ++ more
   queue-next more is =
       let all = (step p.world (Event.Deliver k)).packets in
-      let w = without k p.fresh in
-      let left : without k p.fresh ≡ ks = ap (without k) first ∙ without-first k (length p.world.packets) ks rises.1 in
+      let ks = next.before ++ next.behind in
+      let left_over : without k p.fresh ≡ ks = ap (without k) next.split ∙ without-next 0 (length p.world.packets) k next.before next.behind rises in
       let many : length all ≡ length p.world.packets + length more = ap (λ (ps : List Packet). length ps) is ∙ length-append p.world.packets more in
       let new : added p.world (step p.world (Event.Deliver k)) ≡ numbers_from (length p.world.packets) (length more) = ap (numbers_from
       (length p.world.packets)) (less (length all) (length p.world.packets) (length more) many) in
       two-lists all (without k p.fresh) (added p.world (step p.world (Event.Deliver k)))
-      ∙ ap (λ ns. packets_of all ns ++ packets_of all (added p.world (step p.world (Event.Deliver k)))) left
+      ∙ ap (λ ns. packets_of all ns ++ packets_of all (added p.world (step p.world (Event.Deliver k)))) left_over
       ∙ ap (λ ns. packets_of all ks ++ packets_of all ns) new
       ∙ ap (λ ps. packets_of ps ks ++ packets_of ps (numbers_from (length p.world.packets) (length more))) is
       ∙ ap (λ ys. ys ++ packets_of (p.world.packets ++ more) (numbers_from (length p.world.packets) (length more))) (longer-packets p.world.packets more ks
-      (k + 1) rises.1)
+      0 (rise-without 0 (length p.world.packets) k next.before next.behind rises))
       ∙ ap (λ ys. packets_of p.world.packets ks ++ ys) (from-numbers (p.world.packets ++ more) more (length p.world.packets) (get-behind p.world.packets more))
     where
       less : (a b c : ℕ) → a ≡ b + c → a - b ≡ c

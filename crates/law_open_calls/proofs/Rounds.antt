@@ -4,20 +4,21 @@ use Rattle.std.specs.Prelude.{slice_get}
 use Rattle.nq_base.specs.declared.Event.{Event}
 use Rattle.nq_model.specs.Client.{Client, UnderWay, Ticket}
 use Rattle.nq_model.specs.ClientStep.{client_tick}
-use Rattle.nq_model.specs.Lines.{Play, play_flow, flow_first, play_hosts, play_rounds}
+use Rattle.nq_model.specs.Lines.{Play, play_hosts, play_rounds}
 use Rattle.nq_model.specs.Message.{Packet, call}
 use Rattle.nq_model.specs.Profile.{patience}
 use Rattle.nq_model.specs.World.{Head, World}
 use Rattle.law_calm.proofs.ClientCount.{client-count}
 use Rattle.law_calm.proofs.HostsBelow.{get-below}
-use Rattle.law_deliveries.specs.DeliveryEnds.{enough_deliveries}
 use Rattle.law_progress.specs.CalmRoundsAreLawful.{IsLawful}
 use Rattle.law_progress.specs.QuietDeliveries.{recovers}
 use Rattle.law_progress.proofs.Attaching.{tick-stays}
-use Rattle.law_progress.proofs.CalmEnds.{IsRising, played-rising, hosts-rising, flow-rising, lawful-delivers}
-use Rattle.law_progress.proofs.CalmIsLawful.{flows, round}
-use Rattle.law_progress.proofs.QuietFlows.{delivered-phase}
-use Rattle.law_rounds.specs.RoundsEndQuiet.{IsQuiet, all_delivered}
+use Rattle.law_progress.proofs.CalmEnds.{IsRising, played-rising, hosts-rising}
+use Rattle.law_progress.proofs.CalmIsLawful.{round}
+use Rattle.law_rounds.specs.RoundsEndQuiet.{IsQuiet}
+use Rattle.law_rounds.specs.WholeRounds.{play_order, IsInOrder}
+use Rattle.law_rounds.proofs.Orders.{order-lawful, order-rising}
+use Rattle.law_rounds.proofs.RecoveryRounds.{order-phase}
 use Rattle.walk_client.proofs.ClientFacts.{Alone}
 use Rattle.walk_client.proofs.ClientMoves.{some-same, none-some}
 use Rattle.walk_run.proofs.Packets.{In, not-both}
@@ -29,7 +30,7 @@ use Rattle.law_open_calls.proofs.Begin.{round-tickets, round-wants, none-renew}
 use Rattle.law_open_calls.proofs.Counts.{open_calls}
 use Rattle.law_open_calls.proofs.Delivery.{State}
 use Rattle.law_open_calls.proofs.UnderWay.{Moves, Paused}
-use Rattle.law_open_calls.proofs.Frames.{HopesOrClear, SomeHopes, first-moves, second-moves, NoWay, no-hope, clear-none, none-clear, Ends, answered, stands, flow-ends}
+use Rattle.law_open_calls.proofs.Frames.{HopesOrClear, SomeHopes, first-moves, second-moves, NoWay, no-hope, clear-none, none-clear, Ends, answered, stands, order-ends}
 use Rattle.law_open_calls.proofs.Given.{begins}
 use Rattle.law_open_calls.proofs.Hope.{PutsOff, Hopeful, Clear, safe-none}
 use Rattle.law_open_calls.proofs.Queue.{packets_of, queue, in-comes}
@@ -86,95 +87,85 @@ early-or-late (d ∷ clients) = by d.call refl (nat_le d.pause d.now) refl (earl
     by (Some u) has true e rest = inl (0, d, u, refl, has, is-at-most d.pause d.now e)
     by (Some u) has false e rest = later (λ v other. is-not-at-most d.pause d.now e) rest
 
--- the phase goes through a delivery
-flow-phase : (n : ℕ) (p : Play) → recovers (play_flow n p).world.server.phase ≡ recovers p.world.server.phase
-flow-phase zero p = refl
-flow-phase (suc n) p = flow-phase n (flow_first p.fresh p) ∙ first p.fresh
-  where
-    first : (ks : List ℕ) → recovers (flow_first ks p).world.server.phase ≡ recovers p.world.server.phase
-    first [] = refl
-    first (k ∷ ks) = delivered-phase p.world k (slice_get p.world.packets k)
-
 module _ (most : ℕ) (head : Head) where
   abbrev pub St : Play → Type 0
   St p = State most head p
 
-  -- what is known of a play at the beginning of a round
-  pub record Round (r : Play) : Type 0 where
+  -- what is known of a play at the beginning of a round, in which packets arrive in this order
+  pub record Round (order : List ℕ) (r : Play) : Type 0 where
     pub lawful : IsLawful most head r
     pub rising : IsRising r
     pub serves : recovers r.world.server.phase ≡ false
-    pub quiet : (host : ℕ) (c : Client) → slice_get (all_delivered r).world.clients host ≡ Some c → IsQuiet c
+    pub in_order : IsInOrder order r
+    pub arrives : (play_order order r).fresh ≡ []
+    pub quiet : (host : ℕ) (c : Client) → slice_get (play_order order r).world.clients host ≡ Some c → IsQuiet c
 
-  module _ (r : Play) (k : Round r) where
-    pub done-lawful : IsLawful most head (play_flow (enough_deliveries r) r)
-    done-lawful = flows most head (enough_deliveries r) r k.lawful
+  module _ (order : List ℕ) (r : Play) (k : Round order r) where
+    pub done-lawful : IsLawful most head (play_order order r)
+    done-lawful = order-lawful most head order r k.lawful
 
-    pub done-fresh : (play_flow (enough_deliveries r) r).fresh ≡ []
-    done-fresh = lawful-delivers most head r k.lawful k.rising
+    pub done-fresh : (play_order order r).fresh ≡ []
+    done-fresh = k.arrives
 
-    pub done-serves : recovers (play_flow (enough_deliveries r) r).world.server.phase ≡ false
-    done-serves = flow-phase (enough_deliveries r) r ∙ k.serves
+    pub done-serves : recovers (play_order order r).world.server.phase ≡ false
+    done-serves = order-phase order r ∙ k.serves
 
     -- what ticks make of each client
     pub after-ticks : (P Q : Client → Type 0) → ((c : Client) → P c → Q (client_tick c (c.now + 1)).client) → (host : ℕ) → ((c : Client)
-        → slice_get (play_flow (enough_deliveries r) r).world.clients host ≡ Some c → P c) → (c : Client)
-        → slice_get (play_rounds 1 (play_flow (enough_deliveries r) r)).world.clients host ≡ Some c → Q c
+        → slice_get (play_order order r).world.clients host ≡ Some c → P c) → (c : Client)
+        → slice_get (play_rounds 1 (play_order order r)).world.clients host ≡ Some c → Q c
     after-ticks P Q ticks host all c at =
-        let next = round most head (play_flow (enough_deliveries r) r) done-lawful in
-        let inside = get-below (play_rounds 1 (play_flow (enough_deliveries r) r)).world.clients host c at in
-        let many : length (play_rounds 1 (play_flow (enough_deliveries r) r)).world.clients ≡ head.hosts = ap (λ
-        (w : World). length w.clients) next.is_run ∙ client-count head (play_rounds 1 (play_flow (enough_deliveries r) r)).events in
-        let before : length (play_flow (enough_deliveries r) r).world.clients ≡ head.hosts = ap (λ (w : World). length w.clients) done-lawful.is_run
-        ∙ client-count head (play_flow (enough_deliveries r) r).events in
-        ticked most head host P Q ticks (play_flow (enough_deliveries r) r) (omega arith) all c at
+        let next = round most head (play_order order r) done-lawful in
+        let inside = get-below (play_rounds 1 (play_order order r)).world.clients host c at in
+        let many : length (play_rounds 1 (play_order order r)).world.clients ≡ head.hosts = ap (λ
+        (w : World). length w.clients) next.is_run ∙ client-count head (play_rounds 1 (play_order order r)).events in
+        let before : length (play_order order r).world.clients ≡ head.hosts = ap (λ (w : World). length w.clients) done-lawful.is_run
+        ∙ client-count head (play_order order r).events in
+        ticked most head host P Q ticks (play_order order r) (omega arith) all c at
 
     pub record Rested (c : Client) : Type 0 where
       pub alone : Alone c
       pub on : c.attached ≡ true
 
-    pub next-state : recovers (play_rounds 1 (play_flow (enough_deliveries r) r)).world.server.phase ≡ false
-        → St (play_rounds 1 (play_flow (enough_deliveries r) r))
+    pub next-state : recovers (play_rounds 1 (play_order order r)).world.server.phase ≡ false
+        → St (play_rounds 1 (play_order order r))
     next-state serves = record {
-      lawful = round most head (play_flow (enough_deliveries r) r) done-lawful;
-      rising = played-rising (play_hosts (length (play_flow (enough_deliveries r) r).world.clients) 0 (play_flow
-          (enough_deliveries r) r)) Event.ServerTick (hosts-rising (length (play_flow (enough_deliveries r) r).world.clients) 0 (play_flow
-          (enough_deliveries r) r) (flow-rising (enough_deliveries r) r k.rising));
+      lawful = round most head (play_order order r) done-lawful;
+      rising = played-rising (play_hosts (length (play_order order r).world.clients) 0 (play_order order r)) Event.ServerTick (hosts-rising (length (play_order order r).world.clients) 0 (play_order order r) (order-rising order r k.rising));
       serves = serves;
       on = λ host c at. after-ticks Rested (λ (d : Client). d.attached ≡ true) (λ d s. tick-stays d s.alone s.on) host (λ d there. record {
         alone =
-            ((run-holds head (play_flow (enough_deliveries r) r).events).clients host d (subst (λ
+            ((run-holds head (play_order order r).events).clients host d (subst (λ
             (u : World). slice_get u.clients host ≡ Some d) done-lawful.is_run there)).alone;
         on = (k.quiet host d there).attached;
       }) c at;
-      order = begins most head (play_flow (enough_deliveries r) r) done-lawful (flow-rising (enough_deliveries r) r k.rising) done-fresh (λ host c at.
+      order = begins most head (play_order order r) done-lawful (order-rising order r k.rising) done-fresh (λ host c at.
           ((k.quiet host c at).attached, (k.quiet host c at).no_request));
-      wants = round-wants most head (play_flow (enough_deliveries r) r) done-lawful done-fresh (λ host c at. (k.quiet host c at).no_request) serves;
-      none_renew = none-renew most head (play_flow (enough_deliveries r) r) done-lawful done-fresh (λ host c at. (k.quiet host c at).no_request) serves;
+      wants = round-wants most head (play_order order r) done-lawful done-fresh (λ host c at. (k.quiet host c at).no_request) serves;
+      none_renew = none-renew most head (play_order order r) done-lawful done-fresh (λ host c at. (k.quiet host c at).no_request) serves;
     }
 
     -- nothing under way at its beginning puts anything off
-    none-off : (host : ℕ) (c : Client) (t : Ticket) (y : Packet) → In (queue (play_rounds 1 (play_flow (enough_deliveries r) r))) y → PutsOff host c t y → ⊥
-    none-off host c t y i o =
-        let f = round-tickets (play_flow (enough_deliveries r) r) done-fresh (λ host c at. (k.quiet host c at).no_request) y (in-comes (play_rounds 1
-        (play_flow (enough_deliveries r) r)) y i) in
-        not-both f.host host (call f.ticket.xid f.ticket.request) _ (sym f.is ∙ o.is)
+    none-off : (host : ℕ) (c : Client) (t : Ticket) (y : Packet) → In (queue (play_rounds 1 (play_order order r))) y → PutsOff host c t y → ⊥
+    none-off host c t y i off =
+        let f = round-tickets (play_order order r) done-fresh (λ host c at. (k.quiet host c at).no_request) y (in-comes (play_rounds 1
+        (play_order order r)) y i) in
+        not-both f.host host (call f.ticket.xid f.ticket.request) _ (sym f.is ∙ off.is)
 
     -- so whoever does not pause hopes
-    pub early-hopes : (host : ℕ) (c : Client) (u : UnderWay) → slice_get (play_rounds 1 (play_flow (enough_deliveries r) r)).world.clients host ≡ Some c
-        → c.call ≡ Some u → c.pause ≤ c.now → Hopeful (play_rounds 1 (play_flow (enough_deliveries r) r)).world.clients (queue (play_rounds 1 (play_flow
-        (enough_deliveries r) r))) host
+    pub early-hopes : (host : ℕ) (c : Client) (u : UnderWay) → slice_get (play_rounds 1 (play_order order r)).world.clients host ≡ Some c
+        → c.call ≡ Some u → c.pause ≤ c.now → Hopeful (play_rounds 1 (play_order order r)).world.clients (queue (play_rounds 1 (play_order order r))) host
     early-hopes host c u at has early = record {
       client = c;
       under = u;
       at = at;
       opened = has;
       unpaused = early;
-      safe = λ t asks. safe-none host c t (queue (play_rounds 1 (play_flow (enough_deliveries r) r))) (none-off host c t);
+      safe = λ t asks. safe-none host c t (queue (play_rounds 1 (play_order order r))) (none-off host c t);
     }
 
     -- and nobody pauses for more than one tick more
-    pub soon : (host : ℕ) (c : Client) (u : UnderWay) → slice_get (play_rounds 1 (play_flow (enough_deliveries r) r)).world.clients host ≡ Some c
+    pub soon : (host : ℕ) (c : Client) (u : UnderWay) → slice_get (play_rounds 1 (play_order order r)).world.clients host ≡ Some c
         → c.call ≡ Some u → c.pause ≤ c.now + 1
     soon host c u at has = (after-ticks (PausesFor patience) (PausesFor 1) ticks host (λ d there v open_then.
         ((k.quiet host d there).waits v open_then).1) c at) u has
@@ -190,39 +181,38 @@ module _ (most : ℕ) (head : Head) where
 
   -- ---- one delivery
 
-  module _ (r : Play) (k : Round r) (st : St r) where
+  module _ (order : List ℕ) (r : Play) (k : Round order r) (st : St r) where
     -- no row is in the way of those for whom the first frame stands
-    pub first-ends : (K L : ℕ → Type 0) → First K L r.world (queue r) → (open_calls (all_delivered r).world.clients < open_calls r.world.clients) ⊎ (((a : ℕ)
-        → K a → NoWay (all_delivered r).world a) × LateOf L (all_delivered r).world)
-    first-ends K L f = by (flow-ends most head (First K L) (first-goes K L) (enough_deliveries r) r st f)
+    pub first-ends : (K L : ℕ → Type 0) → First K L r.world (queue r) → (open_calls (play_order order r).world.clients < open_calls r.world.clients) ⊎ (((a : ℕ)
+        → K a → NoWay (play_order order r).world a) × LateOf L (play_order order r).world)
+    first-ends K L f = by (order-ends most head (First K L) (first-goes K L) order r k.in_order st f)
       where
-        by : Ends most head (First K L) (first-goes K L) (play_flow (enough_deliveries r) r) (open_calls r.world.clients)
-            → (open_calls (all_delivered r).world.clients < open_calls r.world.clients) ⊎ (((a : ℕ) → K a → NoWay (all_delivered r).world a)
-            × LateOf L (all_delivered r).world)
+        by : Ends most head (First K L) (first-goes K L) (play_order order r) (open_calls r.world.clients)
+            → (open_calls (play_order order r).world.clients < open_calls r.world.clients) ⊎ (((a : ℕ) → K a → NoWay (play_order order r).world a)
+            × LateOf L (play_order order r).world)
         by (answered less) = inl less
         by (stands s g) = inr ((λ a ka. none a (g.hopes a ka)), g.late)
           where
-            empty : queue (play_flow (enough_deliveries r) r) ≡ []
-            empty = ap (packets_of (play_flow (enough_deliveries r) r).world.packets) (done-fresh r k)
+            empty : queue (play_order order r) ≡ []
+            empty = ap (packets_of (play_order order r).world.packets) (done-fresh order r k)
 
-            none : (a : ℕ) → Hopeful (play_flow (enough_deliveries r) r).world.clients (queue (play_flow (enough_deliveries r) r)) a
-                ⊎ Clear true (play_flow (enough_deliveries r) r).world.server.table.rows (play_flow (enough_deliveries r) r).world.clients (queue
-                (play_flow (enough_deliveries r) r)) a → NoWay (play_flow (enough_deliveries r) r).world a
-            none a (inl x) = absurd (no-hope (play_flow (enough_deliveries r) r).world (queue (play_flow (enough_deliveries r) r)) k.quiet a x)
-            none a (inr x) = clear-none (play_flow (enough_deliveries r) r).world k.quiet true a (subst (λ q. Clear true (play_flow
-                (enough_deliveries r) r).world.server.table.rows (play_flow (enough_deliveries r) r).world.clients q a) empty x)
+            none : (a : ℕ) → Hopeful (play_order order r).world.clients (queue (play_order order r)) a
+                ⊎ Clear true (play_order order r).world.server.table.rows (play_order order r).world.clients (queue
+                (play_order order r)) a → NoWay (play_order order r).world a
+            none a (inl x) = absurd (no-hope (play_order order r).world (queue (play_order order r)) k.quiet a x)
+            none a (inr x) = clear-none (play_order order r).world k.quiet true a (subst (λ q. Clear true (play_order order r).world.server.table.rows (play_order order r).world.clients q a) empty x)
 
     -- where somebody hopes, and no row is in anybody's way, a call is answered
     pub second-ends : ((a : ℕ) → NoWay r.world a) → (h : ℕ) → Hopeful r.world.clients (queue r) h
-        → open_calls (all_delivered r).world.clients < open_calls r.world.clients
-    second-ends free h x = by (flow-ends most head SomeHopes (λ w v q q' m s. second-moves w v q q' m) (enough_deliveries r) r st (record {
+        → open_calls (play_order order r).world.clients < open_calls r.world.clients
+    second-ends free h x = by (order-ends most head SomeHopes (λ w v q q' m s. second-moves w v q q' m) order r k.in_order st (record {
       clear =
           λ a. none-clear r.world (queue r) false a (free a);
       host = h;
       hopes = x;
     }))
       where
-        by : Ends most head SomeHopes (λ w v q q' m s. second-moves w v q q' m) (play_flow (enough_deliveries r) r) (open_calls r.world.clients)
-            → open_calls (all_delivered r).world.clients < open_calls r.world.clients
+        by : Ends most head SomeHopes (λ w v q q' m s. second-moves w v q q' m) (play_order order r) (open_calls r.world.clients)
+            → open_calls (play_order order r).world.clients < open_calls r.world.clients
         by (answered less) = less
-        by (stands s g) = absurd (no-hope (play_flow (enough_deliveries r) r).world (queue (play_flow (enough_deliveries r) r)) k.quiet g.host g.hopes)
+        by (stands s g) = absurd (no-hope (play_order order r).world (queue (play_order order r)) k.quiet g.host g.hopes)

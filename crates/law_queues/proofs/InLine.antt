@@ -1,6 +1,6 @@
 -- The queue of one host in a calm delivery: its packets stand in the order of their numbers, each reply under way answers one that stood before all of
 -- them, and all behind the request under way is VACATED.
-use Rattle.std.proofs.Common.{◌≡◌, ◌≤◌, ◌<◌, ◌⊎◌, ℕ, ◌+◌, ◌++◌, List, [], ◌∷◌, Some, length, refl, sym, subst, ap, ◌∙◌, arith, inl, inr}
+use Rattle.std.proofs.Common.{◌≡◌, ◌≤◌, ◌<◌, ◌⊎◌, ℕ, ◌+◌, ◌++◌, List, [], Some, length, refl, sym, subst, ap, ◌∙◌, arith, inl, inr}
 use Rattle.std.specs.Prelude.{map, slice_get}
 use Rattle.nq_base.specs.declared.Event.{Event}
 use Rattle.nq_base.specs.declared.HostRow.{HostRow}
@@ -19,12 +19,13 @@ use Rattle.nq_model.specs.World.{World, from_host, after_client, after_server, s
 use Rattle.law_progress.proofs.CalmEnds.{IsRising}
 use Rattle.law_progress.proofs.PacketsCome.{Comes}
 use Rattle.law_rounds.proofs.LineSteps.{LineGoes, line_same, line_attached, line_decided}
+use Rattle.law_rounds.proofs.Next.{IsNext, next-in}
 use Rattle.walk_run.proofs.Packets.{In, in-get, Asked, Told, message-same, not-both}
 use Rattle.walk_run.proofs.Sequences.{Seqs}
 use Rattle.walk_run.proofs.ServerSays.{AllSaid, IsSaid, said_reply, said_error, said_notice}
 use Rattle.walk_run.proofs.Worlds.{IsAt, IsSent, by_host, by_server, get-set-same}
 use Rattle.walk_sends.proofs.Replies.{replies-are}
-use Rattle.law_queues.proofs.NewPackets.{get-mapped, WasOrNew, was, new, was-or-new, lower, behind-first}
+use Rattle.law_queues.proofs.NewPackets.{get-mapped, WasOrNew, was, new, was-or-new, lower, behind-next}
 use Rattle.law_queues.proofs.StepNumbers.{NoVacated, Sent}
 
 -- what the client of a host asks is under way
@@ -263,7 +264,7 @@ said-no-call ps q host x r (said_reply h y a e k) is = not-both host h _ _ (sym 
 said-no-call ps q host x r (said_error h y a e) is = not-both host h _ _ (sym is ∙ e)
 said-no-call ps q host x r (said_notice y row e) is = not-both host row.who.host _ _ (sym is ∙ e)
 
-module _ (host : ℕ) (p : Play) (k : ℕ) (rest : List ℕ) (first : p.fresh ≡ k ∷ rest) (rises : IsRising p) (line : InLine host p) (q0 : Packet)
+module _ (host : ℕ) (p : Play) (k : ℕ) (next : IsNext p k) (rises : IsRising p) (line : InLine host p) (q0 : Packet)
     (sent : slice_get p.world.packets k ≡ Some q0) (is_sent : IsSent q0) (to : q0.to ≡ Party.Server)
     (is : step p.world (Event.Deliver k) ≡ after_server p.world
     (receive p.world.server (sending_host q0.sender) (length p.world.packets) (datagram_of q0.message)))
@@ -294,7 +295,7 @@ module _ (host : ℕ) (p : Play) (k : ℕ) (rest : List ℕ) (first : p.fresh �
 
   -- the delivered packet, if it is the host's
   delivered-one : (x : ℕ) (r : Request) → q0 ≡ from_host host (call x r) → Asks p host x r
-  delivered-one x r same = record { number = k; fresh = subst (λ ns. In ns k) (sym first) (inl refl); is = sent ∙ ap Some same }
+  delivered-one x r same = record { number = k; fresh = next-in p k next; is = sent ∙ ap Some same }
 
   first-number : (x : ℕ) (r : Request) (same : q0 ≡ from_host host (call x r)) → (delivered-one x r same).number ≡ k
   unfolding delivered-one
@@ -306,12 +307,19 @@ module _ (host : ℕ) (p : Play) (k : ℕ) (rest : List ℕ) (first : p.fresh �
       (receive p.world.server (sending_host q0.sender) (length p.world.packets) (datagram_of q0.message)).sends server-packets
       (λ q i there x r same. said-no-call p.world.packets q host x r (said q (in-get _ i q there)) same)
 
-  -- it stood before all others
+  -- it was sent before all others of the host
+  sent-before : (x y : ℕ) (r s : Request) (same : q0 ≡ from_host host (call x r)) (b : Asks (play p (Event.Deliver k)) host y s)
+      → k < (asks-then y s b).0.number
+  sent-before x y r s same b =
+      let o = asks-then y s b in
+      behind-next p k next rises o.0.number (from_host host (call y s)) q0 o.0.is sent
+      (record { sender = ap (λ (z : Packet). z.sender) (sym same); to = ap (λ (z : Packet). z.to) (sym same) })
+      (subst (λ n. In (delivered (Event.Deliver k) p.fresh) n) (sym o.1) o.2)
+
   stood-first : (x y : ℕ) (r s : Request) (same : q0 ≡ from_host host (call x r)) (b : Asks (play p (Event.Deliver k)) host y s) → x < y
   stood-first x y r s same b =
-      let o = asks-then y s b in
-      line.rising x y r s (delivered-one x r same) o.0
-      (let i = o.1 in let at = first-number x r same in let above = behind-first p k rest first rises b.number o.2 in omega arith)
+      line.rising x y r s (delivered-one x r same) (asks-then y s b).0
+      (let at = first-number x r same in let above = sent-before x y r s same b in omega arith)
 
   -- a reply under way: it was, or it answers the delivered packet
   data RepliesThen (x : ℕ) (a : Reply) : Type 0 where
@@ -367,9 +375,8 @@ module _ (host : ℕ) (p : Play) (k : ℕ) (rest : List ℕ) (first : p.fresh �
           who.inc = ap (λ (l : HostRow). l.inc) same in let kept = stays in absurd (omega arith)
       undecided x n r a sq (line_decided xid seq value who z v d by also here from inc above same fair) =
           let q_is : q0 ≡ from_host host (call xid z) = came-is q0 xid z is_sent to d ∙ ap (λ h. from_host h (call xid z)) (sym from ∙ sym here) in
-          let o = asks-then x r a in
-          let less = line.drawing xid x seq n z r (delivered-one xid z q_is) o.0
-          (let i = o.1 in let at = first-number xid z q_is in let up = behind-first p k rest first rises a.number o.2 in omega arith) also sq in
+          let less = line.drawing xid x seq n z r (delivered-one xid z q_is) (asks-then x r a).0
+          (let at = first-number xid z q_is in let up = sent-before xid x z r q_is a in omega arith) also sq in
           let seq_is : (host_row (receive p.world.server (sending_host q0.sender) (length p.world.packets) (datagram_of q0.message)).server.kept host).seq ≡
           seq = ap (λ (l : HostRow). l.seq) same in
           omega arith

@@ -1,5 +1,5 @@
 -- What is under way after an event was under way before it, or was sent in it: each with its place.
-use Rattle.std.proofs.Common.{◌≡◌, ◌≤◌, ◌<◌, ◌⊎◌, ℕ, ◌+◌, ◌-◌, ◌==◌, ◌++◌, not, true, zero, suc, List, [], ◌∷◌, Some, length, refl, sym, subst, ap, ◌∙◌, arith, inl, inr}
+use Rattle.std.proofs.Common.{◌≡◌, ◌≤◌, ◌<◌, ◌⊎◌, ℕ, ◌+◌, ◌-◌, ◌==◌, ◌++◌, not, true, zero, suc, List, [], ◌∷◌, Some, length, refl, sym, ap, ◌∙◌, arith, inl, inr}
 use Rattle.std.specs.Prelude.{map, slice_get}
 use Rattle.nq_base.specs.declared.Event.{Event}
 use Rattle.nq_model.specs.Lines.{Play, play, delivered, numbers_from, added}
@@ -12,6 +12,7 @@ use Rattle.walk_client.proofs.ClientMoves.{some-same, none-some}
 use Rattle.walk_run.proofs.Members.{in-filter}
 use Rattle.walk_run.proofs.Packets.{In, in-append}
 use Rattle.walk_server.proofs.Rows.{number-same}
+use Rattle.law_rounds.proofs.Next.{OneLink, IsNext, sent-later}
 
 -- ---- lists by place
 
@@ -94,17 +95,18 @@ was-or-new p e more rising is q c = by (in-append (delivered e p.fresh) (added p
 pub lower : (p : Play) → IsRising p → (q : Packet) (b : Comes p q) → b.number < length p.world.packets
 lower p rising q b = (rise-bounds 0 (length p.world.packets) b.number p.fresh rising b.fresh).1
 
--- the least packet is delivered: what stays has a higher number
-pub behind-first : (p : Play) (k : ℕ) (rest : List ℕ) → p.fresh ≡ k ∷ rest → IsRising p → (n : ℕ) → In (delivered (Event.Deliver k) p.fresh) n → k < n
-behind-first p k rest first rising n i = by (subst (λ ns. In ns n) first old) (subst (λ ns. Rise 0 (length p.world.packets) ns) first rising)
+-- the next packet of a link is delivered: what stays of its link has a higher number
+pub behind-next : (p : Play) (k : ℕ) → IsNext p k → IsRising p → (n : ℕ) (a b : Packet) → slice_get p.world.packets n ≡ Some a
+    → slice_get p.world.packets k ≡ Some b → OneLink a b → In (delivered (Event.Deliver k) p.fresh) n → k < n
+behind-next p k next rising n a b at there one i = by (sent-later p k next rising n a b kept.0 at there one)
   where
     kept : In p.fresh n × (not (n == k) ≡ true)
     kept = in-filter (λ m. not (m == k)) p.fresh n i
 
-    old : In p.fresh n
-    old = kept.0
-
-    by : (k ≡ n) ⊎ In rest n → Rise 0 (length p.world.packets) (k ∷ rest) → k < n
-    by (inl same) r = let yes : (n == k) ≡ true = number-same n k (sym same) in let no : not (n == k) ≡ true = kept.1 in let bad : not true ≡ true =
-        ap not (sym yes) ∙ no in absurd (cc)
-    by (inr j) r = let least = (rise-bounds (k + 1) (length p.world.packets) n rest r.1 j).0 in omega arith
+    by : (n ≡ k) ⊎ (k < n) → k < n
+    by (inr later) = later
+    by (inl same) =
+        let yes : (n == k) ≡ true = number-same n k same in
+        let no : not (n == k) ≡ true = kept.1 in
+        let bad : not true ≡ true = ap not (sym yes) ∙ no in
+        absurd (cc)

@@ -9,7 +9,7 @@ use Rattle.nq_model.specs.Client.{Client, ClientStep}
 use Rattle.nq_model.specs.ClientStep.{client_tick}
 use Rattle.nq_model.specs.Hear.{hear}
 use Rattle.nq_model.specs.Kept.{host_row}
-use Rattle.nq_model.specs.Lines.{Play, play, play_flow, flow_first, play_hosts, play_rounds}
+use Rattle.nq_model.specs.Lines.{Play, play, play_hosts, play_rounds}
 use Rattle.nq_model.specs.Message.{Message, Packet, call, reply, datagram_of}
 use Rattle.nq_model.specs.Server.{Server, ServerStep, quiet, keeping_with, with_table, to_host}
 use Rattle.nq_model.specs.ServerStep.{receive, tick, at_time, opens, ends_writing}
@@ -24,6 +24,7 @@ use Rattle.law_requests.proofs.WorldSequences.{run-draws}
 use Rattle.law_rounds.proofs.Coming.{Delivery, no_packet, at_server, at_host, ignored, no_client, delivery}
 use Rattle.law_rounds.proofs.Lines.{run-lined}
 use Rattle.law_rounds.proofs.LineSteps.{line-goes}
+use Rattle.law_rounds.proofs.Next.{IsNext}
 use Rattle.walk_client.proofs.ClientMoves.{none-some}
 use Rattle.walk_leases.proofs.TickLines.{tick-line}
 use Rattle.walk_run.proofs.Packets.{in-get, Told, not-both, message-same}
@@ -102,7 +103,7 @@ module _ (most : ℕ) (head : Head) (host : ℕ) where
 
   -- ---- a delivery
 
-  module _ (p : Play) (k : ℕ) (rest : List ℕ) (first : p.fresh ≡ k ∷ rest) (h : Queue p) where
+  module _ (p : Play) (k : ℕ) (next : IsNext p k) (h : Queue p) where
     after-lawful : IsLawful most head (play p (Event.Deliver k))
     after-lawful = played-quiet most head p (Event.Deliver k) tt refl h.lawful
 
@@ -149,7 +150,7 @@ module _ (most : ℕ) (head : Head) (host : ℕ) where
         (host_row (receive p.world.server (sending_host q.sender) (length p.world.packets) (datagram_of q.message)).server.kept host).inc =
         ap (λ (w : World). (host_row w.server.kept host).inc) is in
         let lines = (run-runs most head p.events h.lawful.bounds h.lawful.within).served.lines in
-        server-line host p k rest first h.rises h.line q sent ((holds p h.lawful).sent q i) to is (received-said p.world q i to (holds p h.lawful))
+        server-line host p k next h.rises h.line q sent ((holds p h.lawful).sent q i) to is (received-said p.world q i to (holds p h.lawful))
         (line-goes p.world.server (sending_host q.sender) (length p.world.packets) (datagram_of q.message) host
         (ap (λ (u : World). length u.server.kept.hosts) h.lawful.is_run ∙ lines))
         (sym kept ∙ after ∙ sym before)
@@ -196,18 +197,6 @@ module _ (most : ℕ) (head : Head) (host : ℕ) where
                 at-own q c t sent (to ∙ ap Party.Client (sym one)) (subst (λ n. slice_get p.world.clients n ≡ Some c) (sym one) at) hears
                 (is ∙ ap (λ n. after_client p.world n t) (sym one))
             case false differs = at-other h0 t (λ same. let yes : (host == h0) ≡ true = number-same host h0 same in absurd (cc)) is
-
-  -- the least packet is delivered, or none
-  pub first-queue : (p : Play) → Queue p → Queue (flow_first p.fresh p)
-  first-queue p h = by p.fresh refl
-    where
-      by : (ks : List ℕ) → p.fresh ≡ ks → Queue (flow_first ks p)
-      by [] e = h
-      by (k ∷ rest) e = delivered-queue p k rest e h
-
-  pub flow-queue : (n : ℕ) (p : Play) → Queue p → Queue (play_flow n p)
-  flow-queue zero p h = h
-  flow-queue (suc n) p h = flow-queue n (flow_first p.fresh p) (first-queue p h)
 
   -- ---- ticks
 

@@ -1,4 +1,4 @@
--- In a calm network each request under way is answered in the delivery in which it comes, so after the third delivery there is none.
+-- In whole rounds each request under way is answered in the delivery in which it comes, so after the third delivery there is none.
 use Rattle.std.proofs.Common.{◌≡◌, ◌≢◌, ◌≤◌, ◌<◌, ◌⊎◌, ℕ, ◌+◌, ◌==◌, Bool, true, false, zero, suc, List, [], ◌∷◌, Option, Some, None, length, refl, sym, subst, ap, ◌∙◌, arith, inl, inr}
 use Rattle.std.specs.Prelude.{map, slice_get}
 use Rattle.std.proofs.lemmas.List.{length-append}
@@ -23,8 +23,8 @@ use Rattle.law_deliveries.specs.DeliveryEnds.{enough_deliveries}
 use Rattle.law_progress.specs.CalmRound.{calm_round, calm_rounds}
 use Rattle.law_progress.specs.CalmRoundsAreLawful.{IsLawful}
 use Rattle.law_progress.proofs.PacketsCome.{Comes}
-use Rattle.law_progress.proofs.CalmEnds.{IsRising, lawful-delivers}
-use Rattle.law_progress.proofs.CalmIsLawful.{played-quiet, flows, calm-round, rounds}
+use Rattle.law_progress.proofs.AllAttached.{rounds-more}
+use Rattle.law_progress.proofs.CalmIsLawful.{played-quiet}
 use Rattle.law_progress.proofs.QuietFlows.{grown}
 use Rattle.walk_client.proofs.ClientMoves.{some-same, none-some}
 use Rattle.walk_client.proofs.StepCases.{heard-cases}
@@ -33,10 +33,13 @@ use Rattle.walk_run.proofs.Steps.{step-changes}
 use Rattle.walk_run.proofs.Worlds.{IsAt, Holds, get-set-other, set-there, to-told, run-holds}
 use Rattle.walk_server.proofs.Rows.{same-number, number-same}
 use Rattle.law_rounds.specs.RoundsEndQuiet.{IsSmall}
+use Rattle.law_rounds.specs.WholeRounds.{play_order, whole_round, whole_rounds}
 use Rattle.law_rounds.proofs.Asking.{AnswersTicket, asks-answered}
+use Rattle.law_rounds.proofs.CalmOrders.{calm_orders, calms-are, calm-count}
 use Rattle.law_rounds.proofs.ClientTickets.{TicketIs, kept, resent, fresh, LastDrawn, Renewed, tick-renews, reply-renews, notice-renews}
 use Rattle.law_rounds.proofs.Coming.{in-map, keeps-coming, adds-coming, which-comes, Delivery, no_packet, at_server, at_host, ignored, no_client, delivery}
 use Rattle.law_rounds.proofs.Lines.{run-lined}
+use Rattle.law_rounds.proofs.Orders.{order-lawful, whole-lawful}
 
 -- ---- few events
 
@@ -67,6 +70,20 @@ round-small p s =
 pub rounds-small : (count : ℕ) (p : Play) → IsSmall (calm_rounds count p) → IsSmall p
 rounds-small zero p s = s
 rounds-small (suc count) p s = flow-small (enough_deliveries p) p (round-small p (rounds-small count (calm_round p) s))
+
+pub order-small : (order : List ℕ) (p : Play) → IsSmall (play_order order p) → IsSmall p
+order-small [] p s = s
+order-small (k ∷ order) p s = small-before p (Event.Deliver k) (order-small order (play p (Event.Deliver k)) s)
+
+pub whole-small : (order : List ℕ) (p : Play) → IsSmall (whole_round order p) → IsSmall (play_order order p)
+unfolding whole_round
+whole-small order p s =
+    let q = play_order order p in
+    hosts-small (length q.world.clients) 0 q (small-before (play_hosts (length q.world.clients) 0 q) Event.ServerTick s)
+
+pub wholes-small : (orders : List (List ℕ)) (p : Play) → IsSmall (whole_rounds orders p) → IsSmall p
+wholes-small [] p s = s
+wholes-small (order ∷ orders) p s = order-small order p (whole-small order p (wholes-small orders (whole_round order p) s))
 
 -- ---- a reply that counts is heard
 
@@ -356,13 +373,11 @@ module _ (most : ℕ) (head : Head) (host : ℕ) where
 
   -- ---- rounds
 
-  flow-covers : (due n : ℕ) (p : Play) → IsLawful most head p → IsSmall (play_flow n p) → Covered due p → Covered due (play_flow n p)
-  flow-covers due zero p l small all = all
-  flow-covers due (suc n) p l small all = flow-covers due n (flow_first p.fresh p) (flows most head 1 p l) small (first p.fresh (flow-small (suc n) p small))
-    where
-      first : (ks : List ℕ) → IsSmall p → Covered due (flow_first ks p)
-      first [] s = all
-      first (k ∷ ks) s = delivered-covers p l k due s all
+  order-covers : (due : ℕ) (order : List ℕ) (p : Play) → IsLawful most head p → IsSmall (play_order order p) → Covered due p → Covered due (play_order order p)
+  order-covers due [] p l small all = all
+  order-covers due (k ∷ order) p l small all =
+      let first = small-before p (Event.Deliver k) (order-small order (play p (Event.Deliver k)) small) in
+      order-covers due order (play p (Event.Deliver k)) (played-quiet most head p (Event.Deliver k) tt refl l) small (delivered-covers p l k due first all)
 
   none-comes : (p : Play) (q : Packet) → Comes p q → p.fresh ≡ [] → ⊥
   none-comes p q c none = subst (λ ns. In ns c.number) none c.fresh
@@ -383,13 +398,13 @@ module _ (most : ℕ) (head : Head) (host : ℕ) where
       by (inl under) = inl under
       by (inr late) = inr (omega arith)
 
-  pub round-covers : (due : ℕ) (p : Play) → IsLawful most head p → host < head.hosts → IsSmall (play_flow (enough_deliveries p) p) → Covered (due + 1) p → Covered due (calm_round p)
-  unfolding calm_round after_server
-  round-covers due p l below small all =
-      let q = play_flow (enough_deliveries p) p in
-      let lq = flows most head (enough_deliveries p) p l in
+  pub whole-covers : (due : ℕ) (order : List ℕ) (p : Play) → IsLawful most head p → host < head.hosts → IsSmall (play_order order p) → Covered (due + 1) p → Covered due (whole_round order p)
+  unfolding whole_round after_server
+  whole-covers due order p l below small all =
+      let q = play_order order p in
+      let lq = order-lawful most head order p l in
       let many : length q.world.clients ≡ head.hosts = ap (λ (w : World). length w.clients) lq.is_run ∙ client-count head q.events in
-      let delivered = flow-covers (due + 1) (enough_deliveries p) p l small all in
+      let delivered = order-covers (due + 1) order p l small all in
       let r = play_hosts (length q.world.clients) 0 q in
       let ticked = hosts-tick due (length q.world.clients) 0 q lq (omega arith) (omega arith) delivered in
       passes-server due r ticked
@@ -412,34 +427,41 @@ module _ (most : ℕ) (head : Head) (host : ℕ) where
       let past = ((run-holds head p.events).clients host c there).alone.asking.ticketed t has in
       inr (let earlier = past.past in omega arith)
 
-  -- from the third calm round on each is under way at its start
-  pub rounds-cover : (more : ℕ) (p : Play) → IsLawful most head p → host < head.hosts → IsSmall (calm_rounds more p) → Covered 0 p → Covered 0 (calm_rounds more p)
-  rounds-cover zero p l below small all = all
-  rounds-cover (suc more) p l below small all =
-      rounds-cover more (calm_round p) (calm-round most head p l) below small
-      (round-covers 0 p l below (round-small p (rounds-small more (calm_round p) small)) (wider 0 p all))
+  -- from the third whole round on each is under way at its start
+  pub wholes-cover : (orders : List (List ℕ)) (p : Play) → IsLawful most head p → host < head.hosts → IsSmall (whole_rounds orders p) → Covered 0 p → Covered 0 (whole_rounds orders p)
+  wholes-cover [] p l below small all = all
+  wholes-cover (order ∷ orders) p l below small all =
+      wholes-cover orders (whole_round order p) (whole-lawful most head order p l) below small
+      (whole-covers 0 order p l below (whole-small order p (wholes-small orders (whole_round order p) small)) (wider 0 p all))
+
+  pub later-covers : (orders : List (List ℕ)) (p : Play) → 2 ≤ length orders → IsLawful most head p → host < head.hosts → IsSmall (whole_rounds orders p) → Covered 0 (whole_rounds orders p)
+  later-covers [] p many l below small = absurd (omega arith)
+  later-covers (first ∷ []) p many l below small = absurd (omega arith)
+  later-covers (first ∷ second ∷ orders) p many l below small =
+      let p1 = whole_round first p in
+      let l1 = whole-lawful most head first p l in
+      let two : IsSmall (play_order second p1) = whole-small second p1 (wholes-small orders (whole_round second p1) small) in
+      let one : IsSmall (play_order first p) = whole-small first p (order-small second p1 two) in
+      wholes-cover orders (whole_round second p1) (whole-lawful most head second p1 l1) below small
+      (whole-covers 0 second p1 l1 below two (whole-covers 1 first p l below one (first-covers p l)))
 
   pub third-covers : (more : ℕ) (p : Play) → IsLawful most head p → host < head.hosts → IsSmall (calm_rounds more (calm_rounds 2 p)) → Covered 0 (calm_rounds more (calm_rounds 2 p))
   third-covers more p l below small =
-      let two = rounds-small more (calm_rounds 2 p) small in
-      let one = rounds-small 1 (calm_round p) two in
-      let l1 = calm-round most head p l in
-      rounds-cover more (calm_rounds 2 p) (rounds most head 2 p l) below small
-      (round-covers 0 (calm_round p) l1 below (round-small (calm_round p) two) (round-covers 1 p l below (round-small p one) (first-covers p l)))
+      let orders = calm_orders (2 + more) p in
+      let is : whole_rounds orders p ≡ calm_rounds more (calm_rounds 2 p) = sym (calms-are (2 + more) p) ∙ rounds-more 2 more p in
+      let many = calm-count (2 + more) p in
+      subst (λ (q : Play). Covered 0 q) is (later-covers orders p (omega arith) l below (subst (λ (q : Play). IsSmall q) (sym is) small))
 
   -- so after its delivery no request is under way
-  pub none-asks : (p : Play) → IsLawful most head p → IsRising p → IsSmall (play_flow (enough_deliveries p) p) → Covered 0 p → (c : Client) → slice_get (play_flow (enough_deliveries p) p).world.clients host ≡ Some c → c.ticket ≡ None
-  none-asks p l rising small all c at = by c.ticket refl
+  pub none-asks : (order : List ℕ) (p : Play) → IsLawful most head p → (play_order order p).fresh ≡ [] → IsSmall (play_order order p) → Covered 0 p → (c : Client) → slice_get (play_order order p).world.clients host ≡ Some c → c.ticket ≡ None
+  none-asks order p l none small all c at = by c.ticket refl
     where
-      q : Play
-      q = play_flow (enough_deliveries p) p
-
-      there : slice_get (run head (play_flow (enough_deliveries p) p).events).clients host ≡ Some c
-      there = subst (λ (u : World). slice_get u.clients host ≡ Some c) (flows most head (enough_deliveries p) p l).is_run at
+      there : slice_get (run head (play_order order p).events).clients host ≡ Some c
+      there = subst (λ (u : World). slice_get u.clients host ≡ Some c) (order-lawful most head order p l).is_run at
 
       by : (o : Option Ticket) → c.ticket ≡ o → c.ticket ≡ None
-      by None none = none
+      by None free = free
       by (Some t) has =
-          let late = over-due 0 (play_flow (enough_deliveries p) p) (lawful-delivers most head p l rising) (flow-covers 0 (enough_deliveries p) p l small all) c t at has in
-          let recent = (calls-go-on head (play_flow (enough_deliveries p) p).events host c there).recent t has in
+          let late = over-due 0 (play_order order p) none (order-covers 0 order p l small all) c t at has in
+          let recent = (calls-go-on head (play_order order p).events host c there).recent t has in
           absurd (omega arith)

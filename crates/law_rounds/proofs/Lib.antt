@@ -7,6 +7,9 @@ pub mod ClientTickets
 pub mod Lines
 pub mod Asking
 pub mod Coming
+pub mod Next
+pub mod Orders
+pub mod CalmOrders
 pub mod Flows
 pub mod Dues
 pub mod Quiet

@@ -1,4 +1,4 @@
--- From the third calm round on all clients are quiet once all is delivered.
+-- From the third round on all clients are quiet once all has arrived.
 use Rattle.std.proofs.Common.{◌≡◌, ◌<◌, ◌⊎◌, ℕ, ◌+◌, Bool, true, false, zero, suc, List, [], ◌∷◌, Option, Some, None, is_some, length, refl, sym, subst, ap, ◌∙◌, arith, inl, inr}
 use Rattle.std.specs.Prelude.{slice_get, slice_index_or}
 use Rattle.nq_base.specs.declared.Call.{Call}
@@ -16,13 +16,16 @@ use Rattle.law_progress.specs.CalmRound.{calm_rounds}
 use Rattle.law_progress.specs.CalmRoundsAreLawful.{IsLawful}
 use Rattle.law_progress.proofs.AllAttached.{rounds-more}
 use Rattle.law_progress.proofs.CalmEnds.{IsRising, rounds-rising, calmed-rising}
-use Rattle.law_progress.proofs.CalmIsLawful.{flows, rounds}
+use Rattle.law_progress.proofs.CalmIsLawful.{rounds}
 use Rattle.walk_client.proofs.ClientMoves.{none-some}
 use Rattle.walk_client.proofs.SettleCases.{IsSync, of_sync, of_put}
 use Rattle.walk_run.proofs.Worlds.{run-holds}
 use Rattle.law_rounds.specs.RoundsEndQuiet.{IsSmall, all_delivered, waits_to_store, IsQuiet, RoundsEndQuiet}
 use Rattle.law_rounds.proofs.Dues.{NoneDue, run-due}
-use Rattle.law_rounds.proofs.Flows.{Covered, flow-small, none-asks, third-covers}
+use Rattle.law_rounds.specs.WholeRounds.{play_order, whole_rounds, WholeRoundsEndQuiet}
+use Rattle.law_rounds.proofs.CalmOrders.{calm_order, delivered-is, calm-arrives}
+use Rattle.law_rounds.proofs.Flows.{Covered, flow-small, order-small, none-asks, later-covers, third-covers}
+use Rattle.law_rounds.proofs.Orders.{order-lawful, wholes-lawful}
 
 all-found : {A : Type 0} (P : A → Type 0) (xs : List A) → ((i : ℕ) (x : A) → slice_get xs i ≡ Some x → P x) → (k : ℕ) (d : A) → k < length xs → P (slice_index_or xs k d)
 all-found P [] given k d below = absurd (omega arith)
@@ -88,15 +91,30 @@ module _ (most : ℕ) (head : Head) where
       notices file None e = e
       notices file (Some n) e = absurd (due.noticed file n e)
 
-  -- all clients of a play whose requests come are so once all is delivered
+  -- all clients of a play whose requests come are so once all has arrived
+  pub order-ends-quiet : (order : List ℕ) (p : Play) → IsLawful most head p → (play_order order p).fresh ≡ [] → IsSmall (play_order order p) → ((host : ℕ) → host < head.hosts → Covered most head host 0 p) → (host : ℕ) (c : Client) → slice_get (play_order order p).world.clients host ≡ Some c → IsQuiet c
+  order-ends-quiet order p l none small covers host c at =
+      let lq = order-lawful most head order p l in
+      let below : host < head.hosts =
+      let inside = get-below (play_order order p).world.clients host c at in
+      let many : length (play_order order p).world.clients ≡ head.hosts = ap (λ (w : World). length w.clients) lq.is_run ∙ client-count head (play_order order p).events in
+      omega arith in
+      quiet-client (play_order order p) lq host c at (none-asks most head host order p l none small (covers host below) c at)
+
+  -- so it is in a calm delivery
   pub ends-quiet : (p : Play) → IsLawful most head p → IsRising p → IsSmall (all_delivered p) → ((host : ℕ) → host < head.hosts → Covered most head host 0 p) → (host : ℕ) (c : Client) → slice_get (all_delivered p).world.clients host ≡ Some c → IsQuiet c
   ends-quiet p l rising small covers host c at =
-      let lq = flows most head (enough_deliveries p) p l in
-      let below : host < head.hosts =
-      let inside = get-below (all_delivered p).world.clients host c at in
-      let many : length (all_delivered p).world.clients ≡ head.hosts = ap (λ (w : World). length w.clients) lq.is_run ∙ client-count head (all_delivered p).events in
-      omega arith in
-      quiet-client (all_delivered p) lq host c at (none-asks most head host p l rising small (covers host below) c at)
+      order-ends-quiet (calm_order p) p l (calm-arrives most head p l rising) (subst (λ (q : Play). IsSmall q) (delivered-is p) small) covers host c
+      (subst (λ (q : Play). slice_get q.world.clients host ≡ Some c) (delivered-is p) at)
+
+pub whole-rounds-end-quiet : WholeRoundsEndQuiet
+unfolding calmed
+whole-rounds-end-quiet most head events bounds within under_way orders order two whole none small =
+    let base = calmed head events under_way in
+    let l0 : IsLawful most head base = record { is_run = refl; bounds = bounds; within = within } in
+    let p = whole_rounds orders base in
+    all-found IsQuiet (play_order order p).world.clients (order-ends-quiet most head order p (wholes-lawful most head orders base l0) none small
+    (λ host below. later-covers most head host orders base two l0 below (order-small order p small)))
 
 pub rounds-end-quiet : RoundsEndQuiet
 unfolding calmed

@@ -4,7 +4,7 @@ use Rattle.std.specs.Prelude.{slice_get, slice_set}
 use Rattle.nq_base.specs.declared.Event.{Event}
 use Rattle.nq_model.specs.Client.{Client, ClientStep}
 use Rattle.nq_model.specs.ClientStep.{client_tick}
-use Rattle.nq_model.specs.Lines.{Play, play, play_flow, flow_first, play_hosts}
+use Rattle.nq_model.specs.Lines.{Play, play, play_hosts}
 use Rattle.nq_model.specs.Message.{datagram_of}
 use Rattle.nq_model.specs.Profile.{skew, write_slack}
 use Rattle.nq_model.specs.Server.{Phase, serving, recovering, Server, ServerStep, quiet, keeping_with, with_table}
@@ -13,32 +13,33 @@ use Rattle.nq_model.specs.Table.{Table}
 use Rattle.nq_model.specs.World.{Head, World, after_client, after_server, at_client, sending_host, step, run}
 use Rattle.law_calm.proofs.RowEnds.{recoveries-end-soon}
 use Rattle.law_leases.proofs.LeaseIntervals.{run-runs}
-use Rattle.law_deliveries.specs.DeliveryEnds.{calmed, enough_deliveries}
-use Rattle.law_progress.specs.CalmRound.{calm_round, calm_rounds}
+use Rattle.law_deliveries.specs.DeliveryEnds.{calmed}
 use Rattle.law_progress.specs.CalmRoundsAreLawful.{IsLawful}
 use Rattle.law_progress.specs.QuietDeliveries.{recovers}
 use Rattle.law_progress.proofs.Attaching.{tick-stays}
-use Rattle.law_progress.proofs.AllAttached.{rounds-more}
-use Rattle.law_progress.proofs.CalmEnds.{IsRising, round-rising, rounds-rising, calmed-rising}
-use Rattle.law_progress.proofs.CalmIsLawful.{played-quiet, flows, calm-round}
+use Rattle.law_progress.proofs.CalmEnds.{calmed-rising}
+use Rattle.law_progress.proofs.CalmIsLawful.{played-quiet}
 use Rattle.law_progress.proofs.QuietFlows.{delivered-phase}
 use Rattle.walk_run.proofs.Worlds.{get-set-same, get-set-other, run-holds}
 use Rattle.walk_server.proofs.Rows.{same-number, number-same}
 use Rattle.walk_server.proofs.ServerCases.{server-ticks}
 use Rattle.walk_server.proofs.ServerMoves.{receive-keeps, tick-moves}
 use Rattle.walk_server.proofs.Tests.{is-below, is-not-below}
-use Rattle.law_rounds.specs.RoundsEndQuiet.{IsSmall, all_delivered, IsQuiet}
+use Rattle.law_rounds.specs.RoundsEndQuiet.{IsSmall, IsQuiet}
 use Rattle.law_rounds.specs.RecoveriesEnd.{RecoveriesEnd}
+use Rattle.law_rounds.specs.WholeRounds.{play_order, whole_round, whole_rounds, AreWhole, WholeRecoveriesEnd}
+use Rattle.law_rounds.proofs.CalmOrders.{calm_orders, calms-are, calm-count, calms-are-whole}
 use Rattle.law_rounds.proofs.Coming.{Delivery, no_packet, at_server, at_host, ignored, no_client, delivery}
-use Rattle.law_rounds.proofs.Flows.{Covered, round-small, rounds-small, rounds-cover, third-covers}
+use Rattle.law_rounds.proofs.Flows.{Covered, whole-small, wholes-small, wholes-cover, later-covers}
 use Rattle.law_rounds.proofs.LastRows.{not-serving, run-ends}
-use Rattle.law_rounds.proofs.Quiet.{ends-quiet}
+use Rattle.law_rounds.proofs.Orders.{order-lawful, whole-lawful}
+use Rattle.law_rounds.proofs.Quiet.{order-ends-quiet}
 use Rattle.law_rounds.proofs.Recovering.{RecoversBy, AllAsleep, by-tick, goes-on-after, early, late, sleeps-on, quiet-sleeps}
 use Rattle.law_rounds.proofs.Sleeping.{Asleep, tick-sleeps}
 
 -- ---- clocks
 
-delivered-now : (w : World) (k : ℕ) → (step w (Event.Deliver k)).server.now ≡ w.server.now
+pub delivered-now : (w : World) (k : ℕ) → (step w (Event.Deliver k)).server.now ≡ w.server.now
 unfolding after_server after_client
 delivered-now w k = by (delivery w k)
   where
@@ -77,6 +78,35 @@ serves-on w k until heard last serves e =
     let yes : recovers (step w (Event.Deliver k)).server.phase ≡ true = ap recovers e in
     let no : recovers w.server.phase ≡ false = ap recovers serves in
     absurd (cc)
+
+-- ---- a server that serves goes on to
+
+pub order-phase : (order : List ℕ) (p : Play) → recovers (play_order order p).world.server.phase ≡ recovers p.world.server.phase
+order-phase [] p = refl
+order-phase (k ∷ order) p = order-phase order (play p (Event.Deliver k)) ∙ delivered-phase p.world k (slice_get p.world.packets k)
+
+hosts-server : (count h : ℕ) (p : Play) → (play_hosts count h p).world.server ≡ p.world.server
+hosts-server zero h p = refl
+hosts-server (suc count) h p = hosts-server count (h + 1) (play p (Event.ClientTick h)) ∙ client-server p.world h (slice_get p.world.clients h)
+
+tick-serves : (s : Server) (now : ℕ) → recovers s.phase ≡ false → recovers (tick s now).server.phase ≡ false
+tick-serves s now serves = by (tick s now).server.phase refl
+  where
+    by : (phase : Phase) → (tick s now).server.phase ≡ phase → recovers (tick s now).server.phase ≡ false
+    by serving is = ap recovers is
+    by (recovering until heard last) is = let yes : recovers s.phase ≡ true = ap recovers (before-tick s now until heard last is) in absurd (cc)
+
+serving-round : (order : List ℕ) (p : Play) → recovers p.world.server.phase ≡ false → recovers (whole_round order p).world.server.phase ≡ false
+unfolding whole_round after_server
+serving-round order p serves =
+    let q = play_order order p in
+    let r = play_hosts (length q.world.clients) 0 q in
+    let same : recovers r.world.server.phase ≡ recovers q.world.server.phase = ap (λ (s : Server). recovers s.phase) (hosts-server (length q.world.clients) 0 q) in
+    tick-serves r.world.server (r.world.server.now + 1) (same ∙ order-phase order p ∙ serves)
+
+pub serving-rounds : (orders : List (List ℕ)) (p : Play) → recovers p.world.server.phase ≡ false → recovers (whole_rounds orders p).world.server.phase ≡ false
+serving-rounds [] p serves = serves
+serving-rounds (order ∷ orders) p serves = serving-rounds orders (whole_round order p) (serving-round order p serves)
 
 stepped : (w : World) (host : ℕ) (t : ClientStep) → Asleep t.client × (t.client.attached ≡ true) → AllAsleep w → AllAsleep (after_client w host t)
 unfolding after_client
@@ -126,21 +156,13 @@ module _ (most : ℕ) (head : Head) (U : ℕ) where
             asleep = λ u hd la f. sleeps-on most head U p l until heard last is e.near e.past k all;
           }
 
-  flow-early : (n : ℕ) (p : Play) → IsLawful most head p → Early p → Early (play_flow n p)
-  flow-early zero p l e = e
-  flow-early (suc n) p l e = flow-early n (flow_first p.fresh p) (flows most head 1 p l) (first p.fresh)
-    where
-      first : (ks : List ℕ) → Early (flow_first ks p)
-      first [] = e
-      first (k ∷ ks) = early-goes p k l e
+  order-early : (order : List ℕ) (p : Play) → IsLawful most head p → Early p → Early (play_order order p)
+  order-early [] p l e = e
+  order-early (k ∷ order) p l e = order-early order (play p (Event.Deliver k)) (played-quiet most head p (Event.Deliver k) tt refl l) (early-goes p k l e)
 
-  flow-late : (n : ℕ) (p : Play) → IsLawful most head p → Late p → Late (play_flow n p)
-  flow-late zero p l e = e
-  flow-late (suc n) p l e = flow-late n (flow_first p.fresh p) (flows most head 1 p l) (first p.fresh)
-    where
-      first : (ks : List ℕ) → Late (flow_first ks p)
-      first [] = e
-      first (k ∷ ks) = late-goes p k l e
+  order-late : (order : List ℕ) (p : Play) → IsLawful most head p → Late p → Late (play_order order p)
+  order-late [] p l e = e
+  order-late (k ∷ order) p l e = order-late order (play p (Event.Deliver k)) (played-quiet most head p (Event.Deliver k) tt refl l) (late-goes p k l e)
 
   -- ---- ticks
 
@@ -195,50 +217,46 @@ module _ (most : ℕ) (head : Head) (U : ℕ) where
   hosts-now zero h p = refl
   hosts-now (suc count) h p = hosts-now count (h + 1) (play p (Event.ClientTick h)) ∙ ap (λ (s : Server). s.now) (client-server p.world h (slice_get p.world.clients h))
 
-  flow-now : (n : ℕ) (p : Play) → (play_flow n p).world.server.now ≡ p.world.server.now
-  flow-now zero p = refl
-  flow-now (suc n) p = flow-now n (flow_first p.fresh p) ∙ first p.fresh
-    where
-      first : (ks : List ℕ) → (flow_first ks p).world.server.now ≡ p.world.server.now
-      first [] = refl
-      first (k ∷ ks) = delivered-now p.world k
+  order-now : (order : List ℕ) (p : Play) → (play_order order p).world.server.now ≡ p.world.server.now
+  order-now [] p = refl
+  order-now (k ∷ order) p = order-now order (play p (Event.Deliver k)) ∙ delivered-now p.world k
 
-  pub round-now : (p : Play) → (calm_round p).world.server.now ≡ p.world.server.now + 1
-  unfolding calm_round after_server
-  round-now p =
-      let q = play_flow (enough_deliveries p) p in
+  pub round-now : (order : List ℕ) (p : Play) → (whole_round order p).world.server.now ≡ p.world.server.now + 1
+  unfolding whole_round after_server
+  round-now order p =
+      let q = play_order order p in
       let r = play_hosts (length q.world.clients) 0 q in
-      let a = flow-now (enough_deliveries p) p in
+      let a = order-now order p in
       let b = hosts-now (length q.world.clients) 0 q in
       let c = tick-now r.world.server (r.world.server.now + 1) in
       omega arith
 
-  rounds-now : (count : ℕ) (p : Play) → (calm_rounds count p).world.server.now ≡ p.world.server.now + count
-  rounds-now zero p = omega arith
-  rounds-now (suc count) p = let rest = rounds-now count (calm_round p) in let one = round-now p in omega arith
+  rounds-now : (orders : List (List ℕ)) (p : Play) → (whole_rounds orders p).world.server.now ≡ p.world.server.now + length orders
+  rounds-now [] p = omega arith
+  rounds-now (order ∷ orders) p = let rest = rounds-now orders (whole_round order p) in let one = round-now order p in omega arith
 
   -- ---- rounds
 
-  early-round : (p : Play) → IsLawful most head p → p.world.server.now < U → Early p → Early (calm_round p)
-  unfolding calm_round
-  early-round p l below e =
-      let q = play_flow (enough_deliveries p) p in
+  early-round : (order : List ℕ) (p : Play) → IsLawful most head p → p.world.server.now < U → Early p → Early (whole_round order p)
+  unfolding whole_round
+  early-round order p l below e =
+      let q = play_order order p in
       let r = play_hosts (length q.world.clients) 0 q in
-      let now = flow-now (enough_deliveries p) p in
+      let now = order-now order p in
       let later = hosts-now (length q.world.clients) 0 q in
-      early-server r (omega arith) (early-hosts (length q.world.clients) 0 q (flow-early (enough_deliveries p) p l e))
+      early-server r (omega arith) (early-hosts (length q.world.clients) 0 q (order-early order p l e))
 
-  late-after : (p : Play) → IsLawful most head p → Late (play_flow (enough_deliveries p) p) → Late (calm_round p)
-  unfolding calm_round
-  late-after p l e =
-      let q = play_flow (enough_deliveries p) p in
+  late-after : (order : List ℕ) (p : Play) → IsLawful most head p → Late (play_order order p) → Late (whole_round order p)
+  unfolding whole_round
+  late-after order p l e =
+      let q = play_order order p in
       let r = play_hosts (length q.world.clients) 0 q in
-      late-server r (late-hosts (length q.world.clients) 0 q (flows most head (enough_deliveries p) p l) e)
+      late-server r (late-hosts (length q.world.clients) 0 q (order-lawful most head order p l) e)
 
   abbrev State : Play → Type 0
   State p = Early p ⊎ Late p
 
-  -- where the rows are over once all is delivered, all clients sleep
+  -- where the rows are over once all has arrived, all clients sleep
   falls-asleep : (q : Play) → IsLawful most head q → ((host : ℕ) (c : Client) → slice_get q.world.clients host ≡ Some c → IsQuiet c) → U ≤ q.world.server.now → RecoversBy U q.world.server.phase → Late q
   falls-asleep q l quiet past near = record {
     near = near;
@@ -246,41 +264,45 @@ module _ (most : ℕ) (head : Head) (U : ℕ) where
     asleep = λ until heard last is host c at. quiet-sleeps most head U q l until heard last is near past host c at (quiet host c at);
   }
 
-  round-state : (p : Play) → IsLawful most head p → IsRising p → IsSmall (all_delivered p) → ((host : ℕ) → host < head.hosts → Covered most head host 0 p) → State p → State (calm_round p)
-  round-state p l rising small covers (inr e) = inr (late-after p l (flow-late (enough_deliveries p) p l e))
-  round-state p l rising small covers (inl e) = by (nat_lt p.world.server.now U) refl
+  round-state : (order : List ℕ) (p : Play) → IsLawful most head p → (play_order order p).fresh ≡ [] → IsSmall (play_order order p) → ((host : ℕ) → host < head.hosts → Covered most head host 0 p) → State p → State (whole_round order p)
+  round-state order p l none small covers (inr e) = inr (late-after order p l (order-late order p l e))
+  round-state order p l none small covers (inl e) = by (nat_lt p.world.server.now U) refl
     where
-      by : (b : Bool) → nat_lt p.world.server.now U ≡ b → State (calm_round p)
-      by true is = inl (early-round p l (is-below p.world.server.now U is) e)
+      by : (b : Bool) → nat_lt p.world.server.now U ≡ b → State (whole_round order p)
+      by true is = inl (early-round order p l (is-below p.world.server.now U is) e)
       by false is =
-          let q = all_delivered p in
-          let lq = flows most head (enough_deliveries p) p l in
-          let now = flow-now (enough_deliveries p) p in
+          let q = play_order order p in
+          let lq = order-lawful most head order p l in
+          let now = order-now order p in
           let high = is-not-below p.world.server.now U is in
-          let goes = flow-early (enough_deliveries p) p l e in
-          inr (late-after p l (falls-asleep q lq (ends-quiet most head p l rising small covers) (omega arith) goes.near))
-
-  rounds-state : (more : ℕ) (p : Play) → IsLawful most head p → IsRising p → IsSmall (calm_rounds more p) → ((host : ℕ) → host < head.hosts → Covered most head host 0 p) → State p → State (calm_rounds more p)
-  rounds-state zero p l rising small covers e = e
-  rounds-state (suc more) p l rising small covers e =
-      let one = rounds-small more (calm_round p) small in
-      rounds-state more (calm_round p) (calm-round most head p l) (round-rising p rising) small
-      (λ host below. rounds-cover most head host 1 p l below one (covers host below))
-      (round-state p l rising (round-small p one) covers e)
+          let goes = order-early order p l e in
+          inr (late-after order p l (falls-asleep q lq (order-ends-quiet most head order p l none small covers) (omega arith) goes.near))
 
   pub near-of : (p : Play) → State p → RecoversBy U p.world.server.phase
   near-of p (inl e) = e.near
   near-of p (inr e) = e.near
 
-  -- a recovery that a round does not end is to go on
-  pub round-goes-on : (p : Play) (until heard : ℕ) (last : Option Table) → (calm_round p).world.server.phase ≡ recovering until heard last → (calm_round p).world.server.now < until
-  unfolding calm_round after_server
-  round-goes-on p until heard last is =
-      let q = play_flow (enough_deliveries p) p in
+  -- a recovery that the last tick did not end is to go on
+  abbrev IsToGoOn : Play → Type 0
+  IsToGoOn p = (until heard : ℕ) (last : Option Table) → p.world.server.phase ≡ recovering until heard last → p.world.server.now < until
+
+  round-goes-on : (order : List ℕ) (p : Play) → IsToGoOn (whole_round order p)
+  unfolding whole_round after_server
+  round-goes-on order p until heard last is =
+      let q = play_order order p in
       let r = play_hosts (length q.world.clients) 0 q in
       let goes = goes-on-after r.world.server (r.world.server.now + 1) until heard last is in
       let now = tick-now r.world.server (r.world.server.now + 1) in
       omega arith
+
+  rounds-state : (orders : List (List ℕ)) (p : Play) → IsLawful most head p → AreWhole orders p → IsSmall (whole_rounds orders p) → ((host : ℕ) → host < head.hosts → Covered most head host 0 p) → State p → IsToGoOn p → State (whole_rounds orders p) × IsToGoOn (whole_rounds orders p)
+  rounds-state [] p l whole small covers e goes = (e, goes)
+  rounds-state (order ∷ orders) p l whole small covers e goes =
+      let one = wholes-small orders (whole_round order p) small in
+      rounds-state orders (whole_round order p) (whole-lawful most head order p l) whole.1 small
+      (λ host below. wholes-cover most head host (order ∷ []) p l below one (covers host below))
+      (round-state order p l whole.0 (whole-small order p one) covers e)
+      (round-goes-on order p)
 
 -- the end of a run's recovery, and the rows of its last table
 first-near : (most : ℕ) (head : Head) (p : Play) → IsLawful most head p → RecoversBy (p.world.server.now + (most + skew)) p.world.server.phase
@@ -292,46 +314,53 @@ first-near most head p l until heard last is =
     let ends = run-ends most head p.events l.bounds l.within until heard last there in
     (omega arith, λ file host row found. let before = ends file host row found in omega arith)
 
-serves-after : (most : ℕ) (head : Head) (base : Play) → IsLawful most head base → IsRising base → (n : ℕ) → most + (skew + write_slack) ≤ 2 + (n + 1) → IsSmall (calm_rounds (n + 1) (calm_rounds 2 base)) → (until heard : ℕ) (last : Option Table) → (calm_rounds (n + 1) (calm_rounds 2 base)).world.server.phase ≡ recovering until heard last → ⊥
-serves-after most head base l rising n enough small until heard last is =
+serves-after : (most : ℕ) (head : Head) (base : Play) → IsLawful most head base → (first second : List ℕ) (orders : List (List ℕ)) → most + (skew + write_slack) ≤ 2 + length orders → AreWhole (first ∷ second ∷ orders) base → IsSmall (whole_rounds (first ∷ second ∷ orders) base) → (until heard : ℕ) (last : Option Table) → (whole_rounds (first ∷ second ∷ orders) base).world.server.phase ≡ recovering until heard last → ⊥
+serves-after most head base l first second orders enough whole small until heard last is =
     let U = base.world.server.now + (most + skew) in
     let long = l.bounds.first_long in
     let short = l.bounds.first_short in
-    let l1 = calm-round most head base l in
-    let l2 = calm-round most head (calm_round base) l1 in
-    let now1 = round-now most head U base in
-    let now2 = round-now most head U (calm_round base) in
+    let p1 = whole_round first base in
+    let p2 = whole_round second p1 in
+    let l1 = whole-lawful most head first base l in
+    let l2 = whole-lawful most head second p1 l1 in
+    let now1 = round-now most head U first base in
+    let now2 = round-now most head U second p1 in
     let e0 : Early most head U base = record { near = first-near most head base l; soon = omega arith } in
-    let e1 : Early most head U (calm_round base) = early-round most head U base l (omega arith) e0 in
-    let e2 : Early most head U (calm_rounds 2 base) = early-round most head U (calm_round base) l1 (omega arith) e1 in
-    let covers : (host : ℕ) → host < head.hosts → Covered most head host 0 (calm_rounds 2 base) = λ host below. third-covers most head host 0 base l below (rounds-small (n + 1) (calm_rounds 2 base) small) in
-    let state = rounds-state most head U (n + 1) (calm_rounds 2 base) l2 (rounds-rising 2 base rising) small covers (inl e2) in
-    let near = (near-of most head U (calm_rounds (n + 1) (calm_rounds 2 base)) state until heard last is).0 in
-    let now = rounds-now most head U (n + 1) (calm_rounds 2 base) in
-    let split : calm_rounds (n + 1) (calm_rounds 2 base) ≡ calm_round (calm_rounds n (calm_rounds 2 base)) = rounds-more n 1 (calm_rounds 2 base) in
-    let late = round-goes-on most head U (calm_rounds n (calm_rounds 2 base)) until heard last (ap (λ (p : Play). p.world.server.phase) (sym split) ∙ is) in
-    let same : (calm_rounds (n + 1) (calm_rounds 2 base)).world.server.now ≡ (calm_round (calm_rounds n (calm_rounds 2 base))).world.server.now = ap (λ (p : Play). p.world.server.now) split in
+    let e1 : Early most head U p1 = early-round most head U first base l (omega arith) e0 in
+    let e2 : Early most head U p2 = early-round most head U second p1 l1 (omega arith) e1 in
+    let covers : (host : ℕ) → host < head.hosts → Covered most head host 0 p2 = λ host below. later-covers most head host (first ∷ second ∷ []) base (omega arith) l below (wholes-small orders p2 small) in
+    let state = rounds-state most head U orders p2 l2 whole.1.1 small covers (inl e2) (round-goes-on most head U second p1) in
+    let near = (near-of most head U (whole_rounds orders p2) state.0 until heard last is).0 in
+    let late = state.1 until heard last is in
+    let now = rounds-now most head U orders p2 in
     omega arith
 
-serves-from : (most : ℕ) (head : Head) (base : Play) → IsLawful most head base → IsRising base → (count : ℕ) → most + (skew + write_slack) ≤ count → IsSmall (calm_rounds count base) → (phase : Phase) → (calm_rounds count base).world.server.phase ≡ phase → recovers (calm_rounds count base).world.server.phase ≡ false
-serves-from most head base l rising count enough small serving is = ap recovers is
-serves-from most head base l rising count enough small (recovering until heard last) is = by count enough small is
+-- of any lawful play: the server serves after so many whole rounds
+pub serves-from : (most : ℕ) (head : Head) (base : Play) → IsLawful most head base → (orders : List (List ℕ)) → most + (skew + write_slack) ≤ length orders → AreWhole orders base → IsSmall (whole_rounds orders base) → recovers (whole_rounds orders base).world.server.phase ≡ false
+serves-from most head base l orders enough whole small = by (whole_rounds orders base).world.server.phase refl
   where
-    rest : (n : ℕ) → 2 + (n + 1) ≡ suc (suc (suc n))
-    rest n = omega arith
+    never : (orders : List (List ℕ)) → most + (skew + write_slack) ≤ length orders → AreWhole orders base → IsSmall (whole_rounds orders base) → (until heard : ℕ) (last : Option Table) → (whole_rounds orders base).world.server.phase ≡ recovering until heard last → ⊥
+    never [] many w s until heard last is = absurd (omega arith)
+    never (first ∷ []) many w s until heard last is = absurd (omega arith)
+    never (first ∷ second ∷ rest) many w s until heard last is = serves-after most head base l first second rest (omega arith) w s until heard last is
 
-    by : (count : ℕ) → most + (skew + write_slack) ≤ count → IsSmall (calm_rounds count base) → (calm_rounds count base).world.server.phase ≡ recovering until heard last → recovers (calm_rounds count base).world.server.phase ≡ false
-    by zero enough small is = absurd (omega arith)
-    by (suc zero) enough small is = absurd (omega arith)
-    by (suc (suc zero)) enough small is = absurd (omega arith)
-    by (suc (suc (suc n))) enough small is =
-        let e : suc n ≡ n + 1 = omega arith in
-        let same : calm_rounds (suc (suc (suc n))) base ≡ calm_rounds (n + 1) (calm_rounds 2 base) = ap (λ m. calm_rounds m (calm_rounds 2 base)) e in
-        absurd (serves-after most head base l rising n (omega arith) (subst (λ (p : Play). IsSmall p) same small) until heard last (ap (λ (p : Play). p.world.server.phase) (sym same) ∙ is))
+    by : (phase : Phase) → (whole_rounds orders base).world.server.phase ≡ phase → recovers (whole_rounds orders base).world.server.phase ≡ false
+    by serving is = ap recovers is
+    by (recovering until heard last) is = absurd (never orders enough whole small until heard last is)
+
+pub whole-recoveries-end : WholeRecoveriesEnd
+unfolding calmed
+whole-recoveries-end most head events bounds within under_way orders enough whole small =
+    serves-from most head (calmed head events under_way) (record { is_run = refl; bounds = bounds; within = within }) orders enough whole small
 
 pub recoveries-end : RecoveriesEnd
 unfolding calmed
 recoveries-end most head events bounds within under_way more all small =
     let base = calmed head events under_way in
+    let l : IsLawful most head base = record { is_run = refl; bounds = bounds; within = within } in
     let count = most + (skew + write_slack) + more in
-    serves-from most head base (record { is_run = refl; bounds = bounds; within = within }) (calmed-rising head events under_way all) count (omega arith) small (calm_rounds count base).world.server.phase refl
+    let is = calms-are count base in
+    let many = calm-count count base in
+    subst (λ (q : Play). recovers q.world.server.phase ≡ false) (sym is)
+    (serves-from most head base l (calm_orders count base) (omega arith)
+    (calms-are-whole most head count base l (calmed-rising head events under_way all)) (subst (λ (q : Play). IsSmall q) is small))

@@ -1,3 +1,4 @@
 pub mod RoundsEndQuiet
 pub mod RecoveriesEnd
+pub mod WholeRounds
 pub mod Met

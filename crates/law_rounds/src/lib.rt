@@ -5,6 +5,7 @@
 ghost use Rattle.law_rounds.specs.Met.{RoundsAreMet};
 ghost use Rattle.law_rounds.specs.RecoveriesEnd.{RecoveriesEnd};
 ghost use Rattle.law_rounds.specs.RoundsEndQuiet.{RoundsEndQuiet};
+ghost use Rattle.law_rounds.specs.WholeRounds.{WholeRecoveriesEnd, WholeRoundsEndQuiet};
 
 /// In every run, whatever is under way: from the third calm round on no client has a request under way once all is delivered. All are
 /// attached, and no notice waits. A client that has an open call pauses for at most 2 ticks, and the call is no `sync`. Each file with delayed
@@ -17,6 +18,17 @@ pub fn rounds_end_quiet()
 /// number more.
 pub fn recoveries_end()
     ensures { RecoveriesEnd }
+{}
+
+/// So it is with whole rounds, in which all that is under way arrives in whatever order: once two of them or more are over, all clients are quiet when
+/// all has arrived again.
+pub fn whole_rounds_end_quiet()
+    ensures { WholeRoundsEndQuiet }
+{}
+
+/// And the server serves after as many whole rounds as the longest term of all boots and 8 more, or after more.
+pub fn whole_recoveries_end()
+    ensures { WholeRecoveriesEnd }
 {}
 
 /// A schedule with a recovery in it meets all premises of these laws.

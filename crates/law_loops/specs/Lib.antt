@@ -1,0 +1,4 @@
+pub mod InTime
+pub mod LoopTurns
+pub mod LoopsAreAnswered
+pub mod Met

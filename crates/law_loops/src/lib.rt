@@ -1,0 +1,17 @@
+//! The loop over real links: where each datagram arrives before the clocks tick next, all calls of all hosts are answered. The statements stand in
+//! `specs/`, and their proofs in `proofs/`.
+#![tactic(auto)]
+
+ghost use Rattle.law_loops.specs.LoopsAreAnswered.{LoopsAreAnswered};
+ghost use Rattle.law_loops.specs.Met.{LoopsAreMet};
+
+/// In each loop of at most 64 hosts, where every datagram arrived before the clocks ticked next, and each link kept its order: the three calls of each
+/// host are answered, or the server's clock ticked less often than a formula in the number of hosts tells.
+pub fn loops_are_answered()
+    ensures { LoopsAreAnswered }
+{}
+
+/// The events of three turns of a loop of one host come in time, and its calls are answered by them.
+pub fn loops_are_met()
+    ensures { LoopsAreMet }
+{}
