@@ -1,0 +1,10 @@
+pub mod Waiters
+pub mod Barred
+pub mod Leaving
+pub mod Asking
+pub mod Step
+pub mod Ends
+pub mod Theorem
+pub mod Leaseless
+pub mod SomeShared
+pub mod SomeLeaseless

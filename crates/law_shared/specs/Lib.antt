@@ -1,0 +1,4 @@
+pub mod SharedFilesAnswered
+pub mod WaitersShare
+pub mod LeaselessAnswered
+pub mod Met

@@ -1,0 +1,2 @@
+pub mod InTerms
+pub mod SomeTerms

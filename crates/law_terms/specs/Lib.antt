@@ -1,0 +1,2 @@
+pub mod AnsweredInTerms
+pub mod Met
