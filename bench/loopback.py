@@ -7,8 +7,8 @@ The server is `nqnfs serve`, or with --daemon `nqnfsd`. The clients and the echo
 one request after another, each when the reply to the last one is there. For LOOKUP, READ without a wish and WRITE that goes through it prints
 requests per second, and the median and the 99th percentile of the round trip: of each the median of all rounds. READ is tried with 1, 8 and 64
 clients, in each round behind an echo that answers each datagram by the 4136 bytes that a reply to READ has. Beside WRITE stand four bare
-writes of 4096 bytes to a file in the same folder, each with its sync. With --pin the server, or the echo, has one processor for itself, and the
-clients have another. In the end the server is left alone for two seconds, and the share of a processor that it took is printed.
+writes of 4096 bytes to a file in the same folder, each with its sync. With --pin the server, or the echo, runs on one processor and the clients on
+another, both before all else there (`chrt`, for root), so that a busy machine gives steady figures. In the end the server is left alone for two seconds, and the share of a processor that it took is printed.
 """
 
 import argparse
@@ -42,8 +42,9 @@ class Bench:
         subprocess.run(["cc", "-O2", "-o", self.tool, ROOT / "bench/loopback.c"], check=True)
 
     def placed(self, words, place):
-        """The words that start a program, on one processor where they are pinned."""
-        return ["taskset", "-c", str(place), *map(str, words)] if self.is_pinned else [*map(str, words)]
+        """The words that start a program, on one processor and before all else where they are pinned."""
+        pinned = ["chrt", "-f", "50", "taskset", "-c", str(place)]
+        return [*(pinned if self.is_pinned else []), *map(str, words)]
 
     def asked(self, port, clients, requests, kind):
         """Requests per second, and the median and 99th percentile of the round trip in microseconds."""
@@ -98,6 +99,8 @@ class Bench:
     def synced(self, rounds):
         """How often a second four bare writes can be made, each with its sync."""
         with open(f"{self.folder}/bare", "wb") as file:
+            os.pwrite(file.fileno(), bytes(4 * 4096), 0)
+            os.fsync(file.fileno())
             begun = time.perf_counter()
             for _ in range(rounds):
                 for place in range(4):
