@@ -96,17 +96,12 @@ class Bench:
             server.kill()
             server.wait()
 
-    def synced(self, rounds):
-        """How often a second four bare writes can be made, each with its sync."""
-        with open(f"{self.folder}/bare", "wb") as file:
-            os.pwrite(file.fileno(), bytes(4 * 4096), 0)
-            os.fsync(file.fileno())
-            begun = time.perf_counter()
-            for _ in range(rounds):
-                for place in range(4):
-                    os.pwrite(file.fileno(), bytes(4096), 4096 * place)
-                    os.fsync(file.fileno())
-            return rounds / (time.perf_counter() - begun)
+    def written(self, times):
+        """What four bare writes to a file take, each with its sync."""
+        words = self.placed([self.tool, "bare", f"{self.folder}/bare", times], SERVER_PLACE)
+        said = subprocess.run(words, check=True, capture_output=True, text=True).stdout
+        seconds, median, late = map(float, said.split())
+        return times / seconds, median, late
 
     def medians(self, *kinds):
         """The medians of all rounds, in which one kind is measured behind the other."""
@@ -114,10 +109,10 @@ class Bench:
         return [tuple(map(statistics.median, zip(*column))) for column in zip(*seen)]
 
 
-def tell(what, figures, echo=None):
+def tell(what, figures, other=None):
     """Prints a line of the table."""
     rate, median, late = figures
-    beside = f"{rate / echo[0]:.2f}" if echo else ""
+    beside = f"{rate / other[0]:.2f}" if other else ""
     print(f"| {what} | {rate:,.0f} | {median:.1f} us | {late:.1f} us | {beside} |", flush=True)
 
 
@@ -138,14 +133,14 @@ def main():
     given = parser.parse_args()
     with tempfile.TemporaryDirectory() as folder:
         bench = Bench(given, folder)
-        print("| request | a second | median | 99th percentile | beside the echo |")
+        print("| request | a second | median | 99th percentile | beside |")
         print("|---|---|---|---|---|")
         tell("LOOKUP", *bench.medians(lambda: bench.served(1, given.requests, "lookup")))
         bare, write = bench.medians(
-            lambda: (bench.synced(given.writes // 5),), lambda: bench.served(1, given.writes, "write")
+            lambda: bench.written(given.writes), lambda: bench.served(1, given.writes, "write")
         )
-        print(f"| four bare writes, each with its sync | {bare[0]:,.0f} | | | |", flush=True)
-        tell("WRITE", write)
+        tell("four bare writes, each with its sync", bare)
+        tell("WRITE", write, bare)
         for clients in 1, 8, 64:
             echo, read = bench.medians(
                 lambda: bench.echoed(clients), lambda: bench.served(clients, given.requests, "read")
