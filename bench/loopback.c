@@ -2,6 +2,7 @@
  * loopback.c: the two ends of bench/loopback.py, in C, so that the figures are not mostly those of a script.
  *
  *   loopback echo PORT REQUESTS              answers each datagram by 4136 bytes, as many as a reply to READ has, and does nothing else
+ *   loopback bare FILE TIMES                 writes 4096 bytes to a file four times, each with its sync, so many times over. Prints as `ask`.
  *   loopback ask PORT CLIENTS REQUESTS KIND  CLIENTS hosts, each with a socket of its own and one request under way, ask until REQUESTS
  *                                            are answered. KIND is echo, lookup, read or write. Prints seconds, median and 99th
  *                                            percentile of the round trip in microseconds.
@@ -9,6 +10,7 @@
  * All addresses are 127.0.0.1, and host h has port PORT + 1 + h. A request that gets no reply for two seconds ends the run with status 1.
  */
 #include <arpa/inet.h>
+#include <fcntl.h>
 #include <poll.h>
 #include <stdint.h>
 #include <stdio.h>
@@ -155,6 +157,36 @@ static int by_size(const void *a, const void *b)
     return x < y ? -1 : x > y;
 }
 
+static void tell(double seconds, double *taken, long times)
+{
+    qsort(taken, times, sizeof *taken, by_size);
+    printf("%.6f %.1f %.1f\n", seconds, taken[times / 2] * 1e6, taken[times * 99 / 100] * 1e6);
+}
+
+static void write_four(int file)
+{
+    static const char bytes[4096];
+    for (int place = 0; place < 4; place++)
+        if (pwrite(file, bytes, sizeof bytes, place * sizeof bytes) != sizeof bytes || fsync(file) < 0)
+            give_up("the file could not be written");
+}
+
+static void write_bare(const char *name, long times)
+{
+    int file = open(name, O_RDWR | O_CREAT, 0600);
+    double *taken = calloc(times, sizeof *taken);
+    if (!taken || file < 0)
+        give_up("no file");
+    write_four(file);
+    double begun = now();
+    for (long i = 0; i < times; i++) {
+        double first = now();
+        write_four(file);
+        taken[i] = now() - first;
+    }
+    tell(now() - begun, taken, times);
+}
+
 static void ask_all(int port, int clients, long requests, int procedure)
 {
     static struct client c[MOST_CLIENTS];
@@ -190,9 +222,7 @@ static void ask_all(int port, int clients, long requests, int procedure)
                 }
             }
     }
-    double seconds = now() - begun;
-    qsort(taken, requests, sizeof *taken, by_size);
-    printf("%.6f %.1f %.1f\n", seconds, taken[requests / 2] * 1e6, taken[requests * 99 / 100] * 1e6);
+    tell(now() - begun, taken, requests);
 }
 
 int main(int count, char **words)
@@ -201,8 +231,12 @@ int main(int count, char **words)
         echo(atoi(words[2]), atol(words[3]));
         return 0;
     }
+    if (count == 4 && !strcmp(words[1], "bare")) {
+        write_bare(words[2], atol(words[3]));
+        return 0;
+    }
     if (count != 6 || strcmp(words[1], "ask"))
-        give_up("usage: loopback echo PORT REQUESTS | loopback ask PORT CLIENTS REQUESTS KIND");
+        give_up("usage: loopback echo PORT REQUESTS | loopback bare FILE TIMES | loopback ask PORT CLIENTS REQUESTS KIND");
     int clients = atoi(words[3]);
     const char *kind = words[5];
     int procedure = !strcmp(kind, "lookup") ? LOOKUP : !strcmp(kind, "read") ? READ : !strcmp(kind, "write") ? WRITE : 0;

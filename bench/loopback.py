@@ -7,8 +7,8 @@ The server is `nqnfs serve`, or with --daemon `nqnfsd`. The clients and the echo
 one request after another, each when the reply to the last one is there. For LOOKUP, READ without a wish and WRITE that goes through it prints
 requests per second, and the median and the 99th percentile of the round trip: of each the median of all rounds. READ is tried with 1, 8 and 64
 clients, in each round behind an echo that answers each datagram by the 4136 bytes that a reply to READ has. Beside WRITE stand four bare
-writes of 4096 bytes to a file in the same folder, each with its sync. With --pin the server, or the echo, has one processor for itself, and the
-clients have another. In the end the server is left alone for two seconds, and the share of a processor that it took is printed.
+writes of 4096 bytes to a file in the same folder, each with its sync. With --pin the server, or the echo, runs on one processor and the clients on
+another, both before all else there (`chrt`, for root), so that a busy machine gives steady figures. In the end the server is left alone for two seconds, and the share of a processor that it took is printed.
 """
 
 import argparse
@@ -42,8 +42,9 @@ class Bench:
         subprocess.run(["cc", "-O2", "-o", self.tool, ROOT / "bench/loopback.c"], check=True)
 
     def placed(self, words, place):
-        """The words that start a program, on one processor where they are pinned."""
-        return ["taskset", "-c", str(place), *map(str, words)] if self.is_pinned else [*map(str, words)]
+        """The words that start a program, on one processor and before all else where they are pinned."""
+        pinned = ["chrt", "-f", "50", "taskset", "-c", str(place)]
+        return [*(pinned if self.is_pinned else []), *map(str, words)]
 
     def asked(self, port, clients, requests, kind):
         """Requests per second, and the median and 99th percentile of the round trip in microseconds."""
@@ -95,15 +96,12 @@ class Bench:
             server.kill()
             server.wait()
 
-    def synced(self, rounds):
-        """How often a second four bare writes can be made, each with its sync."""
-        with open(f"{self.folder}/bare", "wb") as file:
-            begun = time.perf_counter()
-            for _ in range(rounds):
-                for place in range(4):
-                    os.pwrite(file.fileno(), bytes(4096), 4096 * place)
-                    os.fsync(file.fileno())
-            return rounds / (time.perf_counter() - begun)
+    def written(self, times):
+        """What four bare writes to a file take, each with its sync."""
+        words = self.placed([self.tool, "bare", f"{self.folder}/bare", times], SERVER_PLACE)
+        said = subprocess.run(words, check=True, capture_output=True, text=True).stdout
+        seconds, median, late = map(float, said.split())
+        return times / seconds, median, late
 
     def medians(self, *kinds):
         """The medians of all rounds, in which one kind is measured behind the other."""
@@ -111,10 +109,10 @@ class Bench:
         return [tuple(map(statistics.median, zip(*column))) for column in zip(*seen)]
 
 
-def tell(what, figures, echo=None):
+def tell(what, figures, other=None):
     """Prints a line of the table."""
     rate, median, late = figures
-    beside = f"{rate / echo[0]:.2f}" if echo else ""
+    beside = f"{rate / other[0]:.2f}" if other else ""
     print(f"| {what} | {rate:,.0f} | {median:.1f} us | {late:.1f} us | {beside} |", flush=True)
 
 
@@ -135,14 +133,14 @@ def main():
     given = parser.parse_args()
     with tempfile.TemporaryDirectory() as folder:
         bench = Bench(given, folder)
-        print("| request | a second | median | 99th percentile | beside the echo |")
+        print("| request | a second | median | 99th percentile | beside |")
         print("|---|---|---|---|---|")
         tell("LOOKUP", *bench.medians(lambda: bench.served(1, given.requests, "lookup")))
         bare, write = bench.medians(
-            lambda: (bench.synced(given.writes // 5),), lambda: bench.served(1, given.writes, "write")
+            lambda: bench.written(given.writes), lambda: bench.served(1, given.writes, "write")
         )
-        print(f"| four bare writes, each with its sync | {bare[0]:,.0f} | | | |", flush=True)
-        tell("WRITE", write)
+        tell("four bare writes, each with its sync", bare)
+        tell("WRITE", write, bare)
         for clients in 1, 8, 64:
             echo, read = bench.medians(
                 lambda: bench.echoed(clients), lambda: bench.served(clients, given.requests, "read")

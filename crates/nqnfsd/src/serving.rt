@@ -10,6 +10,7 @@ use nq_disk::FileDisk;
 use nq_ending::{Ending, Halt};
 use nq_link::{Came, Link, UdpLink};
 use nq_mount::{Greeter, Survey, serve_image};
+use nq_recent::RecentDisk;
 use nq_store::OpenFault;
 use nq_streams::StdSink;
 use nq_traffic::{CountedLink, Report};
@@ -80,7 +81,7 @@ fn is_bound(rt: &HostRuntime, link: &mut UdpLink<HostRuntime>) -> bool {
 fn tell_fault(
     rt: &HostRuntime,
     image: &str,
-    fault: OpenFault<FileDisk>,
+    fault: OpenFault<RecentDisk<FileDisk>>,
 ) -> Result<Ending, AllocError> {
     match fault {
         OpenFault::NotAnImage(_) => {
@@ -127,7 +128,7 @@ fn serve_disk(
     };
     match serve_image(
         rt.alloc(),
-        disk,
+        RecentDisk::new(rt.alloc(), disk),
         MOST_TURNS,
         longest,
         &mut link,
