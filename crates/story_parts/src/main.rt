@@ -1,5 +1,5 @@
-//! Worked stories of the parts: what they read, a server, and clients. The expected bytes are written from RFC 1014, from RFC 1057 section 8
-//! and from the table of procedures, not from what a part sent.
+//! Worked stories of the parts: what they read, a server, clients, and what no clause can say, since it is the machine's. The expected bytes
+//! are written from RFC 1014, from RFC 1057 section 8 and from the table of procedures, not from what a part sent.
 //!
 //! The stories stand in the standard input; a line behind a `#` is for the reader. A line that begins with `=` begins one of a server that
 //! booted for the first time and keeps nothing. Each line behind it happens to the server and is printed with what comes of it: `tick` or
@@ -13,14 +13,21 @@
 //!
 //! A line that begins with `file`, `message`, `request` or `reply` is read as one: its numbers, and words in hexadecimal. What was read is
 //! written again, and `again` says that this gives the same.
+//!
+//! A line that begins with `machine` says which part of the machine is tried: sources over its readers, sinks over its writers, its clock, what
+//! comes over UDP, or a disk in one of its files.
 #![tactic(auto)]
 
 mod client;
 mod datagrams;
+mod disks;
 mod items;
 mod journals;
 mod messages;
 mod server;
+mod strangers;
+mod streams;
+mod watch;
 mod words;
 
 use crate::server::Story;
@@ -46,6 +53,7 @@ fn main(rt: HostRuntime) -> Result<()> {
 fn play(rt: &HostRuntime, story: &mut Story, verb: &str, rest: &str) -> Result<()> {
     match verb {
         "client" => client::play(rt, rest)?,
+        "machine" => machine(rt, rest)?,
         "tell" => {
             let journal = journals::told(rt.alloc(), story.log())?;
             print!(rt; "{}", str::from_utf8(journal.bytes())?)?;
@@ -57,6 +65,17 @@ fn play(rt: &HostRuntime, story: &mut Story, verb: &str, rest: &str) -> Result<(
         _ => println!(rt; "{verb} {rest} -> {}", said_of(rt, story, verb, rest)?)?,
     }
     Ok(())
+}
+
+/// Tries a part of the machine.
+fn machine(rt: &HostRuntime, part: &str) -> Result<()> {
+    match part {
+        "sources" => streams::sources(rt),
+        "sinks" => streams::sinks(rt),
+        "clock" => watch::clocks(rt),
+        "UDP" => strangers::strangers(rt),
+        _ => disks::disks(rt),
+    }
 }
 
 /// What a line is read as, or what the server answers to it.

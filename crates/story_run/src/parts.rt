@@ -15,12 +15,9 @@ use std::alloc::Global;
 /// How long an image is in which nothing is kept.
 const EMPTY: usize = 1_093_632;
 
-/// The most bytes of a disk: those of the largest image.
-const LARGEST: usize = 68_202_496;
-
-/// How much a disk takes.
+/// How much a disk takes: the bytes of the largest image, and as many calls and written bytes as can be counted.
 const ROOM: Room = Room {
-    size: LARGEST as u64,
+    size: 68_202_496,
     calls: u32::MAX,
     written: u64::MAX,
 };
@@ -62,18 +59,18 @@ fn image_of(alloc: Global, heads: [u32; 4]) -> Result<Vec<u8>> {
 
 /// The bytes of the disk of a scene: those of an image for a server, unless the scene begins with `blank`; else none.
 fn bytes_of(alloc: Global, scene: &str, words: &Words) -> Result<Vec<u8>> {
-    match words.command() {
-        Some(Command::Serve { .. }) if !scene.starts_with("blank") => {
-            image_of(alloc, heads_of(scene))
-        }
-        _ => Ok(Vec::new(alloc)),
+    let serves = matches!(words.command(), Some(Command::Serve { .. }));
+    if serves && !scene.starts_with("blank") {
+        image_of(alloc, heads_of(scene))
+    } else {
+        Ok(Vec::new(alloc))
     }
 }
 
 /// The disk of a scene.
 pub(crate) fn disk_of(alloc: Global, scene: &str, words: &Words) -> Result<MemDisk> {
     let bytes = bytes_of(alloc, scene, words)?;
-    if LARGEST < bytes.len() {
+    if 68_202_496 < bytes.len() {
         bail!("more bytes than a disk has");
     }
     let failing = failing(alloc, scene.ends_with("unkept"))?;

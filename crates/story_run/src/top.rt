@@ -33,7 +33,7 @@ pub(crate) fn ran<S: Source, K: Sink, D: Disk + Drop, L: Link, C: Clock>(
     fates.push(Box::new(alloc, LossyFate::new())?)?;
     fates.push(Box::new(alloc, CutFate::new())?)?;
     fates.push(Box::new(alloc, HostileFate::new())?)?;
-    Ok(run_disk(
+    let ended = run_disk(
         alloc,
         words,
         input,
@@ -43,5 +43,6 @@ pub(crate) fn ran<S: Source, K: Sink, D: Disk + Drop, L: Link, C: Clock>(
         links,
         clock,
         fates.as_mut_slice(),
-    ))
+    );
+    Ok(ended)
 }

@@ -1,6 +1,6 @@
 //! What comes to a server over a disk.
 
-use anyhow::{Context, Result};
+use anyhow::Result;
 use nq_base::{Host, Journal, Ticks};
 use nq_disk::Disk;
 use nq_keeper::Keeper;
@@ -42,7 +42,8 @@ pub(crate) fn datagram_of(alloc: Global, words: &str) -> Result<Event> {
     for piece in words.split(' ') {
         let (times, digits) = piece.split_once('*').unwrap_or(("1", piece));
         let word = u32::from_str_radix(digits, 16)?;
-        for _ in 0..u32::from_str_radix(times, 10)? {
+        let times = u32::from_str_radix(times, 10)?;
+        for _ in 0..times {
             bytes.extend_from_slice(&word.to_be_bytes())?;
         }
     }
@@ -51,8 +52,7 @@ pub(crate) fn datagram_of(alloc: Global, words: &str) -> Result<Event> {
 
 /// The tick to this time.
 pub(crate) fn tick_of(time: &str) -> Result<Event> {
-    let time = u64::from_str_radix(time, 10).ok().context("no time")?;
-    Ok(Event::Tick(time))
+    Ok(Event::Tick(u64::from_str_radix(time, 10)?))
 }
 
 /// The disk after a deed, also where a call of it failed; None where it is no image, and for want of memory.

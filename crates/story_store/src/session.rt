@@ -4,7 +4,8 @@ use crate::bench::Bench;
 use crate::events::{Deed, Event, datagram_of, tick_of};
 use crate::filing;
 use crate::found::Found;
-use crate::stopping::{self, Reached};
+use crate::stopping;
+use crate::stopping::Reached;
 use anyhow::{Context, Result};
 use std::alloc::Global;
 

@@ -2,7 +2,7 @@
 
 use crate::events::{Deed, after};
 use crate::found::{Found, kept_on};
-use crate::torn_disk::TornDisk;
+use crate::torn_disk::{ALL, TornDisk};
 use nq_disk::{MemDisk, Room};
 use std::alloc::Global;
 
@@ -17,12 +17,9 @@ const BYTES: u32 = 256;
 /// The most writes of which each subset is tried.
 const MOST: usize = 5;
 
-/// The most bytes of a disk.
-const SIZE: usize = 4_000_000;
-
 /// How much a disk takes.
 const ROOM: Room = Room {
-    size: SIZE as u64,
+    size: 4_000_000,
     calls: 10_000,
     written: 16_000_000,
 };
@@ -32,7 +29,7 @@ const NEVER: u32 = u32::MAX;
 
 /// A disk in memory of these bytes.
 pub(crate) fn disk_of(alloc: Global, bytes: Vec<u8>) -> Option<MemDisk> {
-    if SIZE < bytes.len() {
+    if 4_000_000 < bytes.len() {
         return None;
     }
     MemDisk::new(alloc, bytes, ROOM, Vec::new(alloc), None).ok()
@@ -78,13 +75,17 @@ impl Reached {
     }
 }
 
-/// How many subsets of the writes since the last sync are tried, and how many images with torn writes.
+/// How many subsets of the writes since the last sync are tried, but for the one that has all, and how many images with torn writes.
 fn numbers_of(left: &TornDisk<MemDisk>) -> (usize, u32) {
-    match left.writes() {
-        0 => (1, 0),
-        _ if left.is_small() => (2, BYTES),
-        writes if writes <= MOST => (1 << writes, FEW),
-        _ => (2, MANY),
+    let writes = left.writes();
+    if writes == 0 {
+        (0, 0)
+    } else if left.is_small() {
+        (1, BYTES)
+    } else if writes <= MOST {
+        ((1_usize << writes).saturating_sub(1), FEW)
+    } else {
+        (1, MANY)
     }
 }
 
@@ -101,9 +102,11 @@ pub(crate) fn try_stop(
     for came in 0..subsets {
         found.count(&kept_in(alloc, left.image_with(alloc, came).ok()?)?);
     }
+    found.count(&kept_in(alloc, left.image_with(alloc, ALL).ok()?)?);
     let mut random = stop;
     for number in 0..images {
-        let image = left.torn_image(alloc, &mut random, number as u8).ok()?;
+        let byte = (number & 0xff) as u8;
+        let image = left.torn_image(alloc, &mut random, byte).ok()?;
         found.count(&kept_in(alloc, image)?);
     }
     Some(())
