@@ -28,7 +28,7 @@ pub(crate) enum Event {
 }
 
 /// What is done with a disk.
-#[derive(Clone, Copy)]
+#[derive(Clone, Copy, Drop)]
 pub(crate) enum Deed<'a> {
     /// It is opened.
     Open,
@@ -56,7 +56,7 @@ pub(crate) fn tick_of(time: &str) -> Result<Event> {
 }
 
 /// The disk after a deed, also where a call of it failed; None where it is no image, and for want of memory.
-pub(crate) fn after<D: Disk + Drop>(alloc: Global, disk: D, deed: Deed) -> Option<D> {
+pub(crate) fn after<D: Disk + Drop>(alloc: Global, disk: D, deed: Deed<'_>) -> Option<D> {
     match Store::open(alloc, disk) {
         Ok(store) => after_opening(alloc, store, deed),
         Err(OpenFault::Failed(disk)) => Some(disk),
@@ -65,7 +65,7 @@ pub(crate) fn after<D: Disk + Drop>(alloc: Global, disk: D, deed: Deed) -> Optio
 }
 
 /// The disk after the rest of a deed.
-fn after_opening<D: Disk + Drop>(alloc: Global, store: Store<D>, deed: Deed) -> Option<D> {
+fn after_opening<D: Disk + Drop>(alloc: Global, store: Store<D>, deed: Deed<'_>) -> Option<D> {
     let Deed::Serve(events) = deed else {
         return Some(store.into_disk());
     };

@@ -26,7 +26,7 @@ pub(crate) fn try_stop(
     rt: &HostRuntime,
     found: &mut Found,
     bytes: &[u8],
-    deed: Deed,
+    deed: Deed<'_>,
     stop: u32,
 ) -> Option<()> {
     make(rt, bytes)?;

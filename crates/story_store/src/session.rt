@@ -29,7 +29,7 @@ fn try_deed(
     first: &[u8],
     is_filed: bool,
     before: &Reached,
-    deed: Deed,
+    deed: Deed<'_>,
 ) -> Option<Reached> {
     let alloc = rt.alloc();
     let reached = Reached::after(alloc, first, deed)?;

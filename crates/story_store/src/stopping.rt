@@ -41,7 +41,7 @@ pub(crate) fn kept_in(alloc: Global, bytes: Vec<u8>) -> Option<Vec<u64>> {
 }
 
 /// A disk of these bytes after a deed that was stopped at a call.
-fn stopped(alloc: Global, bytes: &[u8], deed: Deed, stop: u32) -> Option<TornDisk<MemDisk>> {
+fn stopped(alloc: Global, bytes: &[u8], deed: Deed<'_>, stop: u32) -> Option<TornDisk<MemDisk>> {
     let own = Vec::from_slice(alloc, bytes).ok()?;
     let disk = TornDisk::new(alloc, disk_of(alloc, own)?, bytes, stop).ok()?;
     after(alloc, disk, deed)
@@ -68,7 +68,7 @@ impl Reached {
     }
 
     /// After a deed over a disk of these bytes.
-    pub(crate) fn after(alloc: Global, bytes: &[u8], deed: Deed) -> Option<Reached> {
+    pub(crate) fn after(alloc: Global, bytes: &[u8], deed: Deed<'_>) -> Option<Reached> {
         let done = stopped(alloc, bytes, deed, NEVER)?;
         let own = Vec::from_slice(alloc, done.disk.bytes()).ok()?;
         Reached::of(alloc, own, done.calls())
@@ -94,7 +94,7 @@ pub(crate) fn try_stop(
     alloc: Global,
     found: &mut Found,
     bytes: &[u8],
-    deed: Deed,
+    deed: Deed<'_>,
     stop: u32,
 ) -> Option<()> {
     let left = stopped(alloc, bytes, deed, stop)?;
