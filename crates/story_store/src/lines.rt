@@ -5,12 +5,7 @@ use anyhow::{Context, Result, bail};
 use std::alloc::Global;
 
 /// Carries out a line: a verb, and what stands behind it.
-pub(crate) fn carry_out(
-    rt: &HostRuntime,
-    verb: &str,
-    rest: &str,
-    bench: &mut Bench,
-) -> Result<()> {
+pub(crate) fn carry_out(rt: &HostRuntime, verb: &str, rest: &str, bench: &mut Bench) -> Result<()> {
     let alloc = rt.alloc();
     match verb {
         "image" => bench.begin(alloc, rest),

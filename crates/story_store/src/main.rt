@@ -5,11 +5,11 @@
 //! the same ones so many times. `keep` keeps it under its name. `show PLACE COUNT` prints bytes of it, and `open` opens a disk of its
 //! bytes and prints for what it stands.
 //!
-//! `migrate` opens a disk of the bytes, and `boot` boots a server over one in memory, `boot on a file` over a file. `take NAME: WORDS` hands
+//! `migrate` opens a disk of the bytes, and `boot N` boots a server over one in memory, `boot on a file` over a file. `take NAME: WORDS` hands
 //! that server a datagram of host 5, and `tick TIME` ticks its clock. Each of these is stopped at each call that it makes of the disk.
 //! What a stop may leave is opened again: it keeps what was kept before or what is kept after it, and how often which of them is printed.
-//! A file is closed at the stop. Of a disk in memory each subset of the writes since the last sync may have come, and each write may
-//! be torn. Then the image is what the disk has behind it.
+//! A file is closed at the stop. Of a disk in memory each subset of the writes since the last sync may have come, each write may be torn,
+//! and in place of a single byte there may be any; N of them are tried. Then the image is what the disk has behind it.
 #![tactic(auto)]
 
 mod bench;

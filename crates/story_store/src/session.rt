@@ -2,10 +2,9 @@
 
 use crate::bench::Bench;
 use crate::events::{Deed, Event, datagram_of, tick_of};
-use crate::filing;
 use crate::found::Found;
-use crate::stopping;
 use crate::stopping::Reached;
+use crate::{filing, stopping};
 use anyhow::{Context, Result};
 use std::alloc::Global;
 
@@ -14,8 +13,8 @@ use std::alloc::Global;
 pub(crate) struct Session {
     /// The bytes over which it boots.
     first: Vec<u8>,
-    /// Whether the disk is a file.
-    is_filed: bool,
+    /// How many values of a single byte are tried of a disk in memory; None where the disk is a file.
+    values: Option<u32>,
     events: Vec<Event>,
     /// Where these events led; None before the first boot.
     reached: Option<Reached>,
@@ -27,7 +26,7 @@ fn try_deed(
     rt: &HostRuntime,
     name: &str,
     first: &[u8],
-    is_filed: bool,
+    values: Option<u32>,
     before: &Reached,
     deed: Deed<'_>,
 ) -> Option<Reached> {
@@ -35,10 +34,11 @@ fn try_deed(
     let reached = Reached::after(alloc, first, deed)?;
     let mut found = Found::new(alloc, &before.kept, &reached.kept)?;
     for stop in before.calls..reached.calls {
-        if is_filed {
-            filing::try_stop(rt, &mut found, first, deed, stop)?;
-        } else {
-            stopping::try_stop(alloc, &mut found, first, deed, stop)?;
+        match values {
+            Some(values) => {
+                stopping::try_stop(alloc, &mut found, first, deed, stop, values)?;
+            }
+            None => filing::try_stop(rt, &mut found, first, deed, stop)?,
         }
     }
     found.print(rt, name)?;
@@ -49,7 +49,8 @@ fn try_deed(
 pub(crate) fn migrate(rt: &HostRuntime, bench: &mut Bench) -> Result<()> {
     let first = bench.image();
     let before = Reached::at_first(rt.alloc(), first).context("no image")?;
-    let reached = try_deed(rt, "migrate", first, false, &before, Deed::Open).context("no image")?;
+    let reached = try_deed(rt, "migrate", first, Some(16), &before, Deed::Open);
+    let reached = reached.context("no image")?;
     bench.replace(&reached.bytes)
 }
 
@@ -58,7 +59,7 @@ impl Session {
     pub(crate) fn new(alloc: Global) -> Result<Session> {
         Ok(Session {
             first: Vec::new(alloc),
-            is_filed: false,
+            values: None,
             events: Vec::new(alloc),
             reached: None,
         })
@@ -67,7 +68,7 @@ impl Session {
     /// The server boots over the image.
     pub(crate) fn boot(&mut self, rt: &HostRuntime, disk: &str, bench: &mut Bench) -> Result<()> {
         self.first = bench.image().to_vec(rt.alloc())?;
-        self.is_filed = disk == "on a file";
+        self.values = u32::from_str_radix(disk, 10).ok();
         self.events.clear();
         self.reached = Reached::at_first(rt.alloc(), &self.first);
         self.go_on(rt, "boot", bench)
@@ -91,7 +92,7 @@ impl Session {
     fn go_on(&mut self, rt: &HostRuntime, name: &str, bench: &mut Bench) -> Result<()> {
         let before = self.reached.as_ref().context("no server")?;
         let deed = Deed::Serve(self.events.as_slice());
-        let reached = try_deed(rt, name, &self.first, self.is_filed, before, deed);
+        let reached = try_deed(rt, name, &self.first, self.values, before, deed);
         let reached = reached.context("the disk does not open")?;
         bench.replace(&reached.bytes)?;
         self.reached = Some(reached);

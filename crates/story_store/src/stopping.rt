@@ -6,13 +6,10 @@ use crate::torn_disk::{ALL, TornDisk};
 use nq_disk::{MemDisk, Room};
 use std::alloc::Global;
 
-/// How many images with torn writes are opened of each stop: where few writes may be torn, where many, and where a single byte was
-/// written, each with another byte.
-const FEW: u32 = 24;
+/// How many images with torn writes are opened of each stop, where few writes may be torn, and where many.
+const FEW: u32 = 16;
 
 const MANY: u32 = 4;
-
-const BYTES: u32 = 256;
 
 /// The most writes of which each subset is tried.
 const MOST: usize = 5;
@@ -75,13 +72,14 @@ impl Reached {
     }
 }
 
-/// How many subsets of the writes since the last sync are tried, but for the one that has all, and how many images with torn writes.
-fn numbers_of(left: &TornDisk<MemDisk>) -> (usize, u32) {
+/// How many subsets of the writes since the last sync are tried, but for the one that has all, and how many images with torn writes: so many
+/// where a single byte was written, each with another byte.
+fn numbers_of(left: &TornDisk<MemDisk>, values: u32) -> (usize, u32) {
     let writes = left.writes();
     if writes == 0 {
         (0, 0)
     } else if left.is_small() {
-        (1, BYTES)
+        (1, values)
     } else if writes <= MOST {
         ((1_usize << writes).saturating_sub(1), FEW)
     } else {
@@ -89,16 +87,18 @@ fn numbers_of(left: &TornDisk<MemDisk>) -> (usize, u32) {
     }
 }
 
-/// Stops a deed over a disk of these bytes at a call, and opens images of what that left.
+/// Stops a deed over a disk of these bytes at a call, and opens images of what that left. Of a single byte that was written so many values
+/// are tried.
 pub(crate) fn try_stop(
     alloc: Global,
     found: &mut Found,
     bytes: &[u8],
     deed: Deed<'_>,
     stop: u32,
+    values: u32,
 ) -> Option<()> {
     let left = stopped(alloc, bytes, deed, stop)?;
-    let (subsets, images) = numbers_of(&left);
+    let (subsets, images) = numbers_of(&left, values);
     for came in 0..subsets {
         found.count(&kept_in(alloc, left.image_with(alloc, came).ok()?)?);
     }
