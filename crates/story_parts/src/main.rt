@@ -31,7 +31,7 @@ mod watch;
 mod words;
 
 use crate::server::Story;
-use anyhow::{Context, Result};
+use anyhow::Result;
 use std::str;
 
 fn main(rt: HostRuntime) -> Result<()> {
