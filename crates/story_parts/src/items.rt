@@ -1,31 +1,10 @@
 //! Items of XDR (RFC 1014).
 
-use crate::words::{again, bytes_of, numbered};
+use crate::words::{again, bytes_of};
 use anyhow::Result;
 use nq_xdr::{Reader, Writer};
 use std::alloc::Global;
 use std::str;
-
-/// How many bytes opaque data has, below a bound, or why it has none.
-pub(crate) fn opaque(alloc: Global, rest: &str) -> Result<String> {
-    let (max, bytes) = numbered(alloc, rest)?;
-    let mut reader = Reader::new(&bytes);
-    let said = match reader.opaque(max) {
-        Ok(read) => format!(in alloc; "{} bytes, {} left", read.len(), reader.rest().len())?,
-        Err(fault) => format!(in alloc; "{fault:?}, {} left", reader.rest().len())?,
-    };
-    Ok(said)
-}
-
-pub(crate) fn boolean(alloc: Global, rest: &str) -> Result<String> {
-    let bytes = bytes_of(alloc, rest)?;
-    let mut reader = Reader::new(&bytes);
-    let said = match reader.boolean() {
-        Ok(read) => format!(in alloc; "{read}")?,
-        Err(fault) => format!(in alloc; "{fault:?}")?,
-    };
-    Ok(said)
-}
 
 /// A file as RFC 1014 section 6 has it: its name, its kind, its interpreter, its owner and its data.
 pub(crate) fn file(alloc: Global, rest: &str) -> Result<String> {

@@ -1,32 +1,37 @@
-//! Worked stories of the parts: what they read, a server, and clients. The expected bytes are written from RFC 1014, from RFC 1057 section 8
-//! and from the table of procedures, not from what a part sent.
+//! Worked stories of the parts: what they read, a server, clients, and what no clause can say, since it is the machine's. The expected bytes
+//! are written from RFC 1014, from RFC 1057 section 8 and from the table of procedures, not from what a part sent.
 //!
 //! The stories stand in the standard input; a line behind a `#` is for the reader. A line that begins with `=` begins one of a server that
 //! booted for the first time and keeps nothing. Each line behind it happens to the server and is printed with what comes of it: `tick` or
 //! `crash` with its time; or a host and the words of its datagram, answered by the host and the words of each datagram that the server sends,
-//! with `|` between two, or by why it drops what came. `tell` prints the journal.
+//! with `|` between two, or by why it drops what came. `fronts` brings each front of a datagram in turn. `tell` prints the journal.
 //!
 //! A line that begins with `client` is a whole story of a client: its name, whether the client of incarnation 1 is `attached` at time 0 or
 //! `start`s there, its host and the term that it wants, and what happens, parted by `;`. A user calls; `receive` brings a datagram in the
 //! packet of a number; `ticks` lets the clock tick so often; and `cached` reads a cached block. Printed is what comes of each, then the number
 //! and the procedure of each datagram that was sent, and then the journal.
 //!
-//! A line that begins with the name of an item, a message, a request, a reply, a datagram, a journal or a schedule is read as one: its
-//! numbers, and words in hexadecimal or a text, in which `;` stands for each line feed and `\r` for a carriage return. What was read is
+//! A line that begins with `file`, `message`, `request` or `reply` is read as one: its numbers, and words in hexadecimal. What was read is
 //! written again, and `again` says that this gives the same.
+//!
+//! A line that begins with `machine` says which part of the machine is tried: sources over its readers, sinks over its writers, its clock, what
+//! comes over UDP, or a disk in one of its files.
 #![tactic(auto)]
 
 mod client;
 mod datagrams;
+mod disks;
 mod items;
 mod journals;
 mod messages;
-mod schedules;
 mod server;
+mod strangers;
+mod streams;
+mod watch;
 mod words;
 
 use crate::server::Story;
-use anyhow::{Context, Result};
+use anyhow::Result;
 use std::str;
 
 fn main(rt: HostRuntime) -> Result<()> {
@@ -48,6 +53,7 @@ fn main(rt: HostRuntime) -> Result<()> {
 fn play(rt: &HostRuntime, story: &mut Story, verb: &str, rest: &str) -> Result<()> {
     match verb {
         "client" => client::play(rt, rest)?,
+        "machine" => machine(rt, rest)?,
         "tell" => {
             let journal = journals::told(rt.alloc(), story.log())?;
             print!(rt; "{}", str::from_utf8(journal.bytes())?)?;
@@ -61,21 +67,26 @@ fn play(rt: &HostRuntime, story: &mut Story, verb: &str, rest: &str) -> Result<(
     Ok(())
 }
 
+/// Tries a part of the machine.
+fn machine(rt: &HostRuntime, part: &str) -> Result<()> {
+    match part {
+        "sources" => streams::sources(rt),
+        "sinks" => streams::sinks(rt),
+        "clock" => watch::clocks(rt),
+        "UDP" => strangers::strangers(rt),
+        _ => disks::disks(rt),
+    }
+}
+
 /// What a line is read as, or what the server answers to it.
 fn said_of(rt: &HostRuntime, story: &mut Story, verb: &str, rest: &str) -> Result<String> {
     let alloc = rt.alloc();
     match verb {
-        "opaque" => items::opaque(alloc, rest),
-        "boolean" => items::boolean(alloc, rest),
         "file" => items::file(alloc, rest),
         "message" => messages::message(alloc, rest),
-        "prefixes" => messages::prefixes(alloc, rest),
         "request" => datagrams::request(alloc, rest),
         "reply" => datagrams::reply(alloc, rest),
-        "incoming" => datagrams::incoming(alloc, rest),
-        "heard" => datagrams::heard(alloc, rest),
-        "journal" => journals::journal(alloc, rest),
-        "schedule" => schedules::schedule(rt, rest),
+        "fronts" => story.fronts(rest),
         _ => story.answer(verb, rest),
     }
 }

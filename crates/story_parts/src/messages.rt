@@ -2,7 +2,7 @@
 
 use crate::words::{again, bytes_of};
 use anyhow::Result;
-use nq_rpc::{CallMessage, Message, Outcome, RpcFault, decode, encode};
+use nq_rpc::{CallMessage, Message, Outcome, decode, encode};
 use std::alloc::Global;
 
 /// What a message is, and whether it is written so again.
@@ -44,18 +44,4 @@ fn outcome_text(alloc: Global, outcome: &Outcome) -> Result<String> {
         Outcome::RpcMismatch { low, high } => format!(in alloc; "RPC {low} to {high}")?,
         Outcome::AuthError(why) => format!(in alloc; "not believed: {why}")?,
     })
-}
-
-/// The sizes of the prefixes that do not end inside an item.
-pub(crate) fn prefixes(alloc: Global, rest: &str) -> Result<String> {
-    let bytes = bytes_of(alloc, rest)?;
-    let mut said = String::new(alloc);
-    for size in 0..=bytes.len() {
-        let prefix = bytes.get(..size).unwrap_or(&[]);
-        match decode(alloc, prefix) {
-            Err(RpcFault::Short) => {}
-            _ => write!(said, "{size} ")?,
-        }
-    }
-    Ok(said)
 }

@@ -2,7 +2,7 @@
 
 ghost use Rattle.std.specs.Prelude.{◌≡◌, ◌≤◌, ◌<◌, ◌^◌, true};
 
-use crate::words::{bytes_of, push_words};
+use crate::words::{bytes_of, numbered, push_words};
 use anyhow::{Context, Result};
 use nq_base::{Host, Journal, Party, Ticks};
 use nq_keeper::ListKeeper;
@@ -40,16 +40,32 @@ impl Story {
         })
     }
 
+    /// Takes in a datagram that comes from a host, and tells what comes of it.
+    fn take(&mut self, host: Host, datagram: &[u8]) -> Result<String> {
+        let mut out = Outbox::new(self.alloc, self.next)?;
+        let received = self
+            .server
+            .receive(self.alloc, host, datagram, &mut out, &mut self.log);
+        self.next = out.next();
+        answer_of(self.alloc, received, &out)
+    }
+
     /// Takes in the words of a datagram that comes from a host, and tells what comes of it.
     pub(crate) fn answer(&mut self, host: &str, words: &str) -> Result<String> {
         let host = Host(u32::from_str_radix(host, 16)?);
         let datagram = bytes_of(self.alloc, words)?;
-        let mut out = Outbox::new(self.alloc, self.next)?;
-        let received = self
-            .server
-            .receive(self.alloc, host, &datagram, &mut out, &mut self.log);
-        self.next = out.next();
-        answer_of(self.alloc, received, &out)
+        self.take(host, &datagram)
+    }
+
+    /// Takes in each front of a datagram that comes from a host, and tells in a line what comes of it.
+    pub(crate) fn fronts(&mut self, told: &str) -> Result<String> {
+        let (host, datagram) = numbered(self.alloc, told)?;
+        let mut text = String::new(self.alloc);
+        for size in 0..=datagram.len() {
+            let said = self.take(Host(host), datagram.get(..size).unwrap_or(&[]))?;
+            write!(text, "\n{size} bytes: {said}")?;
+        }
+        Ok(text)
     }
 
     /// Whether the server's clock may show a time.

@@ -1,4 +1,4 @@
-//! Datagrams as words in hexadecimal, and texts in a line.
+//! Datagrams as words in hexadecimal.
 
 use anyhow::{Context, Result};
 use std::alloc::Global;
@@ -40,21 +40,6 @@ pub(crate) fn numbered(alloc: Global, text: &str) -> Result<(u32, Vec<u8>)> {
     let (number, words) = text.split_once(' ').context("a number alone")?;
     let bytes = bytes_of(alloc, words)?;
     Ok((u32::from_str_radix(number, 16)?, bytes))
-}
-
-/// The text whose line feeds stand as `;`, and its carriage returns as `\r`.
-pub(crate) fn text_of(alloc: Global, line: &str) -> Result<String> {
-    let (lines, ended) = match line.strip_suffix(';') {
-        Some(lines) => (lines, true),
-        None => (line, false),
-    };
-    let mut text = lines
-        .replace(alloc, "; ", "\n")?
-        .replace(alloc, "\\r", "\r")?;
-    if ended {
-        text.push('\n')?;
-    }
-    Ok(text)
 }
 
 /// A word for whether what was written again is what was read.

@@ -17,7 +17,7 @@ pub(crate) fn show_again(rt: &HostRuntime, text: &[u8]) -> Result<()> {
     let end = end_of_first(text).context("no schedule")?;
     let schedule = text.get(..end).context("no schedule")?.to_vec(rt.alloc())?;
     let behind = text.get(end..).context("no journal")?;
-    let (_, out) = play(rt.alloc(), "plain", "replay", schedule)?;
+    let (_ended, out) = play(rt.alloc(), "plain", "replay", schedule)?;
     let journal = out.bytes();
     if !behind.starts_with(journal) {
         bail!("another journal");

@@ -1,18 +1,26 @@
 //! The parts of a scene.
 
-ghost use Rattle.std.specs.Prelude.{◌≡◌, ◌+◌, ℕ, Some, true, IfOk, length, vec_len};
+ghost use Rattle.std.specs.Prelude.{◌≡◌, ◌+◌, ℕ, Some, IfOk, vec_len};
 ghost use Rattle.nq_command.specs.Commands.{command_of};
 ghost use Rattle.nq_command.specs.declared.Command.{Command};
-ghost use Rattle.nq_keeper.specs.StoredKeeper.{empty_kept, told_of};
-ghost use Rattle.nq_run.specs.Frames.{makes_a_run};
 
-use anyhow::{Context, Result};
-use nq_base::{Change, Heads, Host, Party, Ticks};
+use anyhow::{Result, bail};
+use nq_base::{Host, Party, Ticks};
 use nq_clock::MemClock;
-use nq_keeper::{KeepFault, Keeper, ListKeeper};
+use nq_disk::{MemDisk, Room};
+use nq_disk_run::{Command, NoMemory, Words};
 use nq_link::MemLink;
-use nq_run::{Command, NoMemory, Words};
 use std::alloc::Global;
+
+/// How long an image is in which nothing is kept.
+const EMPTY: usize = 1_093_632;
+
+/// How much a disk takes: the bytes of the largest image, and as many calls and written bytes as can be counted.
+const ROOM: Room = Room {
+    size: 68_202_496,
+    calls: u32::MAX,
+    written: u64::MAX,
+};
 
 /// The reply to request 1: the server attached the host.
 const ATTACHED: [u8; 32] = [
@@ -28,42 +36,45 @@ pub(crate) fn failing(alloc: Global, first: bool) -> Result<Vec<u32>, NoMemory> 
     Ok(numbers)
 }
 
-/// Keeps in an empty keeper that the last boot that there can be was made.
-fn keep_last_boot(keeper: &mut ListKeeper) -> Result<(), KeepFault>
-    requires { told_of keeper.old.kept ≡ empty_kept }
-{
-    keeper.commit(Change {
-        file: None,
-        block: None,
-        host: None,
-        heads: Some(Heads {
-            boot: 0x7fff_ffff,
-            opened: 1,
-            longest: 60,
-            next: 1,
-        }),
-        removed: None,
-    })
-}
-
-/// The keeper of a scene, which keeps nothing yet, but for a server in a scene that begins with `spent`.
-pub(crate) fn keeper_of(alloc: Global, scene: &str, words: &Words) -> Result<ListKeeper>
-    ensures { IfOk result (λ k. makes_a_run (command_of words.now) ≡ true → told_of k.kept ≡ empty_kept) }
-{
-    let failing = failing(alloc, scene.ends_with("unkept"))?;
-    match words.command() {
-        Some(Command::Serve { .. }) => keeper_to_serve(alloc, scene, failing),
-        _ => Ok(ListKeeper::new(alloc, failing)?),
-    }
-}
-
-/// The keeper of a server in a scene.
-fn keeper_to_serve(alloc: Global, scene: &str, failing: Vec<u32>) -> Result<ListKeeper> {
-    let mut keeper = ListKeeper::new(alloc, failing)?;
+/// What the image of a scene says of its server: the last boot, the last one that served, the longest term and the next file.
+fn heads_of(scene: &str) -> [u32; 4] {
     if scene.starts_with("spent") {
-        keep_last_boot(&mut keeper).ok().context("nothing is kept")?;
+        [0x7fff_ffff, 1, 60, 1]
+    } else if scene.starts_with("spoilt") {
+        [0, 0, 4, 1]
+    } else {
+        [0, 0, 60, 1]
     }
-    Ok(keeper)
+}
+
+/// An image in which nothing is kept, with these numbers of its server.
+fn image_of(alloc: Global, heads: [u32; 4]) -> Result<Vec<u8>> {
+    let mut bytes = Vec::from_slice(alloc, b"NQNFSIM2")?;
+    for number in heads {
+        bytes.extend_from_slice(&number.to_be_bytes())?;
+    }
+    bytes.resize(EMPTY, 0)?;
+    Ok(bytes)
+}
+
+/// The bytes of the disk of a scene: those of an image for a server, unless the scene begins with `blank`; else none.
+fn bytes_of(alloc: Global, scene: &str, words: &Words) -> Result<Vec<u8>> {
+    let serves = matches!(words.command(), Some(Command::Serve { .. }));
+    if serves && !scene.starts_with("blank") {
+        image_of(alloc, heads_of(scene))
+    } else {
+        Ok(Vec::new(alloc))
+    }
+}
+
+/// The disk of a scene.
+pub(crate) fn disk_of(alloc: Global, scene: &str, words: &Words) -> Result<MemDisk> {
+    let bytes = bytes_of(alloc, scene, words)?;
+    if 68_202_496 < bytes.len() {
+        bail!("more bytes than a disk has");
+    }
+    let failing = failing(alloc, scene.ends_with("unkept"))?;
+    Ok(MemDisk::new(alloc, bytes, ROOM, failing, None)?)
 }
 
 /// For how many datagrams, and how many bytes, a link has room in a scene.

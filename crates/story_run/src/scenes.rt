@@ -1,11 +1,12 @@
 //! What words do in a scene.
 
-use crate::parts::{clock_of, failing, keeper_of, link_of, links_of};
-use crate::top::status_of;
+use crate::parts::{clock_of, disk_of, failing, link_of, links_of};
+use crate::top::ran;
 use anyhow::Result;
 use nq_base::{Host, Party};
+use nq_disk::MemDisk;
+use nq_disk_run::{Ended, Words};
 use nq_io::{MemSink, MemSource};
-use nq_run::Words;
 use std::alloc::Global;
 
 /// The most bytes that a scene prints.
@@ -26,29 +27,29 @@ fn sink_of(alloc: Global, scene: &str) -> Result<MemSink> {
     Ok(MemSink::new(alloc, ROOM, failing)?)
 }
 
-/// Runs what words say in a scene, with an input; the status, and what was printed.
+/// Runs what words say in a scene, with an input: how it ended, and what was printed.
 pub(crate) fn play(
     alloc: Global,
     scene: &str,
     said: &str,
     input: Vec<u8>,
-) -> Result<(u8, MemSink)> {
+) -> Result<(Ended<MemDisk>, MemSink)> {
     let words = words_of(alloc, said)?;
     let mut source = MemSource::new(input, failing(alloc, scene.ends_with("unread"))?);
     let mut out = sink_of(alloc, scene)?;
-    let keeper = keeper_of(alloc, scene, &words)?;
+    let disk = disk_of(alloc, scene, &words)?;
     let mut link = link_of(alloc, scene, Party::Client(Host(0)))?;
     let mut links = links_of(alloc, scene, &words)?;
     let mut clock = clock_of(alloc, scene)?;
-    let status = status_of(
+    let ended = ran(
         alloc,
         &words,
         &mut source,
         &mut out,
-        keeper,
+        disk,
         &mut link,
         links.as_mut_slice(),
         &mut clock,
     )?;
-    Ok((status, out))
+    Ok((ended, out))
 }

@@ -1,30 +1,31 @@
 //! The top call, over anything.
 
-ghost use Rattle.std.specs.Prelude.{◌≡◌, ◌+◌, ℕ, Some, true, length};
+ghost use Rattle.std.specs.Prelude.{◌≡◌, ◌+◌, ℕ, List, Some, true, length};
 ghost use Rattle.nq_command.specs.Commands.{command_of};
 ghost use Rattle.nq_command.specs.declared.Command.{Command};
-ghost use Rattle.nq_keeper.specs.StoredKeeper.{empty_kept};
 ghost use Rattle.nq_run.specs.Frames.{makes_a_run};
 
 use nq_clock::Clock;
+use nq_disk::Disk;
+use nq_disk_run::{
+    CutFate, Ended, Fate, HostileFate, LossyFate, NoMemory, SteadyFate, Words, run_disk,
+};
 use nq_io::{Sink, Source};
-use nq_keeper::Keeper;
 use nq_link::Link;
-use nq_run::{CutFate, Fate, HostileFate, LossyFate, NoMemory, SteadyFate, Words, run};
 use std::alloc::Global;
 
-/// Runs what the words say; the status. What `run` promises stays within: a story knows none of it, and so proves nothing of it either.
-pub(crate) fn status_of<S: Source, K: Sink, P: Keeper + Drop, L: Link, C: Clock>(
+/// Runs what the words say. What `run_disk` promises stays within: a story knows none of it, and so proves nothing of it either.
+pub(crate) fn ran<S: Source, K: Sink, D: Disk + Drop, L: Link, C: Clock>(
     alloc: Global,
     words: &Words,
     input: &mut S,
     out: &mut K,
-    keeper: P,
+    disk: D,
     link: &mut L,
     links: &mut [L],
     clock: &mut C,
-) -> Result<u8, NoMemory>
-    requires empty { makes_a_run (command_of words.now) ≡ true → P.content keeper ≡ Some empty_kept }
+) -> Result<Ended<D>, NoMemory>
+    requires tells { makes_a_run (command_of words.now) ≡ true → (bytes : List ℕ) × (D.told disk ≡ Some bytes) }
     requires links { (hosts turns : ℕ) → command_of words.now ≡ Some (Command.Loop hosts turns) → length links.old ≡ hosts + 1 }
 {
     let mut fates: Vec<Box<dyn Fate>> = Vec::new(alloc);
@@ -32,16 +33,16 @@ pub(crate) fn status_of<S: Source, K: Sink, P: Keeper + Drop, L: Link, C: Clock>
     fates.push(Box::new(alloc, LossyFate::new())?)?;
     fates.push(Box::new(alloc, CutFate::new())?)?;
     fates.push(Box::new(alloc, HostileFate::new())?)?;
-    let ran = run(
+    let ended = run_disk(
         alloc,
         words,
         input,
         out,
-        keeper,
+        disk,
         link,
         links,
         clock,
         fates.as_mut_slice(),
     );
-    Ok(ran.status)
+    Ok(ended)
 }

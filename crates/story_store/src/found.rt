@@ -1,8 +1,6 @@
-//! What is found again of a request that was stopped.
+//! What is found again of a deed that was stopped.
 
-use crate::asking::ask;
-use crate::telling::tell;
-use crate::torn_disk::TornDisk;
+use crate::kept::tell;
 use nq_disk::Disk;
 use nq_store::Store;
 use std::alloc::Global;
@@ -13,36 +11,26 @@ pub(crate) fn kept_on<D: Disk + Drop>(alloc: Global, disk: D) -> Option<Vec<u64>
     tell(alloc, &mut store)
 }
 
-/// A disk after a request that was stopped; None where it was stopped before that.
-pub(crate) fn asked<D: Disk + Drop>(
-    alloc: Global,
-    disk: TornDisk<D>,
-    turn: u32,
-) -> Option<TornDisk<D>> {
-    let mut store = Store::open(alloc, disk).ok()?;
-    let _ = ask(alloc, &mut store, turn);
-    Some(store.into_disk())
-}
-
-/// How often what was kept before a request was found again, how often what is kept after it, and how often anything else.
+/// How often what was kept before a deed was found again, how often what is kept after it, and how often anything else.
 #[derive(Drop)]
 pub(crate) struct Found {
-    pub(crate) before: Vec<u64>,
-    pub(crate) after: Vec<u64>,
+    before: Vec<u64>,
+    after: Vec<u64>,
     old: u32,
     new: u32,
     other: u32,
 }
 
 impl Found {
-    pub(crate) fn new(before: Vec<u64>, after: Vec<u64>) -> Found {
-        Found {
-            before,
-            after,
+    /// Nothing was found yet.
+    pub(crate) fn new(alloc: Global, before: &[u64], after: &[u64]) -> Option<Found> {
+        Some(Found {
+            before: Vec::from_slice(alloc, before).ok()?,
+            after: Vec::from_slice(alloc, after).ok()?,
             old: 0,
             new: 0,
             other: 0,
-        }
+        })
     }
 
     /// Counts what was found.

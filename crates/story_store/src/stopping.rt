@@ -1,102 +1,113 @@
-//! Each request is stopped at each call of a disk in memory.
+//! A deed over a disk in memory is stopped at a call.
 
-use crate::asking::name_of;
-use crate::found::{Found, asked, kept_on};
-use crate::torn_disk::TornDisk;
+use crate::events::{Deed, after};
+use crate::found::{Found, kept_on};
+use crate::torn_disk::{ALL, TornDisk};
 use nq_disk::{MemDisk, Room};
-use nq_store::format;
 use std::alloc::Global;
 
-/// How many images with torn writes are opened of each stop, and how many where a single byte was written: each with another byte.
-const TORN: u32 = 8;
+/// How many images with torn writes are opened of each stop, where few writes may be torn, and where many.
+const FEW: u32 = 16;
 
-const BYTES: u32 = 32;
+const MANY: u32 = 4;
 
 /// The most writes of which each subset is tried.
 const MOST: usize = 5;
 
 /// How much a disk takes.
 const ROOM: Room = Room {
-    size: 2_000_000,
-    calls: 1000,
-    written: 2_000_000,
+    size: 4_000_000,
+    calls: 10_000,
+    written: 16_000_000,
 };
 
 /// No call is stopped.
-pub(crate) const NEVER: u32 = u32::MAX;
+const NEVER: u32 = u32::MAX;
 
 /// A disk in memory of these bytes.
-fn disk_of(alloc: Global, bytes: &[u8]) -> Option<MemDisk> {
-    if 2_000_000 < bytes.len() {
+pub(crate) fn disk_of(alloc: Global, bytes: Vec<u8>) -> Option<MemDisk> {
+    if 4_000_000 < bytes.len() {
         return None;
     }
-    let held = Vec::from_slice(alloc, bytes).ok()?;
-    MemDisk::new(alloc, held, ROOM, Vec::new(alloc), None).ok()
-}
-
-/// The bytes of a disk that was formatted.
-pub(crate) fn formatted(alloc: Global) -> Option<Vec<u8>> {
-    let mut disk = disk_of(alloc, &[])?;
-    format(&mut disk).ok()?;
-    Vec::from_slice(alloc, disk.bytes()).ok()
+    MemDisk::new(alloc, bytes, ROOM, Vec::new(alloc), None).ok()
 }
 
 /// What is kept on a disk of these bytes.
-pub(crate) fn kept_in(alloc: Global, bytes: &[u8]) -> Option<Vec<u64>> {
+pub(crate) fn kept_in(alloc: Global, bytes: Vec<u8>) -> Option<Vec<u64>> {
     kept_on(alloc, disk_of(alloc, bytes)?)
 }
 
-/// A disk of these bytes after a request that was stopped at a call; None where it was stopped before that.
-pub(crate) fn stopped(
-    alloc: Global,
-    bytes: &[u8],
-    turn: u32,
-    stop: u32,
-) -> Option<TornDisk<MemDisk>> {
-    let disk = TornDisk::new(alloc, disk_of(alloc, bytes)?, bytes, stop).ok()?;
-    asked(alloc, disk, turn)
+/// A disk of these bytes after a deed that was stopped at a call.
+fn stopped(alloc: Global, bytes: &[u8], deed: Deed<'_>, stop: u32) -> Option<TornDisk<MemDisk>> {
+    let own = Vec::from_slice(alloc, bytes).ok()?;
+    let disk = TornDisk::new(alloc, disk_of(alloc, own)?, bytes, stop).ok()?;
+    after(alloc, disk, deed)
 }
 
-/// Opens images of what a stop left.
-fn try_images(
+/// Where a deed led: the bytes of the disk, what is kept on it, and how many calls were made of it.
+#[derive(Drop)]
+pub(crate) struct Reached {
+    pub(crate) bytes: Vec<u8>,
+    pub(crate) kept: Vec<u64>,
+    pub(crate) calls: u32,
+}
+
+impl Reached {
+    /// No call was made yet of a disk of these bytes.
+    pub(crate) fn at_first(alloc: Global, bytes: &[u8]) -> Option<Reached> {
+        let own = Vec::from_slice(alloc, bytes).ok()?;
+        Reached::of(alloc, own, 0)
+    }
+
+    fn of(alloc: Global, bytes: Vec<u8>, calls: u32) -> Option<Reached> {
+        let kept = kept_in(alloc, Vec::from_slice(alloc, &bytes).ok()?)?;
+        Some(Reached { bytes, kept, calls })
+    }
+
+    /// After a deed over a disk of these bytes.
+    pub(crate) fn after(alloc: Global, bytes: &[u8], deed: Deed<'_>) -> Option<Reached> {
+        let done = stopped(alloc, bytes, deed, NEVER)?;
+        let own = Vec::from_slice(alloc, done.disk.bytes()).ok()?;
+        Reached::of(alloc, own, done.calls())
+    }
+}
+
+/// How many subsets of the writes since the last sync are tried, but for the one that has all, and how many images with torn writes: so many
+/// where a single byte was written, each with another byte.
+fn numbers_of(left: &TornDisk<MemDisk>, values: u32) -> (usize, u32) {
+    let writes = left.writes();
+    if writes == 0 {
+        (0, 0)
+    } else if left.is_small() {
+        (1, values)
+    } else if writes <= MOST {
+        ((1_usize << writes).saturating_sub(1), FEW)
+    } else {
+        (1, MANY)
+    }
+}
+
+/// Stops a deed over a disk of these bytes at a call, and opens images of what that left. Of a single byte that was written so many values
+/// are tried.
+pub(crate) fn try_stop(
+    alloc: Global,
     found: &mut Found,
-    alloc: Global,
-    random: &mut u32,
-    left: &TornDisk<MemDisk>,
+    bytes: &[u8],
+    deed: Deed<'_>,
+    stop: u32,
+    values: u32,
 ) -> Option<()> {
-    let subsets = 1 << left.writes().min(MOST);
+    let left = stopped(alloc, bytes, deed, stop)?;
+    let (subsets, images) = numbers_of(&left, values);
     for came in 0..subsets {
-        found.count(&kept_in(alloc, &left.image_with(alloc, came).ok()?)?);
+        found.count(&kept_in(alloc, left.image_with(alloc, came).ok()?)?);
     }
-    let images = if left.is_small() { BYTES } else { TORN };
+    found.count(&kept_in(alloc, left.image_with(alloc, ALL).ok()?)?);
+    let mut random = stop;
     for number in 0..images {
-        let image = left.torn_image(alloc, random, number as u8).ok()?;
-        found.count(&kept_in(alloc, &image)?);
-    }
-    Some(())
-}
-
-/// Stops a request at each of its calls. Gives the bytes after it.
-fn try_request(rt: &HostRuntime, random: &mut u32, bytes: &[u8], turn: u32) -> Option<Vec<u8>> {
-    let alloc = rt.alloc();
-    let done = stopped(alloc, bytes, turn, NEVER)?;
-    let after = Vec::from_slice(alloc, done.disk.bytes()).ok()?;
-    let mut found = Found::new(kept_in(alloc, bytes)?, kept_in(alloc, &after)?);
-    for stop in 0..done.calls() {
-        if let Some(left) = stopped(alloc, bytes, turn, stop) {
-            try_images(&mut found, alloc, random, &left)?;
-        }
-    }
-    found.print(rt, name_of(turn)?)?;
-    Some(after)
-}
-
-/// Tries the requests.
-pub(crate) fn try_all(rt: &HostRuntime) -> Option<()> {
-    let mut random = 1;
-    let mut bytes = formatted(rt.alloc())?;
-    for turn in 0..10 {
-        bytes = try_request(rt, &mut random, &bytes, turn)?;
+        let byte = (number & 0xff) as u8;
+        let image = left.torn_image(alloc, &mut random, byte).ok()?;
+        found.count(&kept_in(alloc, image)?);
     }
     Some(())
 }

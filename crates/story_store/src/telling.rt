@@ -1,62 +1,99 @@
-//! What a server keeps, in numbers.
+//! Prints what is kept.
 
-use nq_base::{Block, BlockNo, FileId, FileRow, Host, Seen};
-use nq_files::{ReadOut, read_block};
-use nq_keeper::Keeper;
-use std::alloc::Global;
+use anyhow::{Context, Result};
+use nq_base::{FileRow, Heads, HostRow, Verdict};
+use nq_image::{FoundFile, KeptImage};
 
-/// A number that stands on each of the bytes.
-fn sum_of(bytes: &[u8]) -> u64 {
-    let mut sum: u64 = 0;
-    for byte in bytes {
-        sum = sum.wrapping_mul(31).wrapping_add(u64::from(*byte));
+/// Prints the numbers of the server, the rows of hosts that are not all zeros, and the files with their blocks that are not.
+pub(crate) fn tell(rt: &HostRuntime, kept: &KeptImage, bytes: &[u8]) -> Result<()> {
+    println!(rt; "ok")?;
+    tell_heads(rt, &kept.heads)?;
+    for (host, row) in kept.hosts.iter().enumerate() {
+        tell_host(rt, host, row)?;
     }
-    sum
+    for file in &kept.files {
+        tell_file(rt, file, &kept.blocks, bytes)?;
+    }
+    Ok(())
 }
 
-/// The word that a block repeats, or a number that stands on each of its bytes.
-fn number_of(body: &Block) -> u64 {
-    match body.seen() {
-        Seen::Filled(value) => u64::from(value),
-        Seen::Bytes(bytes) => sum_of(bytes),
+fn tell_heads(rt: &HostRuntime, heads: &Heads) -> Result<()> {
+    println!(rt;
+        "  heads boot {} opened {} longest {} next {}",
+        heads.boot, heads.opened, heads.longest, heads.next
+    )?;
+    Ok(())
+}
+
+/// The number of a verdict in an image.
+fn number_of(verdict: Verdict) -> u8 {
+    match verdict {
+        Verdict::Done => 0,
+        Verdict::Fenced => 1,
+        Verdict::Exist => 2,
+        Verdict::NoSpace => 3,
+        Verdict::Invalid => 4,
+        Verdict::Stale => 5,
+        Verdict::TryLater => 6,
     }
 }
 
-/// Adds the blocks of a file.
-fn add_blocks<K: Keeper>(keeper: &mut K, row: &FileRow, told: &mut Vec<u64>) -> Option<()> {
-    for block in 0..row.blocks {
-        match read_block(keeper, row.id, BlockNo(block)).ok()? {
-            ReadOut::Got { body, .. } => told.push(number_of(&body)).ok()?,
-            _ => return None,
-        }
+fn tell_host(rt: &HostRuntime, host: usize, row: &HostRow) -> Result<()> {
+    let verdict = number_of(row.verdict);
+    if row.inc.0 == 0 && row.seq.0 == 0 && verdict == 0 && row.value == 0 {
+        return Ok(());
     }
-    Some(())
+    println!(rt;
+        "  host {host} inc {} seq {} verdict {verdict} value {}",
+        row.inc.0, row.seq.0, row.value
+    )?;
+    Ok(())
 }
 
-/// Adds a file, if there is one of this id.
-fn add_file<K: Keeper>(keeper: &mut K, id: u32, told: &mut Vec<u64>) -> Option<()> {
-    let Some(row) = keeper.file(FileId(id)).ok()? else {
-        return Some(());
-    };
-    let name = sum_of(row.name.as_bytes());
-    told.extend_from_slice(&[u64::from(id), name, row.rev.0])
-        .ok()?;
-    add_blocks(keeper, &row, told)
+fn tell_row(rt: &HostRuntime, row: &FileRow) -> Result<()> {
+    let name = str::from_utf8(row.name.as_bytes())?;
+    println!(rt;
+        "  file {} name {name} blocks {} rev {}",
+        row.id.0, row.blocks, row.rev.0
+    )?;
+    Ok(())
 }
 
-/// What is kept of the server, of host 5, and of the files 1 to 3.
-pub(crate) fn tell<K: Keeper>(alloc: Global, keeper: &mut K) -> Option<Vec<u64>> {
-    let heads = keeper.heads().ok()?;
-    let host = keeper.host(Host(5)).ok()?;
-    let first = [
-        u64::from(heads.next),
-        u64::from(host.inc.0),
-        host.seq.0,
-        host.value,
-    ];
-    let mut told = Vec::from_slice(alloc, &first).ok()?;
-    for id in 1..4 {
-        add_file(keeper, id, &mut told)?;
+/// Prints a file and its blocks.
+fn tell_file(rt: &HostRuntime, file: &FoundFile, blocks: &[u32], bytes: &[u8]) -> Result<()> {
+    tell_row(rt, &file.row)?;
+    let own = blocks.get(file.start as usize..).context("no blocks")?;
+    for (number, block) in own.iter().take(file.row.blocks as usize).enumerate() {
+        let place = 40960 + 4096 * u64::from(*block);
+        let body = bytes.get(place as usize..).context("no body")?;
+        let body = body.get(..4096).context("no whole body")?;
+        tell_block(rt, file.row.id.0, number, body)?;
     }
-    Some(told)
+    Ok(())
+}
+
+/// The number of these bytes, the highest first.
+fn number_in(word: &[u8]) -> u64 {
+    let mut number: u64 = 0;
+    for byte in word {
+        number = number.saturating_mul(256).saturating_add(u64::from(*byte));
+    }
+    number
+}
+
+/// Prints a block that is not all zeros: the word that it repeats, or all its bytes.
+fn tell_block(rt: &HostRuntime, file: u32, number: usize, body: &[u8]) -> Result<()> {
+    if body.iter().all(|byte| *byte == 0) {
+        return Ok(());
+    }
+    let word = body.get(..4).context("no word")?;
+    if body.chunks(4).all(|other| other == word) {
+        println!(rt; "  block {file} {number} fill {}", number_in(word))?;
+    } else {
+        println!(rt;
+            "  block {file} {number} bytes {}",
+            hex::encode(rt.alloc(), body)?
+        )?;
+    }
+    Ok(())
 }

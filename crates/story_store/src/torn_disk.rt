@@ -10,6 +10,9 @@ use nq_memory::NoMemory;
 use std::alloc::Global;
 use std::marker::Model;
 
+/// The number of the set that has all writes.
+pub(crate) const ALL: usize = usize::MAX;
+
 /// What was written since the last sync.
 #[derive(Drop)]
 struct Open {
@@ -141,7 +144,7 @@ impl<D: Disk + Drop> TornDisk<D> {
         Ok(())
     }
 
-    /// What a stop now may leave: of the writes since the last sync those came whole whose bit is set, and of the others nothing.
+    /// What a stop now may leave: of the writes since the last sync those came whole whose bit is set, or all, and of the others nothing.
     pub(crate) fn image_with(&self, alloc: Global, came: usize) -> Result<Vec<u8>, NoMemory> {
         let mut image = Vec::from_slice(alloc, &self.settled)?;
         let mut bits = came;
@@ -149,7 +152,9 @@ impl<D: Disk + Drop> TornDisk<D> {
             if bits % 2 == 1 {
                 write_over(&mut image, open.place, &open.bytes)?;
             }
-            bits /= 2;
+            if bits != ALL {
+                bits /= 2;
+            }
         }
         Ok(image)
     }

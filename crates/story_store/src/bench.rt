@@ -57,6 +57,13 @@ impl Bench {
         Ok(())
     }
 
+    /// Puts bytes in place of those that there are.
+    pub(crate) fn replace(&mut self, bytes: &[u8]) -> Result<()> {
+        self.image.clear();
+        self.image.extend_from_slice(bytes)?;
+        Ok(())
+    }
+
     /// Keeps the image under its name.
     pub(crate) fn keep(&mut self, alloc: Global) -> Result<()> {
         let name = String::from_str(alloc, &self.name)?;

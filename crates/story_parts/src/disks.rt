@@ -4,7 +4,7 @@ use anyhow::Result;
 use nq_disk::{Disk, FileDisk};
 use std::{fs, str};
 
-const PATH: &str = "story_machine.img";
+const PATH: &str = "story_parts.img";
 
 /// A file is a disk for one at a time.
 pub(crate) fn disks(rt: &HostRuntime) -> Result<()> {
