@@ -4,7 +4,7 @@ syncs on such a file, and the opening of the empty and of the largest image. It 
 
     bench/disk.py [--program FILE] [--folder FOLDER] [--rounds N]
 
-The program is the built `nq_store_times` (`rt run -- commit memory 100` in the crate's folder builds it). Each case is run with one
+The program is the built `nq_bench` (`rt run -- store-commit memory 100` in the crate's folder builds it). Each case is run with one
 turn and with many, in rounds of all cases, and the fastest runs count: what a run costs besides its turns falls out. On a file it is
 the time that passes, else the time of the processor. The files lie in the folder, which is best on a real disk.
 """
@@ -28,14 +28,14 @@ CASES = (
     ("read", "file", 100000),
     ("open", "memory", 4000),
     ("open", "file", 200),
-    ("fill", "memory", 40),
-    ("fill", "file", 40),
+    ("open-full", "memory", 40),
+    ("open-full", "file", 40),
 )
 
 
 def run(program, what, place, times):
     """Seconds of the processor, seconds that passed, and peak kilobytes of one run."""
-    words = ["/usr/bin/time", "-f", "%M", program, what, place, str(times)]
+    words = ["/usr/bin/time", "-f", "%M", program, f"store-{what}", place, str(times)]
     start = time.perf_counter()
     child = subprocess.Popen(words, stdout=subprocess.DEVNULL, stderr=subprocess.PIPE, text=True)
     said = child.stderr.read()
@@ -49,7 +49,7 @@ def run(program, what, place, times):
 
 def main():
     parser = argparse.ArgumentParser(description=__doc__.splitlines()[0])
-    parser.add_argument("--program", default=os.path.join(TOP, "crates", "nq_store_times", "out", "nq_store_times"))
+    parser.add_argument("--program", default=os.path.join(TOP, "crates", "nq_bench", "out", "nq_bench"))
     parser.add_argument("--folder")
     parser.add_argument("--rounds", type=int, default=5)
     asked = parser.parse_args()
@@ -61,13 +61,13 @@ def main():
                 for turns in (1, 1 + times):
                     runs = best.setdefault((what, place, turns), [])
                     runs.append(run(asked.program, what, path, turns))
-    print(f"{'what':<7} {'where':<7} {'turns':>9} {'microseconds':>13} {'peak MB':>8}")
+    print(f"{'what':<9} {'where':<7} {'turns':>9} {'microseconds':>13} {'peak MB':>8}")
     for what, place, times in CASES:
         column = 1 if place == "file" else 0
         one = min(seen[column] for seen in best[what, place, 1])
         many = min(seen[column] for seen in best[what, place, 1 + times])
         peak = max(seen[2] for seen in best[what, place, 1 + times])
-        print(f"{what:<7} {place:<7} {times:>9} {(many - one) / times * 1e6:>13.2f} {peak / 1024:>8.1f}")
+        print(f"{what:<9} {place:<7} {times:>9} {(many - one) / times * 1e6:>13.2f} {peak / 1024:>8.1f}")
 
 
 if __name__ == "__main__":

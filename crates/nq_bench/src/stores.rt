@@ -1,15 +1,25 @@
-//! Requests that are decided over what a server keeps.
+//! What a server keeps: requests that are decided over it, in lists or on a disk.
 
+use crate::disks;
 use nq_base::{
     Block, BlockNo, Decided, FileId, Gate, Host, Inc, Name, Number, Request, Seq, Verdict, Who,
 };
+use nq_disk::{FileDisk, MemDisk, Room};
 use nq_files::{ReadOut, decide, read_block};
-use nq_keeper::Keeper;
+use nq_keeper::{Keeper, ListKeeper};
+use std::alloc::Global;
 
 /// How many files of how many blocks fill an image.
 const MOST_FILES: u32 = 16;
 
 const MOST_BLOCKS: u32 = 1024;
+
+/// A disk in memory has room for the largest image, and for so many calls and bytes.
+const ROOM: Room = Room {
+    size: 68_202_496,
+    calls: 4_000_000,
+    written: 600_000_000,
+};
 
 /// Who asks.
 const ASKER: Who = Who {
@@ -23,6 +33,59 @@ const SERVING: Gate = Gate::Serving {
     conflict: false,
     writing_row: false,
 };
+
+/// What is done again and again.
+#[derive(Clone, Copy)]
+pub(crate) enum Deed {
+    /// A change of a block.
+    Commit,
+    /// A read of a block.
+    Read,
+    /// Four writes and syncs, as a change of a block has.
+    Bare,
+    /// The opening of an empty image.
+    Open,
+    /// The opening of the largest image.
+    OpenFull,
+    /// The opening of what stands on the disk.
+    OpenThere,
+}
+
+/// Does one thing so many times, with lists, with a disk in memory, or with the file at this path; None where that cannot be done
+/// there, memory is wanting, or the disk fails.
+pub(crate) fn often(rt: &HostRuntime, deed: Deed, place: &str, times: u64) -> Option<u64> {
+    let alloc = rt.alloc();
+    let times = u32::try_from(times).ok()?;
+    match place {
+        "list" => in_lists(alloc, deed, times),
+        "memory" => in_memory(alloc, deed, times),
+        path => in_file(rt, deed, path, times),
+    }
+}
+
+fn in_lists(alloc: Global, deed: Deed, times: u32) -> Option<u64> {
+    let mut keeper = ListKeeper::new(alloc, Vec::new(alloc)).ok()?;
+    over(&mut keeper, deed, times)
+}
+
+fn in_memory(alloc: Global, deed: Deed, times: u32) -> Option<u64> {
+    let disk = MemDisk::new(alloc, Vec::new(alloc), ROOM, Vec::new(alloc), None).ok()?;
+    disks::often(alloc, disk, deed, times)
+}
+
+fn in_file(rt: &HostRuntime, deed: Deed, path: &str, times: u32) -> Option<u64> {
+    let disk = FileDisk::new(rt.alloc(), rt.clone().ok()?, path).ok()?;
+    disks::often(rt.alloc(), disk, deed, times)
+}
+
+/// Does one thing over what is kept.
+pub(crate) fn over<K: Keeper>(keeper: &mut K, deed: Deed, times: u32) -> Option<u64> {
+    match deed {
+        Deed::Commit => commits(keeper, times),
+        Deed::Read => reads(keeper, times),
+        _ => None,
+    }
+}
 
 /// The value of a request that was done.
 fn value_of(decided: &Decided) -> Option<u64> {
@@ -108,13 +171,4 @@ pub(crate) fn fill<K: Keeper>(keeper: &mut K) -> Option<u64> {
         create(keeper, number, MOST_BLOCKS)?;
     }
     Some(0)
-}
-
-/// Does one thing again and again.
-pub(crate) fn often<K: Keeper>(keeper: &mut K, what: &str, times: u32) -> Option<u64> {
-    match what {
-        "commit" => commits(keeper, times),
-        "read" => reads(keeper, times),
-        _ => None,
-    }
 }

@@ -1,6 +1,6 @@
-//! What is done with a disk.
+//! A disk, and a store over it.
 
-use crate::asking::{fill, often};
+use crate::stores::{Deed, fill, over};
 use nq_disk::Disk;
 use nq_store::{Store, format};
 use std::alloc::Global;
@@ -52,19 +52,19 @@ fn opens_full<D: Disk + Drop>(alloc: Global, disk: D, times: u32) -> Option<u64>
     opens(alloc, store.into_disk(), times)
 }
 
-fn keeps<D: Disk + Drop>(alloc: Global, disk: D, what: &str, times: u32) -> Option<u64> {
+fn keeps<D: Disk + Drop>(alloc: Global, disk: D, deed: Deed, times: u32) -> Option<u64> {
     let mut store = fresh(alloc, disk)?;
-    often(&mut store, what, times)
+    over(&mut store, deed, times)
 }
 
-/// Does one thing with a disk.
-pub(crate) fn done<D: Disk + Drop>(alloc: Global, disk: D, what: &str, times: u32) -> Option<u64> {
+/// Does one thing so many times with a disk.
+pub(crate) fn often<D: Disk + Drop>(alloc: Global, disk: D, deed: Deed, times: u32) -> Option<u64> {
     let mut disk = disk;
-    match what {
-        "bare" => bare(alloc, &mut disk, times),
-        "open" => opens(alloc, fresh(alloc, disk)?.into_disk(), times),
-        "fill" => opens_full(alloc, disk, times),
-        "open-there" => opens(alloc, disk, times),
-        _ => keeps(alloc, disk, what, times),
+    match deed {
+        Deed::Bare => bare(alloc, &mut disk, times),
+        Deed::Open => opens(alloc, fresh(alloc, disk)?.into_disk(), times),
+        Deed::OpenFull => opens_full(alloc, disk, times),
+        Deed::OpenThere => opens(alloc, disk, times),
+        Deed::Commit | Deed::Read => keeps(alloc, disk, deed, times),
     }
 }
