@@ -2,7 +2,7 @@
 
 ghost use Rattle.std.specs.Prelude.{◌≡◌, ◌≤◌, None};
 ghost use Rattle.std.proofs.Common.{inl};
-ghost use Rattle.nq_disk.specs.FileLaws.{Anything, counts-itself, counts-on};
+ghost use Rattle.story_store.specs.Counting.{Anything, counts-itself, counts-on};
 ghost use Rattle.nq_io.specs.Faults.{Rose, count_up};
 
 use nq_disk::{Disk, DiskFault};
