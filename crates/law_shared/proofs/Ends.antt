@@ -39,11 +39,11 @@ use Rattle.law_open_calls.proofs.Delivery.{State}
 use Rattle.law_open_calls.proofs.Frames.{no-hope}
 use Rattle.law_open_calls.proofs.Hope.{file_of_call, Hopeful, Goes, told, waits, vacated}
 use Rattle.law_open_calls.proofs.Queue.{packets_of, queue}
-use Rattle.law_open_calls.proofs.Rounds.{Round, done-lawful, done-fresh, done-serves, after-ticks, next-state, early-hopes, soon}
 use Rattle.law_open_calls.proofs.Served.{Fits}
 use Rattle.law_open_calls.proofs.Ticks.{tick-pause}
 use Rattle.law_open_calls.proofs.UnderWay.{WantedNow, of_call, of_row, serves-is}
 use Rattle.law_shared.proofs.Barred.{Barred, shared, gone, gone-tick, shared-tick}
+use Rattle.law_shared.proofs.CalmRounds.{Round, done-lawful, done-fresh, done-serves, after-ticks, next-state, early-hopes, soon}
 use Rattle.law_shared.proofs.Step.{IsOpen, Over, Going, NoCache, Bar, NoWish, Renewing, Unwanted, Shut, fits-on, Calm, calm-on, Cut, Goal, over, open_on, delivers, delivered-now}
 
 -- ---- what stays so of a client

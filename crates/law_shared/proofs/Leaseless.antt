@@ -23,12 +23,11 @@ use Rattle.law_rounds.proofs.RecoveryRounds.{recoveries-end}
 use Rattle.law_answered.proofs.EndRounds.{fresh-quiet}
 use Rattle.law_answered.proofs.Hosts.{all-found, all-get}
 use Rattle.walk_client.proofs.ClientMoves.{some-same, none-some}
-use Rattle.law_open_calls.proofs.FourRounds.{attached-next}
 use Rattle.law_open_calls.proofs.Hope.{file_of_call}
-use Rattle.law_open_calls.proofs.Rounds.{Round, next-state}
 use Rattle.law_open_calls.proofs.Served.{Fits, read_fits, write_fits}
 use Rattle.law_shared.specs.LeaselessAnswered.{WantsNoLease, LeaselessAnswered, LeaselessInTime}
 use Rattle.law_shared.specs.SharedFilesAnswered.{rounds_served}
+use Rattle.law_shared.proofs.CalmRounds.{Round, attached-next, next-state}
 use Rattle.law_shared.proofs.Ends.{Idle, At, rounds-idle, rounds-of, unwanted-at, four-ends}
 use Rattle.law_shared.proofs.Step.{IsOpen, NoWish}
 use Rattle.law_shared.proofs.Theorem.{left-over}

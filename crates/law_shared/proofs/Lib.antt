@@ -3,6 +3,7 @@ pub mod Barred
 pub mod Leaving
 pub mod Asking
 pub mod Step
+pub mod CalmRounds
 pub mod Ends
 pub mod Theorem
 pub mod Leaseless

@@ -44,6 +44,7 @@ use Rattle.law_progress.proofs.CalmIsLawful.{played-quiet}
 use Rattle.law_progress.proofs.QuietFlows.{delivered-phase}
 use Rattle.law_queues.proofs.NoRenewals.{CallsFirst, hear-first}
 use Rattle.law_requests.proofs.WorldSequences.{run-draws}
+use Rattle.law_rounds.proofs.Next.{OneLink, IsNext}
 use Rattle.law_rounds.proofs.Coming.{in-map, Delivery, no_packet, at_server, at_host, ignored, no_client, delivery}
 use Rattle.walk_client.proofs.ClientFacts.{fits_job}
 use Rattle.walk_client.proofs.ClientMoves.{some-same, none-some}
@@ -62,7 +63,7 @@ use Rattle.law_open_calls.proofs.ClientHopes as client
 use Rattle.law_open_calls.proofs.Given.{AllInLine, ordered, ordered-on, tags, served}
 use Rattle.law_open_calls.proofs.HearerAt.{hearer}
 use Rattle.law_open_calls.proofs.Hope.{file_of_call, access_of_call, conflict-caches, Cancels, PutsOff, Hopeful, Goes, told, waits, vacated, InWay, safe-rest, safe-append, safe-none}
-use Rattle.law_open_calls.proofs.Queue.{packets_of, queue, queue-head, queue-next, head-packet, rest-later, there-is}
+use Rattle.law_open_calls.proofs.Queue.{packets_of, queue, queue-parts, queue-next, head-packet, rest-comes, rest-later, there-is}
 use Rattle.law_open_calls.proofs.Served.{IsStill, IsWant, by_read, by_lease, RowFrom, stays, shares, begins, renews, Outcome, quiet, by_own, by_others, IsServed, Fits, read_fits, write_fits}
 use Rattle.law_open_calls.proofs.ServerHopes.{IsOff, Fate, all_on, off}
 use Rattle.law_open_calls.proofs.UnderWay.{InOrder, TagsFit, hear-sent, serves-is}
@@ -185,6 +186,10 @@ module _ (most : ℕ) (head : Head) where
     alone = subst (λ (u : World). WritesAlone u.server.table.rows) (sym st.lawful.is_run) (stands-apart head p.events).alone
 
     module _ (k : ℕ) (ks : List ℕ) (fresh_is : p.fresh ≡ k ∷ ks) where
+      -- what was sent first is the next of its link
+      abbrev next : IsNext p k
+      next = record { before = []; behind = ks; split = fresh_is; apart = λ j a b none at there one. none }
+
       abbrev rest : List Packet
       rest = packets_of p.world.packets ks
 
@@ -192,10 +197,10 @@ module _ (most : ℕ) (head : Head) where
       after-lawful = played-quiet most head p (Event.Deliver k) tt refl st.lawful
 
       queue-is : (y : Packet) → slice_get p.world.packets k ≡ Some y → queue p ≡ y ∷ rest
-      queue-is y sent = queue-head p k ks fresh_is st.rising y sent
+      queue-is y sent = queue-parts p k next st.rising y sent
 
       rest-sent : (z : Packet) → In rest z → In p.world.packets z
-      rest-sent z i = let c = (rest-later p k ks fresh_is st.rising z i).0 in in-get p.world.packets c.number z c.is
+      rest-sent z i = let c = rest-comes p k next st.rising z i in in-get p.world.packets c.number z c.is
 
       mail-of : (y : Packet) (h : ℕ) → slice_get p.world.packets k ≡ Some y → y.to ≡ Party.Client h → Told p.world.packets h y.message
       mail-of y h sent to = to-told p.world.packets y h (holds.sent y (in-get p.world.packets k y sent)) to (in-get p.world.packets k y sent)
@@ -233,7 +238,7 @@ module _ (most : ℕ) (head : Head) where
         rising = played-rising p (Event.Deliver k) st.rising;
         serves = delivered-phase p.world k (slice_get p.world.packets k) ∙ st.serves;
         on = on-after;
-        order = ordered-on most head p k ks st.lawful st.rising fresh_is st.on st.order;
+        order = ordered-on most head p k next st.lawful st.rising st.on st.order;
       }
 
       module _ (a f x least : ℕ) (op : Call) (file : (g : ℕ) → file_of_call op ≡ Some g → g ≡ f) where
@@ -409,7 +414,12 @@ module _ (most : ℕ) (head : Head) where
                     whose true e =
                         let same : host ≡ b = same-number host b e in
                         let low : m ≤ n = o.least n r (inl (is ∙ ap (λ z. from_host z (call n r)) (sym same))) in
-                        let c2 = rest-later p k ks fresh_is st.rising (from_host b (call m q)) (subst (λ z. In rest (from_host z (call m q))) same i) in
+                        let one : OneLink (from_host b (call m q)) y = record {
+                          sender = ap (λ (z : Packet). z.sender) (sym is);
+                          to =
+                              ap (λ (z : Packet). z.to) (sym is);
+                        } in
+                        let c2 = rest-later p k next st.rising y (from_host b (call m q)) sent one (subst (λ z. In rest (from_host z (call m q))) same i) in
                         let high : n < m = order.rises n m r q head-is c2.0 c2.1 in
                         absurd (omega arith)
 
@@ -803,8 +813,8 @@ module _ (most : ℕ) (head : Head) where
                   low =
                       let there : Asked p.world.packets c.who.host m q = subst (λ z. Asked p.world.packets z m q) (sym own-at.here) (rest-sent (from_host h0
                       (call m q)) i) in
-                      (own-at.mail.asked m q c.who there ((ordered most head p st.lawful st.order h0 c at).asks m q (rest-later p k ks fresh_is st.rising
-                      (from_host h0 (call m q)) i).0)).number refl
+                      (own-at.mail.asked m q c.who there ((ordered most head p st.lawful st.order h0 c at).asks m q (rest-comes p k next st.rising
+                      (from_host h0 (call m q)) i))).number refl
 
                   by : (v : ℕ) (z : Request) → In rest (from_host h0 (call v z)) ⊎ In more (from_host h0 (call v z)) → m ≤ v
                   by v z (inl old) = o.least v z (inr old)
@@ -929,7 +939,7 @@ module _ (most : ℕ) (head : Head) where
             → v.packets ≡ p.world.packets ++ more → Next (y ∷ rest) v (rest ++ more) → Next (queue p) (step p.world (Event.Deliver k)) (queue (play p
             (Event.Deliver k)))
         lead v more y sent to packets n =
-            let q : queue (play p (Event.Deliver k)) ≡ rest ++ more = queue-next p k ks fresh_is st.rising more (ap (λ (w : World). w.packets) to ∙ packets) in
+            let q : queue (play p (Event.Deliver k)) ≡ rest ++ more = queue-next p k next st.rising more (ap (λ (w : World). w.packets) to ∙ packets) in
             subst (λ (w : World). Next (queue p) w (queue (play p (Event.Deliver k)))) (sym to)
             (subst (λ z. Next (queue p) v z) (sym q) (subst (λ z. Next z v (rest ++ more)) (sym (queue-is y sent)) n))
 
@@ -971,7 +981,7 @@ module _ (most : ℕ) (head : Head) where
                 (ignored-next y sent h (to-host-is y h sent to) deaf))
 
             by : Delivery p.world k (step p.world (Event.Deliver k)) → Next (queue p) (step p.world (Event.Deliver k)) (queue (play p (Event.Deliver k)))
-            by (no_packet none goes) = let y = head-packet p k ks fresh_is st.rising in none-some y.0 (sym none ∙ y.1)
+            by (no_packet none goes) = let y = head-packet p k next st.rising in none-some y.0 (sym none ∙ y.1)
             by (at_server y sent to goes) = at-a-server y sent to goes (holds.sent y (in-get p.world.packets k y sent))
             by (at_host h y c t sent to at hears goes) = lead (after_client p.world h t) (map (from_host h) t.sends) y sent goes refl
                 (client-next y sent h c t at (to-host-is y h sent to) (mail-of y h sent to) hears goes)

@@ -20,8 +20,8 @@ use Rattle.law_answered.proofs.EndRounds.{fresh-quiet}
 use Rattle.law_answered.proofs.Hosts.{all-found}
 use Rattle.walk_client.proofs.ClientMoves.{some-same, none-some}
 use Rattle.law_open_calls.proofs.Hope.{file_of_call}
-use Rattle.law_open_calls.proofs.Rounds.{Round, done-lawful, next-state}
 use Rattle.law_shared.specs.SharedFilesAnswered.{file_in, HasNoCallOn, IsSharedNow, rounds_served, SharedFilesAnswered}
+use Rattle.law_shared.proofs.CalmRounds.{Round, done-lawful, next-state}
 use Rattle.law_shared.proofs.Barred.{shared}
 use Rattle.law_shared.proofs.Ends.{IsCall, Idle, At, rounds-idle, rounds-call, flow-now, ticked-now, bar-next, four-ends}
 use Rattle.law_shared.proofs.Step.{IsOpen, Bar}
