@@ -1,7 +1,7 @@
 //! A disk over another one, with copies of what was read last.
 
-ghost use Rattle.std.specs.Prelude.{◌≡◌, IfSome};
-ghost use Rattle.nq_recent.specs.Recent.{IsRead};
+ghost use Rattle.std.specs.Prelude.{◌≡◌, ℕ, List, Option, IfSome, length};
+ghost use Rattle.nq_recent.specs.Recent.{AreRead, IsRead};
 
 use crate::pieces::{Piece, copy_piece};
 use nq_disk::{Disk, DiskFault};
