@@ -4,3 +4,4 @@ pub mod Windows
 pub mod Turns
 pub mod Loops
 pub mod SomeLoop
+pub mod PrintedLoops

@@ -4,11 +4,17 @@
 
 ghost use Rattle.law_loops.specs.LoopsAreAnswered.{LoopsAreAnswered};
 ghost use Rattle.law_loops.specs.Met.{LoopsAreMet};
+ghost use Rattle.law_loops.specs.PrintedLoops.{PrintedLoopsAreAnswered};
 
 /// In each loop of at most 64 hosts, where every datagram arrived before the clocks ticked next, and each link kept its order: the three calls of each
 /// host are answered, or the server's clock ticked less often than a formula in the number of hosts tells.
 pub fn loops_are_answered()
     ensures { LoopsAreAnswered }
+{}
+
+/// So it is with each loop that printed its schedule.
+pub fn printed_loops_are_answered()
+    ensures { PrintedLoopsAreAnswered }
 {}
 
 /// The events of three turns of a loop of one host come in time, and its calls are answered by them.
