@@ -4,7 +4,7 @@ ghost use Rattle.std.specs.Prelude.{◌≡◌, ◌≤◌, ℕ, List, Option, Som
 ghost use Rattle.nq_asides.specs.Text.{aside_at};
 
 /// What an aside says: a line of another kind, which may stand in a schedule where a line `flow` may.
-pub trait AsideLine: Copy {
+pub trait AsideLine: Copy + Drop {
     /// What a line says in a schedule with so many hosts, if it is an aside.
     ghost said: { (hosts : ℕ) → (line : List ℕ) → Option Self };
 
