@@ -6,7 +6,8 @@ use Rattle.nq_base.specs.declared.Event.{Event}
 use Rattle.nq_base.specs.declared.Party.{Party}
 use Rattle.nq_base.specs.declared.Request.{Request}
 use Rattle.law_filled.proofs.EachOf.{each-get, each-set}
-use Rattle.law_filled.proofs.FilledClient.{FitsIn, step-filled, call-fits, tick-fits, hear-fits, restart-fits}
+use Rattle.law_filled.proofs.FilledParts.{FitsIn, step-filled}
+use Rattle.law_filled.proofs.FilledClient.{call-fits, tick-fits, hear-fits, restart-fits}
 use Rattle.law_filled.proofs.FilledServer.{FileFilled, PacketFilled, StepFilled, new-filled, received, ticked, crashed}
 use Rattle.nq_model.proofs.Lists.{each-append}
 use Rattle.nq_model.specs.Client.{Client, ClientStep}

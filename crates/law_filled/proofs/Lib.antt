@@ -1,5 +1,6 @@
 pub mod EachOf
 pub mod FilledServer
+pub mod FilledParts
 pub mod FilledClient
 pub mod FilledRuns
 pub mod SomeFilled

@@ -6,6 +6,7 @@ pub mod Grants
 pub mod InPlace
 pub mod Outcomes
 pub mod Received
+pub mod RepliedParts
 pub mod Replied
 pub mod Reported
 pub mod Requested

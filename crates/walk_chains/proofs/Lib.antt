@@ -3,5 +3,6 @@ pub mod ChainLists
 pub mod ChainMoves
 pub mod ChainHears
 pub mod ChainSends
+pub mod ChainGrants
 pub mod ChainReplies
 pub mod ChainClients

@@ -14,7 +14,8 @@ use Rattle.walk_client.proofs.ClientFacts.{Alone, Asking, AskingOf, IsPush, push
 use Rattle.walk_client.proofs.ClientMoves as move
 use Rattle.walk_client.proofs.ClientMoves.{some-same, none-some, attached-with-ticket, keeps-or-cancels}
 use Rattle.walk_client.proofs.ClientWrites as writes
-use Rattle.walk_client.proofs.HearWalk.{IsFree, Brings, Spent, answers-call-keeps, pauses-keeps, optional-keeps, read-done-keeps, lease-done-keeps, write-done-keeps, quiet-knows, knows-free, push-done-keeps, push-refused-keeps, push-of-file, spent-keeps, spent-free, spent-now, spent-notices, spent-push, spent-gone}
+use Rattle.walk_client.proofs.GrantWalk.{IsFree, Brings, answers-call-keeps, pauses-keeps, optional-keeps, read-done-keeps, lease-done-keeps, write-done-keeps, quiet-knows, knows-free}
+use Rattle.walk_client.proofs.HearWalk.{Spent, push-done-keeps, push-refused-keeps, push-of-file, spent-keeps, spent-free, spent-now, spent-notices, spent-push, spent-gone}
 use Rattle.walk_client.proofs.RepliedCases.{replied-cases}
 use Rattle.walk_client.proofs.StepCases.{call-cases, unless-cached-cases, tick-cases, evicted-cases}
 use Rattle.walk_client.proofs.SendWalk.{at-true, from-true, send-next-keeps}

@@ -4,6 +4,7 @@ pub mod ClientMoves
 pub mod ClientWrites
 pub mod SendWalk
 pub mod SettleWalk
+pub mod GrantWalk
 pub mod HearWalk
 pub mod ClientWalk
 pub mod SettleCases

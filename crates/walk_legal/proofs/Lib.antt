@@ -5,6 +5,7 @@ pub mod HeldContents
 pub mod HeldFiles
 pub mod ReaderValues
 pub mod ReadParts
+pub mod ReadSends
 pub mod ReadSteps
 pub mod EarlierServer
 pub mod EarlierStores
