@@ -11,3 +11,4 @@ pub mod Whole
 pub mod Opening
 pub mod Fitting
 pub mod Closed
+mod Behind
