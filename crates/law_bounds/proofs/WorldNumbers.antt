@@ -20,8 +20,8 @@ use Rattle.walk_run.proofs.Packets.{In, in-append, in-get, Asked}
 use Rattle.walk_run.proofs.Sequences.{asked-before-server}
 use Rattle.walk_run.proofs.ServerSays.{AllSaid}
 use Rattle.walk_run.proofs.Worlds.{Holds, get-set-same, get-set-other, to-told, received-said, tick-said, crash-said, first-client, run-holds}
-use Rattle.walk_server.proofs.Rows.{same-number, number-same}
-use Rattle.walk_server.proofs.ServerCases.{request-sent}
+use Rattle.walk_run.proofs.Rows.{same-number, number-same}
+use Rattle.walk_run.proofs.ServerCases.{request-sent}
 use Rattle.law_bounds.specs.Within.{CarriesText, IsGiven, IsServerAfter, NumbersStayWithin}
 use Rattle.law_bounds.proofs.ClientNumbers.{HasDrawn, DrewUpTo, DrewIf, call-draws, tick-draws, restart-draws, hear-draws}
 use Rattle.law_bounds.proofs.FirstNumbers.{first-within}

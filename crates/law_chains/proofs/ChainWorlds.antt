@@ -7,19 +7,19 @@ use Rattle.nq_base.specs.declared.Reply.{Reply}
 use Rattle.nq_base.specs.declared.Request.{Request}
 use Rattle.nq_base.specs.declared.Row.{Row}
 use Rattle.nq_base.specs.declared.Who.{Who}
-use Rattle.walk_chain_rows.proofs.ChainAfter.{Beforehand, chains-after}
-use Rattle.walk_chain_rows.proofs.ChainIdle.{IsIdle, idle-fits, waiting-after, start-idle, start-seq, start-who}
-use Rattle.walk_chain_rows.proofs.ChainTicks.{Silent, tick-silent, tick-move, crash-silent, crash-move}
-use Rattle.walk_chain_rows.proofs.FilesReceived.{files-received}
-use Rattle.walk_chain_rows.proofs.PushAfter.{pushes-sends, pushes-running, pushes-after}
-use Rattle.walk_chain_rows.proofs.RepliesReceived.{replies-received}
-use Rattle.walk_chain_rows.proofs.RowsReceived.{rows-received, line-received, grows-received}
-use Rattle.walk_chain_rows.proofs.ServerChains.{RowsMove, LineTo, FilesGrow, FileMove, Claims, NewReply, ChainEffect}
+use Rattle.walk_leases.proofs.ChainAfter.{Beforehand, chains-after}
+use Rattle.walk_leases.proofs.ChainIdle.{IsIdle, idle-fits, waiting-after, start-idle, start-seq, start-who}
+use Rattle.walk_leases.proofs.ChainTicks.{Silent, tick-silent, tick-move, crash-silent, crash-move}
+use Rattle.walk_leases.proofs.FilesReceived.{files-received}
+use Rattle.walk_leases.proofs.PushAfter.{pushes-sends, pushes-running, pushes-after}
+use Rattle.walk_leases.proofs.RepliesReceived.{replies-received}
+use Rattle.walk_leases.proofs.RowsReceived.{rows-received, line-received, grows-received}
+use Rattle.walk_leases.proofs.ServerChains.{RowsMove, LineTo, FilesGrow, FileMove, Claims, NewReply, ChainEffect}
 use Rattle.nq_promises.specs.ChainedLeasesKnow.{HeldKnow, TakeableKnow, ChainedLeasesKnowTheFile}
-use Rattle.walk_chains.proofs.ChainClients.{Before, fits-sends, call-fits, tick-fits, heard-fits}
-use Rattle.walk_chains.proofs.ChainFacts.{line_for, ChainFits, PushFits, PushesFit}
+use Rattle.walk_leases.proofs.ChainClients.{Before, fits-sends, call-fits, tick-fits, heard-fits}
+use Rattle.walk_leases.proofs.ChainFacts.{line_for, ChainFits, PushFits, PushesFit}
 use Rattle.nq_promises.specs.Chained.{has_done_write, KnowsFile}
-use Rattle.walk_client.proofs.ClientMoves.{some-same, none-some}
+use Rattle.walk_run.proofs.ClientMoves.{some-same, none-some}
 use Rattle.walk_leases.proofs.Runs.{Runs, none-served}
 use Rattle.law_leases.proofs.LeaseIntervals.{run-runs, tick-sends, crash-sends}
 use Rattle.walk_leases.proofs.ServerEffects.{standing-serving}
@@ -35,7 +35,7 @@ use Rattle.nq_model.specs.Skew.{IsWithinSkew}
 use Rattle.nq_model.specs.Table.{find_row}
 use Rattle.nq_model.specs.World.{Head, World, after_server, after_client, at_client, after_hearing, sending_host, deliver_to_client, deliver_to, deliver, start, run}
 use Rattle.walk_run.proofs.Sequences.{Drew, DrewIf, call-draws, tick-draws, restart-draws, hear-draws, asked-before-server}
-use Rattle.law_requests.proofs.WorldSequences.{run-draws}
+use Rattle.law_leases.proofs.WorldSequences.{run-draws}
 use Rattle.walk_run.proofs.RunCases.{During, client_at, Keeps, run-keeps, OfClients, clients-after}
 use Rattle.walk_run.proofs.ClientSteps.{KnowsOf}
 use Rattle.walk_leases.proofs.KnownWorlds.{takeable, first-there, first-line}
@@ -43,13 +43,13 @@ use Rattle.walk_run.proofs.Mail.{packets_with, other-asked}
 use Rattle.walk_run.proofs.Packets.{In, in-append, in-get, Asked, Told}
 use Rattle.walk_run.proofs.TagFacts.{IsDrawn}
 use Rattle.walk_run.proofs.Worlds.{Holds, run-holds, received-said, to-told, to-server, first-client, set-there}
-use Rattle.walk_tables.proofs.ServerFacts.{IncsFit}
-use Rattle.walk_tables.proofs.ServerNumbers.{IdsFitOf, ids-receive, ids-tick, ids-crash}
-use Rattle.walk_tables.proofs.ServerTables.{standing-boot}
-use Rattle.walk_tables.proofs.LogFits.{fits-start}
-use Rattle.walk_server.proofs.Rows.{found-row, same-number, number-same}
-use Rattle.walk_server.proofs.TableFits.{tag-in-order}
-use Rattle.walk_server.proofs.Tests.{there-is}
+use Rattle.walk_run.proofs.ServerFacts.{IncsFit}
+use Rattle.walk_run.proofs.ServerNumbers.{IdsFitOf, ids-receive, ids-tick, ids-crash}
+use Rattle.walk_run.proofs.ServerTables.{standing-boot}
+use Rattle.walk_run.proofs.LogFits.{fits-start}
+use Rattle.walk_run.proofs.Rows.{found-row, same-number, number-same}
+use Rattle.walk_run.proofs.TableFits.{tag-in-order}
+use Rattle.walk_run.proofs.Tests.{there-is}
 
 -- ---- the numbers of files
 

@@ -27,7 +27,7 @@ use Rattle.nq_model.specs.ServerStep.{leases, boot}
 use Rattle.nq_model.specs.Kept.{host_row}
 use Rattle.nq_model.specs.Table.{find_row}
 use Rattle.nq_model.specs.World.{run}
-use Rattle.walk_server.proofs.Tests.{some-is}
+use Rattle.walk_run.proofs.Tests.{some-is}
 use Rattle.walk_run.proofs.GivenRuns.{given-run}
 
 -- host 0 wants to write, and the server gives it the lease; the newest event first

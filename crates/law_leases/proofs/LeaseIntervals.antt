@@ -6,24 +6,24 @@ use Rattle.nq_base.specs.declared.Party.{Party}
 use Rattle.nq_base.specs.declared.Request.{Request}
 use Rattle.nq_base.specs.declared.Row.{Row}
 use Rattle.nq_base.specs.declared.Who.{Who}
-use Rattle.walk_client.proofs.ClientFacts.{fits_job}
-use Rattle.walk_client.proofs.ClientMoves.{some-same, none-some}
+use Rattle.walk_run.proofs.ClientFacts.{fits_job}
+use Rattle.walk_run.proofs.ClientMoves.{some-same, none-some}
 use Rattle.walk_run.proofs.ClientSteps.{KnowsOf}
 use Rattle.walk_run.proofs.Clocks.{within-before}
 use Rattle.walk_leases.proofs.Hearing.{Hearing}
 use Rattle.walk_leases.proofs.KnownWorlds.{Known, at-clock, timely, to-client-known, call-known, tick-known, restart-known, server-known, known-covers, start-known, first-there, ignored-known}
-use Rattle.walk_tables.proofs.LogFits.{fits-start}
+use Rattle.walk_run.proofs.LogFits.{fits-start}
 use Rattle.walk_run.proofs.Packets.{In, in-get, Told}
-use Rattle.walk_server.proofs.Rows.{same-number, number-same}
-use Rattle.walk_tables.proofs.ServerFacts.{IncsFit, incs-receive, incs-tick, incs-crash}
+use Rattle.walk_run.proofs.Rows.{same-number, number-same}
+use Rattle.walk_run.proofs.ServerFacts.{IncsFit, incs-receive, incs-tick, incs-crash}
 use Rattle.walk_leases.proofs.ServerHears.{hears-effect}
 use Rattle.walk_run.proofs.ClientKnows.{Knows}
-use Rattle.walk_server.proofs.ServerCases.{server-ticks}
+use Rattle.walk_run.proofs.ServerCases.{server-ticks}
 use Rattle.walk_run.proofs.ServerKnows.{NoneHeard, NoneGiven}
 use Rattle.walk_leases.proofs.ServerLives.{HasServed, knows-tick, knows-crash}
-use Rattle.walk_server.proofs.ServerMoves.{server-moves, tick-moves}
-use Rattle.walk_tables.proofs.ServerNumbers.{terms-receive, terms-tick, terms-crash, lines-receive, lines-tick, lines-crash}
-use Rattle.walk_tables.proofs.ServerTables.{boots-receive, boots-tick, boots-crash, stands-receive, stands-tick, stands-crash, NoneRecovering}
+use Rattle.walk_run.proofs.ServerMoves.{server-moves, tick-moves}
+use Rattle.walk_run.proofs.ServerNumbers.{terms-receive, terms-tick, terms-crash, lines-receive, lines-tick, lines-crash}
+use Rattle.walk_run.proofs.ServerTables.{boots-receive, boots-tick, boots-crash, stands-receive, stands-tick, stands-crash, NoneRecovering}
 use Rattle.walk_leases.proofs.Unrowed.{IsUnrowed, unrowed-receive, unrowed-tick, unrowed-crash}
 use Rattle.walk_leases.proofs.WorldClocks.{Clocked, StillOf, StillIf, call-still, tick-still, hear-still, run-clocked}
 use Rattle.walk_run.proofs.Worlds.{IsAt, Holds, get-set-same, get-set-other, to-server, to-told, run-holds, first-client}

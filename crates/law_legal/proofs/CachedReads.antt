@@ -18,22 +18,22 @@ use Rattle.nq_base.specs.declared.Tag.{Tag}
 use Rattle.nq_base.specs.declared.Verdict.{Verdict}
 use Rattle.nq_base.specs.declared.Who.{Who}
 use Rattle.nq_promises.specs.Chained.{IsChained, is_done, has_done, has_done_write, due, KnowsFile}
-use Rattle.walk_client.proofs.ClientFacts.{push_in, fits_job, IsPush}
-use Rattle.walk_client.proofs.ClientMoves.{none-some, some-same}
-use Rattle.law_contents.proofs.Laws.{clean-in-every-run, done-in-every-run}
-use Rattle.law_contents.proofs.RunContents.{run-fits}
+use Rattle.walk_run.proofs.ClientFacts.{push_in, fits_job, IsPush}
+use Rattle.walk_run.proofs.ClientMoves.{none-some, some-same}
+use Rattle.law_legal.proofs.Laws.{clean-in-every-run, done-in-every-run}
+use Rattle.law_legal.proofs.RunContents.{run-fits}
 use Rattle.nq_promises.specs.RevisionsHaveOneContent.{first_length, IsOfRevision}
 use Rattle.nq_promises.specs.Contents.{content_at}
 use Rattle.nq_promises.specs.Told.{HasValue, IsDoneAs}
-use Rattle.walk_fates.proofs.FactPushes.{dirty-clear}
-use Rattle.walk_fates.proofs.JournalMoves.{store-covers}
-use Rattle.walk_fates.proofs.PushLists.{is-at, at-is}
-use Rattle.walk_fates.proofs.WritesFit.{CoversNumber, IsClear, IsDirty, IsDecidedAs, PushStands, waits, stored, LiesWithin, in_list, under_way, WritesFit}
+use Rattle.walk_leases.proofs.FactPushes.{dirty-clear}
+use Rattle.walk_leases.proofs.JournalMoves.{store-covers}
+use Rattle.walk_leases.proofs.PushLists.{is-at, at-is}
+use Rattle.walk_leases.proofs.WritesFit.{CoversNumber, IsClear, IsDirty, IsDecidedAs, PushStands, waits, stored, LiesWithin, in_list, under_way, WritesFit}
 use Rattle.nq_promises.specs.Bounds.{KeepsBounds}
 use Rattle.walk_legal.proofs.EarlierStores.{Earlier, push-behind}
 use Rattle.walk_legal.proofs.Entries.{stored-covered}
-use Rattle.law_held.proofs.HeldRuns.{held-blocks}
-use Rattle.law_held.proofs.RestingRuns.{run-rests}
+use Rattle.law_legal.proofs.HeldRuns.{held-blocks}
+use Rattle.law_legal.proofs.RestingRuns.{run-rests}
 use Rattle.walk_legal.proofs.Held.{HasHeld}
 use Rattle.walk_legal.proofs.ReaderValues.{NoneWaits, held-stands, unsaved-stands, covered-either}
 use Rattle.walk_legal.proofs.Stores.{lost-covered, stored-value}
@@ -50,9 +50,9 @@ use Rattle.nq_model.specs.Table.{caches}
 use Rattle.nq_model.specs.World.{Head, World, run}
 use Rattle.walk_run.proofs.Members.{find-in}
 use Rattle.walk_run.proofs.Packets.{In}
-use Rattle.walk_server.proofs.Rows.{same-number, number-same, find-passes}
-use Rattle.walk_undisturbed.proofs.Holders.{KnownOf}
-use Rattle.law_undisturbed.proofs.UndisturbedRuns.{run-still}
+use Rattle.walk_run.proofs.Rows.{same-number, number-same, find-passes}
+use Rattle.walk_legal.proofs.Holders.{KnownOf}
+use Rattle.law_legal.proofs.UndisturbedRuns.{run-still}
 use Rattle.nq_promises.specs.Undisturbed.{IsUndisturbed}
 
 -- ---- the row of a lease that runs

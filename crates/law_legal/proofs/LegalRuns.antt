@@ -8,8 +8,8 @@ use Rattle.nq_base.specs.declared.Said.TheVariants.{OkValue, OkBy}
 use Rattle.nq_base.specs.declared.Told.{Told}
 use Rattle.nq_base.specs.declared.Told.TheVariants.{Read, Fetch}
 use Rattle.nq_base.specs.declared.Who.{Who}
-use Rattle.walk_calls.proofs.Placed.{ordered, of-their-call}
-use Rattle.law_calls.proofs.RunCalls.{calls-known}
+use Rattle.walk_leases.proofs.Placed.{ordered, of-their-call}
+use Rattle.law_leases.proofs.RunCalls.{calls-known}
 use Rattle.nq_promises.specs.Bounds.{KeepsBounds}
 use Rattle.walk_legal.proofs.ReadFacts.{IsBacked, reads_nothing, counted_read, IsGood}
 use Rattle.law_legal.proofs.ReadRuns.{run-reads}
@@ -21,7 +21,7 @@ use Rattle.nq_model.specs.Ordered.{IsReadInOrder, IsInOrder, IsOrdered}
 use Rattle.nq_model.specs.Skew.{IsWithinSkew}
 use Rattle.nq_model.specs.World.{Head, run}
 use Rattle.walk_run.proofs.Packets.{In}
-use Rattle.walk_undisturbed.proofs.Holders.{KnownOf}
+use Rattle.walk_legal.proofs.Holders.{KnownOf}
 
 -- ---- of an ordered journal
 

@@ -12,22 +12,22 @@ use Rattle.nq_base.specs.declared.Reply.{Reply}
 use Rattle.nq_base.specs.declared.Request.{Request}
 use Rattle.nq_base.specs.declared.Want.{Want}
 use Rattle.nq_base.specs.declared.Who.{Who}
-use Rattle.walk_calls.proofs.Entries.{IsOpenAsTold}
-use Rattle.law_calls.proofs.RunCalls.{calls-known}
-use Rattle.walk_client.proofs.SendCases.{least-passes}
-use Rattle.walk_client.proofs.ClientFacts.{push_in}
-use Rattle.walk_client.proofs.ClientMoves.{none-some, some-same}
-use Rattle.walk_contents.proofs.ServerDelays.{Never, receive-never, tick-never, crash-never}
-use Rattle.walk_fates.proofs.PushLists.{at-is}
-use Rattle.walk_fates.proofs.WritesFit.{in_list, under_way, IsRising}
+use Rattle.walk_leases.proofs.Entries.{IsOpenAsTold}
+use Rattle.law_leases.proofs.RunCalls.{calls-known}
+use Rattle.walk_run.proofs.SendCases.{least-passes}
+use Rattle.walk_run.proofs.ClientFacts.{push_in}
+use Rattle.walk_run.proofs.ClientMoves.{none-some, some-same}
+use Rattle.walk_legal.proofs.ServerDelays.{Never, receive-never, tick-never, crash-never}
+use Rattle.walk_leases.proofs.PushLists.{at-is}
+use Rattle.walk_leases.proofs.WritesFit.{in_list, under_way, IsRising}
 use Rattle.nq_promises.specs.Bounds.{KeepsBounds}
 use Rattle.law_legal.proofs.CachedReads.{cached-stands, none-waits, NoneEncloses, find-none}
-use Rattle.law_held.proofs.HeldRuns.{kept-held}
+use Rattle.law_legal.proofs.HeldRuns.{kept-held}
 use Rattle.walk_legal.proofs.ReadAdds.{step-adds}
 use Rattle.walk_legal.proofs.ReadClient.{Adds, reads-after}
 use Rattle.walk_legal.proofs.ReadFacts.{ReadsOf, ReadsFit, told-packet}
 use Rattle.walk_legal.proofs.ReadServer.{reads-after-server}
-use Rattle.law_held.proofs.RestingRuns.{rests-on}
+use Rattle.law_legal.proofs.RestingRuns.{rests-on}
 use Rattle.walk_legal.proofs.ServerReads.{ServesRead, receive-reads, tick-reads, crash-reads}
 use Rattle.walk_run.proofs.Steps.{ClientActs, called, ticked, restarted, heard, ServerActs, received, ticks, crashes, Changes, nothing, by_client, by_server, run-goes}
 use Rattle.walk_legal.proofs.ReaderValues.{NoneWaits}
@@ -51,11 +51,11 @@ use Rattle.walk_run.proofs.RunCases.{During}
 use Rattle.walk_run.proofs.Packets.{In, in-get}
 use Rattle.walk_run.proofs.ServerSays.{AllSaid}
 use Rattle.walk_run.proofs.Worlds.{IsAt, to-server, received-said, tick-said, crash-said, first-client, set-there}
-use Rattle.walk_server.proofs.Modes.{writing-caches}
-use Rattle.walk_undisturbed.proofs.Accesses.{Accesses, IsHeld, call-accesses, tick-accesses, hear-accesses}
-use Rattle.walk_undisturbed.proofs.Holders.{KnownOf}
-use Rattle.walk_undisturbed.proofs.Tags.{unclean-entry}
-use Rattle.walk_server.proofs.Rows.{same-number, find-passes}
+use Rattle.walk_run.proofs.Modes.{writing-caches}
+use Rattle.walk_legal.proofs.Accesses.{Accesses, IsHeld, call-accesses, tick-accesses, hear-accesses}
+use Rattle.walk_legal.proofs.Holders.{KnownOf}
+use Rattle.walk_legal.proofs.Tags.{unclean-entry}
+use Rattle.walk_run.proofs.Rows.{same-number, find-passes}
 use Rattle.std.proofs.lemmas.Bool.Decides.{nat_tests}
 use Rattle.std.proofs.lemmas.Bool.{and_parts, not-true}
 

@@ -15,8 +15,8 @@ use Rattle.nq_name_server.specs.Served.{Served, number_of}
 use Rattle.walk_leases.proofs.Covers.{GoesOnAt, fitting-goes-on}
 use Rattle.walk_run.proofs.Packets.{In}
 use Rattle.walk_run.proofs.TagFacts.{IsDrawn}
-use Rattle.walk_server.proofs.Rows.{decided, found-row}
-use Rattle.walk_server.proofs.TableFits.{TableFits, fits-files}
+use Rattle.walk_run.proofs.Rows.{decided, found-row}
+use Rattle.walk_run.proofs.TableFits.{TableFits, fits-files}
 use Rattle.law_names.proofs.Tables.{stand_ins, stands-in, in-stand, CameFrom, went_on, is_new, Follows}
 
 -- ---- numbers of directories

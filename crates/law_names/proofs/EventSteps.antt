@@ -23,8 +23,8 @@ use Rattle.nq_names_run.specs.Outside.{new_side}
 use Rattle.walk_leases.proofs.ServerLives.{booted-kept, booted-phase}
 use Rattle.walk_run.proofs.Clocks.{moment-past, same-cover}
 use Rattle.walk_run.proofs.Worlds.{get-set-other, get-set-same}
-use Rattle.walk_server.proofs.Rows.{number-same, same-number}
-use Rattle.walk_server.proofs.ServerMoves.{receive-keeps, server-moves}
+use Rattle.walk_run.proofs.Rows.{number-same, same-number}
+use Rattle.walk_run.proofs.ServerMoves.{receive-keeps, server-moves}
 use Rattle.law_names.proofs.Chains.{Chained, HasFit, same-leads}
 use Rattle.law_names.proofs.Claims.{Outlasts, Shift}
 use Rattle.law_names.proofs.Entries.{entries_in}

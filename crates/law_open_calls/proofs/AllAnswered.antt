@@ -8,19 +8,19 @@ use Rattle.nq_model.specs.Profile.{skew, write_slack}
 use Rattle.nq_model.specs.World.{Head, run}
 use Rattle.nq_model.specs.Skew.{IsWithinSkew}
 use Rattle.nq_promises.specs.Bounds.{KeepsBounds}
-use Rattle.law_deliveries.specs.DeliveryEnds.{AreUnderWay, calmed}
-use Rattle.law_progress.specs.CallsAreAnswered.{IsAnswered}
-use Rattle.law_progress.specs.CalmRound.{calm_round, calm_rounds}
-use Rattle.law_progress.specs.CalmRoundsAreLawful.{IsLawful}
-use Rattle.law_progress.specs.QuietDeliveries.{recovers}
-use Rattle.law_progress.proofs.AllAttached.{rounds-more}
-use Rattle.law_progress.proofs.CalmEnds.{IsRising, rounds-rising, calmed-rising}
-use Rattle.law_progress.proofs.CalmIsLawful.{rounds}
+use Rattle.law_rounds.specs.DeliveryEnds.{AreUnderWay, calmed}
+use Rattle.law_rounds.specs.CallsAreAnswered.{IsAnswered}
+use Rattle.law_rounds.specs.CalmRound.{calm_round, calm_rounds}
+use Rattle.law_rounds.specs.CalmRoundsAreLawful.{IsLawful}
+use Rattle.law_rounds.specs.QuietDeliveries.{recovers}
+use Rattle.law_rounds.proofs.AllAttached.{rounds-more}
+use Rattle.law_rounds.proofs.CalmEnds.{IsRising, rounds-rising, calmed-rising}
+use Rattle.law_rounds.proofs.CalmIsLawful.{rounds}
 use Rattle.law_rounds.specs.RoundsEndQuiet.{IsSmall, all_delivered, IsQuiet}
 use Rattle.law_rounds.proofs.Flows.{round-small, rounds-small}
 use Rattle.law_rounds.proofs.RecoveryRounds.{recoveries-end}
-use Rattle.law_answered.proofs.EndRounds.{fresh-quiet}
-use Rattle.law_answered.proofs.Hosts.{all-found}
+use Rattle.law_open_calls.proofs.EndRounds.{fresh-quiet}
+use Rattle.law_open_calls.proofs.Hosts.{all-found}
 use Rattle.law_open_calls.specs.CallsAnswered.{rounds_for}
 use Rattle.law_open_calls.proofs.Counts.{open_calls, none-open}
 use Rattle.law_open_calls.proofs.FourRounds.{rounds-less, blocks, attached-next}

@@ -16,23 +16,23 @@ use Rattle.nq_model.specs.Server.{serving, Server, ServerStep, quiet, keeping_wi
 use Rattle.nq_model.specs.ServerStep.{tick, at_time, opens, ends_writing}
 use Rattle.nq_model.specs.Table.{caches, greater_mode, find_row}
 use Rattle.nq_model.specs.World.{Head, World, from_host, after_client, after_server, at_client, step, run}
-use Rattle.law_calm.specs.RequestsAreMeant.{wanted, IsMeant}
-use Rattle.law_calm.proofs.ClientCount.{client-count}
-use Rattle.law_calm.proofs.HostsBelow.{get-below}
-use Rattle.law_calm.proofs.Meant.{requests-are-meant}
+use Rattle.law_rounds.specs.RequestsAreMeant.{wanted, IsMeant}
+use Rattle.law_rounds.proofs.ClientCount.{client-count}
+use Rattle.law_rounds.proofs.HostsBelow.{get-below}
+use Rattle.law_rounds.proofs.Meant.{requests-are-meant}
 use Rattle.law_leases.proofs.LeaseIntervals.{run-runs}
-use Rattle.law_progress.specs.CalmRoundsAreLawful.{IsLawful}
-use Rattle.law_progress.specs.QuietDeliveries.{recovers}
-use Rattle.law_progress.proofs.PacketsCome.{Comes}
-use Rattle.law_progress.proofs.CalmIsLawful.{round}
-use Rattle.walk_client.proofs.ClientFacts.{fits_job, Alone}
-use Rattle.walk_client.proofs.ClientMoves.{some-same, none-some}
+use Rattle.law_rounds.specs.CalmRoundsAreLawful.{IsLawful}
+use Rattle.law_rounds.specs.QuietDeliveries.{recovers}
+use Rattle.law_rounds.proofs.PacketsCome.{Comes}
+use Rattle.law_rounds.proofs.CalmIsLawful.{round}
+use Rattle.walk_run.proofs.ClientFacts.{fits_job, Alone}
+use Rattle.walk_run.proofs.ClientMoves.{some-same, none-some}
 use Rattle.walk_run.proofs.Packets.{In, message-same, call-same}
 use Rattle.walk_run.proofs.Worlds.{get-set-other, set-there, run-holds}
-use Rattle.walk_sends.proofs.StepSends.{TickSends, rests, again, asks_now, tick-sends}
-use Rattle.walk_server.proofs.ServerCases.{server-ticks}
-use Rattle.law_answered.proofs.Hosts.{ticked}
-use Rattle.law_answered.proofs.LookReplies.{comes-from}
+use Rattle.walk_run.proofs.StepSends.{TickSends, rests, again, asks_now, tick-sends}
+use Rattle.walk_run.proofs.ServerCases.{server-ticks}
+use Rattle.law_open_calls.proofs.Hosts.{ticked}
+use Rattle.law_open_calls.proofs.LookReplies.{comes-from}
 use Rattle.law_open_calls.proofs.CallRequests.{run-asks}
 use Rattle.law_open_calls.proofs.ClientHopes.{map-in}
 use Rattle.law_open_calls.proofs.UnderWay.{Wants, NoneRenew, WantedNow, of_call, of_row, serves-is}

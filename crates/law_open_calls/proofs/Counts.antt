@@ -6,13 +6,13 @@ use Rattle.nq_model.specs.Client.{Client, ClientStep, UnderWay}
 use Rattle.nq_model.specs.ClientStep.{client_tick}
 use Rattle.nq_model.specs.Lines.{Play, play, play_flow, flow_first, play_hosts, play_rounds}
 use Rattle.nq_model.specs.World.{Head, World, after_client, after_server, at_client, step}
-use Rattle.law_progress.specs.CalmRoundsAreLawful.{IsLawful}
-use Rattle.law_progress.proofs.CalmIsLawful.{flows}
+use Rattle.law_rounds.specs.CalmRoundsAreLawful.{IsLawful}
+use Rattle.law_rounds.proofs.CalmIsLawful.{flows}
 use Rattle.law_rounds.proofs.Coming.{Delivery, no_packet, at_server, at_host, ignored, no_client, delivery}
-use Rattle.walk_client.proofs.ClientMoves.{some-same, none-some}
+use Rattle.walk_run.proofs.ClientMoves.{some-same, none-some}
 use Rattle.walk_run.proofs.Worlds.{Holds, run-holds}
-use Rattle.law_answered.proofs.Calling.{StillOpen, hear-keeps}
-use Rattle.law_answered.proofs.LookTickets.{tick-opens}
+use Rattle.law_open_calls.proofs.Calling.{StillOpen, hear-keeps}
+use Rattle.law_open_calls.proofs.LookTickets.{tick-opens}
 pub use Rattle.law_open_calls.specs.CallsAnswered.{one_if_open, open_calls}
 
 pub one-set : (clients : List Client) (h : ℕ) (c d : Client) → slice_get clients h ≡ Some c

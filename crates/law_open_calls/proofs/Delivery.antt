@@ -21,28 +21,28 @@ use Rattle.nq_model.specs.ServerStep.{receive}
 use Rattle.nq_model.specs.Table.{caches, greater_mode, same_who, find_row}
 use Rattle.nq_model.specs.World.{Head, World, from_host, after_client, after_server, sending_host, step, run}
 use Rattle.nq_promises.specs.RowsStandApart.{WritesAlone}
-use Rattle.law_calm.specs.RequestsAreMeant.{wanted, IsMeant}
-use Rattle.law_calm.proofs.ClientCount.{client-count}
-use Rattle.law_calm.proofs.HostsBelow.{run-local, stands-apart}
-use Rattle.law_calm.proofs.Meant.{requests-are-meant}
+use Rattle.law_rounds.specs.RequestsAreMeant.{wanted, IsMeant}
+use Rattle.law_rounds.proofs.ClientCount.{client-count}
+use Rattle.law_rounds.proofs.HostsBelow.{run-local, stands-apart}
+use Rattle.law_rounds.proofs.Meant.{requests-are-meant}
 use Rattle.law_leases.proofs.LeaseIntervals.{run-runs}
-use Rattle.law_packets.proofs.NoticeCounts.{HostedBelow}
-use Rattle.law_progress.specs.CalmRoundsAreLawful.{IsLawful}
-use Rattle.law_progress.specs.QuietDeliveries.{recovers}
-use Rattle.law_progress.proofs.PacketsCome.{Comes}
-use Rattle.law_progress.proofs.Attaching.{hear-stays}
-use Rattle.law_progress.proofs.CalmEnds.{IsRising, played-rising}
-use Rattle.law_progress.proofs.CalmIsLawful.{played-quiet}
-use Rattle.law_progress.proofs.QuietFlows.{delivered-phase}
-use Rattle.law_requests.proofs.WorldSequences.{run-draws}
+use Rattle.law_servers.proofs.NoticeCounts.{HostedBelow}
+use Rattle.law_rounds.specs.CalmRoundsAreLawful.{IsLawful}
+use Rattle.law_rounds.specs.QuietDeliveries.{recovers}
+use Rattle.law_rounds.proofs.PacketsCome.{Comes}
+use Rattle.law_rounds.proofs.Attaching.{hear-stays}
+use Rattle.law_rounds.proofs.CalmEnds.{IsRising, played-rising}
+use Rattle.law_rounds.proofs.CalmIsLawful.{played-quiet}
+use Rattle.law_rounds.proofs.QuietFlows.{delivered-phase}
+use Rattle.law_leases.proofs.WorldSequences.{run-draws}
 use Rattle.law_rounds.proofs.Coming.{Delivery, no_packet, at_server, at_host, ignored, no_client, delivery}
-use Rattle.walk_client.proofs.ClientFacts.{fits_job}
-use Rattle.walk_client.proofs.ClientMoves.{some-same, none-some}
+use Rattle.walk_run.proofs.ClientFacts.{fits_job}
+use Rattle.walk_run.proofs.ClientMoves.{some-same, none-some}
 use Rattle.walk_run.proofs.Packets.{In, in-append, in-get, Asked, Told, message-same, not-both}
 use Rattle.walk_run.proofs.Worlds.{IsAt, Holds, IsSent, by_host, by_server, get-set-same, get-set-other, set-there, to-told, run-holds}
-use Rattle.walk_sends.proofs.StepSends.{HearSends, hear-sends}
-use Rattle.walk_server.proofs.Rows.{same-number, number-same, found-row}
-use Rattle.walk_server.proofs.Tests.{is-at-most, is-not-at-most}
+use Rattle.walk_run.proofs.StepSends.{HearSends, hear-sends}
+use Rattle.walk_run.proofs.Rows.{same-number, number-same, found-row}
+use Rattle.walk_run.proofs.Tests.{is-at-most, is-not-at-most}
 use Rattle.law_open_calls.proofs.CallRequests.{run-asks}
 use Rattle.law_open_calls.proofs.ClientHopes.{Hearer}
 use Rattle.law_open_calls.proofs.ClientHopes as client

@@ -5,18 +5,18 @@ use Rattle.nq_model.specs.Client.{Client, UnderWay}
 use Rattle.nq_model.specs.ClientStep.{client_tick}
 use Rattle.nq_model.specs.Lines.{Play, play_flow, play_rounds}
 use Rattle.nq_model.specs.World.{Head, World}
-use Rattle.law_deliveries.specs.DeliveryEnds.{enough_deliveries}
-use Rattle.law_progress.specs.CalmRound.{calm_round, calm_rounds}
-use Rattle.law_progress.specs.CalmRoundsAreLawful.{IsLawful}
-use Rattle.law_progress.specs.QuietDeliveries.{recovers}
-use Rattle.law_progress.proofs.Attaching.{tick-stays}
-use Rattle.law_progress.proofs.AllAttached.{rounds-more}
-use Rattle.law_progress.proofs.CalmIsLawful.{rounds, calm-round}
+use Rattle.law_rounds.specs.DeliveryEnds.{enough_deliveries}
+use Rattle.law_rounds.specs.CalmRound.{calm_round, calm_rounds}
+use Rattle.law_rounds.specs.CalmRoundsAreLawful.{IsLawful}
+use Rattle.law_rounds.specs.QuietDeliveries.{recovers}
+use Rattle.law_rounds.proofs.Attaching.{tick-stays}
+use Rattle.law_rounds.proofs.AllAttached.{rounds-more}
+use Rattle.law_rounds.proofs.CalmIsLawful.{rounds, calm-round}
 use Rattle.law_rounds.specs.RoundsEndQuiet.{all_delivered}
-use Rattle.walk_client.proofs.ClientMoves.{some-same, none-some}
+use Rattle.walk_run.proofs.ClientMoves.{some-same, none-some}
 use Rattle.walk_run.proofs.Worlds.{run-holds}
-use Rattle.walk_server.proofs.Tests.{is-at-most, is-not-at-most}
-use Rattle.law_answered.proofs.LookTickets.{tick-opens}
+use Rattle.walk_run.proofs.Tests.{is-at-most, is-not-at-most}
+use Rattle.law_open_calls.proofs.LookTickets.{tick-opens}
 use Rattle.law_open_calls.proofs.Counts.{open_calls, flow-less, ticks-less, some-open}
 use Rattle.law_open_calls.proofs.Frames.{NoWay, none-clear}
 use Rattle.law_open_calls.proofs.Hope.{Hopeful, Clear}

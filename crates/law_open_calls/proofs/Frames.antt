@@ -8,11 +8,11 @@ use Rattle.nq_model.specs.Client.{Client, UnderWay}
 use Rattle.nq_model.specs.Lines.{Play, play, play_flow, flow_first}
 use Rattle.nq_model.specs.Message.{Packet}
 use Rattle.nq_model.specs.World.{Head, World}
-use Rattle.law_progress.specs.CalmRoundsAreLawful.{IsLawful}
-use Rattle.law_progress.proofs.CalmIsLawful.{flows}
+use Rattle.law_rounds.specs.CalmRoundsAreLawful.{IsLawful}
+use Rattle.law_rounds.proofs.CalmIsLawful.{flows}
 use Rattle.law_rounds.specs.RoundsEndQuiet.{IsQuiet}
-use Rattle.walk_client.proofs.ClientMoves.{none-some}
-use Rattle.walk_server.proofs.Rows.{same-number, number-same}
+use Rattle.walk_run.proofs.ClientMoves.{none-some}
+use Rattle.walk_run.proofs.Rows.{same-number, number-same}
 use Rattle.law_open_calls.proofs.Counts.{open_calls, first-less, flow-less}
 use Rattle.law_open_calls.proofs.Delivery.{State, Delivered, fewer, goes_on_so, delivers}
 use Rattle.law_open_calls.proofs.UnderWay.{Moves, all_move, all_but, Paused}

@@ -15,15 +15,15 @@ use Rattle.nq_model.specs.Server.{serving}
 use Rattle.nq_model.specs.ServerStep.{receive}
 use Rattle.nq_model.specs.Table.{find_row}
 use Rattle.nq_model.specs.World.{Head, World}
-use Rattle.law_calm.proofs.ClientCount.{client-count}
-use Rattle.law_calm.proofs.HostsBelow.{get-below}
-use Rattle.law_progress.specs.CalmRoundsAreLawful.{IsLawful}
-use Rattle.law_progress.proofs.CalmEnds.{IsRising}
-use Rattle.walk_server.proofs.RowChanges.{HasUniqueKeys}
-use Rattle.law_queues.proofs.InLine.{InLine, not-answered-yet}
-use Rattle.law_queues.proofs.QueueRounds.{delivered-queue, round-queue}
-use Rattle.law_queues.proofs.StepNumbers.{NoVacated}
-use Rattle.law_queues.proofs.TagRuns.{TagsAreNoLater, run-no-later, keys-unique}
+use Rattle.law_rounds.proofs.ClientCount.{client-count}
+use Rattle.law_rounds.proofs.HostsBelow.{get-below}
+use Rattle.law_rounds.specs.CalmRoundsAreLawful.{IsLawful}
+use Rattle.law_rounds.proofs.CalmEnds.{IsRising}
+use Rattle.walk_run.proofs.RowChanges.{HasUniqueKeys}
+use Rattle.law_open_calls.proofs.InLine.{InLine, not-answered-yet}
+use Rattle.law_open_calls.proofs.QueueRounds.{delivered-queue, round-queue}
+use Rattle.law_open_calls.proofs.StepNumbers.{NoVacated}
+use Rattle.law_open_calls.proofs.TagRuns.{TagsAreNoLater, run-no-later, keys-unique}
 use Rattle.law_open_calls.proofs.UnderWay.{InOrder, TagsFit}
 use Rattle.law_open_calls.proofs.Served.{IsWant, by_read, by_lease, IsServed}
 use Rattle.law_open_calls.proofs.ServedBy.{served-by}

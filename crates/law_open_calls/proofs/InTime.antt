@@ -5,15 +5,15 @@ use Rattle.nq_base.specs.declared.Call.{Call}
 use Rattle.nq_base.specs.declared.Event.{Event}
 use Rattle.nq_model.specs.Lines.{Play, play}
 use Rattle.nq_model.specs.World.{run}
-use Rattle.law_deliveries.specs.DeliveryEnds.{calmed}
-use Rattle.law_progress.specs.CallsAreAnswered.{IsAnswered, rounds_enough}
-use Rattle.law_progress.specs.CalmRound.{calm_rounds}
-use Rattle.law_progress.specs.EverythingIsStored.{HasStored}
-use Rattle.law_progress.proofs.AllAttached.{rounds-more}
+use Rattle.law_rounds.specs.DeliveryEnds.{calmed}
+use Rattle.law_rounds.specs.CallsAreAnswered.{IsAnswered, rounds_enough}
+use Rattle.law_rounds.specs.CalmRound.{calm_rounds}
+use Rattle.law_rounds.specs.EverythingIsStored.{HasStored}
+use Rattle.law_rounds.proofs.AllAttached.{rounds-more}
 use Rattle.law_rounds.specs.RoundsEndQuiet.{IsSmall, all_delivered}
 use Rattle.law_rounds.proofs.Flows.{rounds-small}
-use Rattle.law_answered.proofs.EndRounds.{stored-once-answered}
-use Rattle.law_answered.proofs.Syncs.{syncs-answered-once}
+use Rattle.law_open_calls.proofs.EndRounds.{stored-once-answered}
+use Rattle.law_open_calls.proofs.Syncs.{syncs-answered-once}
 use Rattle.law_open_calls.specs.CallsAnswered.{open_calls, rounds_for, CallsAnswered, FewCallsAnswered}
 use Rattle.law_open_calls.specs.StoredInTime.{StoredInTime, SyncsInTime}
 

@@ -6,9 +6,9 @@ use Rattle.nq_base.specs.declared.Event.{Event}
 use Rattle.nq_model.specs.Lines.{Play, play, without, numbers_from, added}
 use Rattle.nq_model.specs.Message.{Packet}
 use Rattle.nq_model.specs.World.{step}
-use Rattle.law_deliveries.proofs.Items.{Rise, without-first}
-use Rattle.law_progress.proofs.CalmEnds.{IsRising}
-use Rattle.law_progress.proofs.PacketsCome.{Comes, get-kept}
+use Rattle.law_rounds.proofs.Items.{Rise, without-first}
+use Rattle.law_rounds.proofs.CalmEnds.{IsRising}
+use Rattle.law_rounds.proofs.PacketsCome.{Comes, get-kept}
 use Rattle.walk_run.proofs.Packets.{In}
 
 -- the packets of some numbers, in order

@@ -8,23 +8,23 @@ use Rattle.nq_model.specs.Lines.{Play, play_flow, flow_first, play_hosts, play_r
 use Rattle.nq_model.specs.Message.{Packet, call}
 use Rattle.nq_model.specs.Profile.{patience}
 use Rattle.nq_model.specs.World.{Head, World}
-use Rattle.law_calm.proofs.ClientCount.{client-count}
-use Rattle.law_calm.proofs.HostsBelow.{get-below}
-use Rattle.law_deliveries.specs.DeliveryEnds.{enough_deliveries}
-use Rattle.law_progress.specs.CalmRoundsAreLawful.{IsLawful}
-use Rattle.law_progress.specs.QuietDeliveries.{recovers}
-use Rattle.law_progress.proofs.Attaching.{tick-stays}
-use Rattle.law_progress.proofs.CalmEnds.{IsRising, played-rising, hosts-rising, flow-rising, lawful-delivers}
-use Rattle.law_progress.proofs.CalmIsLawful.{flows, round}
-use Rattle.law_progress.proofs.QuietFlows.{delivered-phase}
+use Rattle.law_rounds.proofs.ClientCount.{client-count}
+use Rattle.law_rounds.proofs.HostsBelow.{get-below}
+use Rattle.law_rounds.specs.DeliveryEnds.{enough_deliveries}
+use Rattle.law_rounds.specs.CalmRoundsAreLawful.{IsLawful}
+use Rattle.law_rounds.specs.QuietDeliveries.{recovers}
+use Rattle.law_rounds.proofs.Attaching.{tick-stays}
+use Rattle.law_rounds.proofs.CalmEnds.{IsRising, played-rising, hosts-rising, flow-rising, lawful-delivers}
+use Rattle.law_rounds.proofs.CalmIsLawful.{flows, round}
+use Rattle.law_rounds.proofs.QuietFlows.{delivered-phase}
 use Rattle.law_rounds.specs.RoundsEndQuiet.{IsQuiet, all_delivered}
-use Rattle.walk_client.proofs.ClientFacts.{Alone}
-use Rattle.walk_client.proofs.ClientMoves.{some-same, none-some}
+use Rattle.walk_run.proofs.ClientFacts.{Alone}
+use Rattle.walk_run.proofs.ClientMoves.{some-same, none-some}
 use Rattle.walk_run.proofs.Packets.{In, not-both}
 use Rattle.walk_run.proofs.Worlds.{run-holds}
-use Rattle.walk_server.proofs.Tests.{is-at-most, is-not-at-most}
-use Rattle.law_answered.proofs.Hosts.{ticked}
-use Rattle.law_answered.proofs.LookTickets.{tick-opens}
+use Rattle.walk_run.proofs.Tests.{is-at-most, is-not-at-most}
+use Rattle.law_open_calls.proofs.Hosts.{ticked}
+use Rattle.law_open_calls.proofs.LookTickets.{tick-opens}
 use Rattle.law_open_calls.proofs.Begin.{round-tickets, round-wants, none-renew}
 use Rattle.law_open_calls.proofs.Counts.{open_calls}
 use Rattle.law_open_calls.proofs.Delivery.{State}

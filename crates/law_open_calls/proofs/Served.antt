@@ -15,7 +15,7 @@ use Rattle.nq_model.specs.Message.{Message, Packet, call, reply}
 use Rattle.nq_model.specs.Server.{to_host}
 use Rattle.nq_model.specs.Table.{caches, greater_mode, find_row}
 use Rattle.walk_run.proofs.Packets.{In}
-use Rattle.law_answered.specs.PutOff.{file_of, access_by}
+use Rattle.law_open_calls.specs.PutOff.{file_of, access_by}
 use Rattle.law_open_calls.proofs.Hope.{InWay}
 
 -- a row is the one that was there, but for its mark and times

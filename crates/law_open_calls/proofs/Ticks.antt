@@ -13,19 +13,19 @@ use Rattle.nq_model.specs.Table.{find_row, is_row_of, with_rows}
 use Rattle.nq_model.specs.World.{Head, World, after_client, after_server, at_client, run}
 use Rattle.nq_model.specs.Skew.{IsWithinSkew}
 use Rattle.nq_promises.specs.Bounds.{KeepsBounds}
-use Rattle.law_calm.proofs.ClientCount.{client-count}
-use Rattle.law_calm.proofs.HostsBelow.{get-below}
-use Rattle.law_progress.specs.CalmRoundsAreLawful.{IsLawful}
-use Rattle.law_progress.specs.QuietDeliveries.{recovers}
-use Rattle.law_progress.proofs.CalmIsLawful.{round}
+use Rattle.law_rounds.proofs.ClientCount.{client-count}
+use Rattle.law_rounds.proofs.HostsBelow.{get-below}
+use Rattle.law_rounds.specs.CalmRoundsAreLawful.{IsLawful}
+use Rattle.law_rounds.specs.QuietDeliveries.{recovers}
+use Rattle.law_rounds.proofs.CalmIsLawful.{round}
 use Rattle.law_leases.proofs.LeaseIntervals.{run-runs}
-use Rattle.walk_client.proofs.StepCases.{tick-cases}
-use Rattle.walk_server.proofs.RowChanges.{HasUniqueKeys, found-kept, unique-filtered}
-use Rattle.walk_server.proofs.ServerCases.{server-ticks}
-use Rattle.walk_tables.proofs.ServerTables.{StandingFits}
-use Rattle.law_answered.proofs.Calling.{Keeps, settles, sends}
-use Rattle.law_answered.proofs.Hosts.{ticked}
-use Rattle.law_answered.proofs.LookTickets.{tick-opens}
+use Rattle.walk_run.proofs.StepCases.{tick-cases}
+use Rattle.walk_run.proofs.RowChanges.{HasUniqueKeys, found-kept, unique-filtered}
+use Rattle.walk_run.proofs.ServerCases.{server-ticks}
+use Rattle.walk_run.proofs.ServerTables.{StandingFits}
+use Rattle.law_open_calls.proofs.Calling.{Keeps, settles, sends}
+use Rattle.law_open_calls.proofs.Hosts.{ticked}
+use Rattle.law_open_calls.proofs.LookTickets.{tick-opens}
 use Rattle.law_open_calls.proofs.UnderWay.{serves-is}
 use Rattle.law_open_calls.proofs.Frames.{NoWay}
 use Rattle.law_open_calls.proofs.Hope.{file_of_call, access_of_call, InWay}

@@ -15,12 +15,12 @@ use Rattle.nq_model.specs.Message.{Message, Packet, call, reply, asker, sequence
 use Rattle.nq_model.specs.Server.{Phase, serving, recovering, to_host}
 use Rattle.nq_model.specs.Table.{caches, greater_mode, tag_below, find_row}
 use Rattle.nq_model.specs.World.{World, from_host}
-use Rattle.law_progress.specs.QuietDeliveries.{recovers}
-use Rattle.law_progress.proofs.PacketsCome.{Comes}
-use Rattle.walk_client.proofs.ClientFacts.{fits_job}
-use Rattle.walk_client.proofs.ClientMoves.{some-same, none-some, keeps-or-cancels}
+use Rattle.law_rounds.specs.QuietDeliveries.{recovers}
+use Rattle.law_rounds.proofs.PacketsCome.{Comes}
+use Rattle.walk_run.proofs.ClientFacts.{fits_job}
+use Rattle.walk_run.proofs.ClientMoves.{some-same, none-some, keeps-or-cancels}
 use Rattle.walk_run.proofs.Packets.{In, in-append, Told, call-same}
-use Rattle.walk_sends.proofs.StepSends.{VacatedFrom, StepSends, only_gives, then_asks, HearSends, told as told_sends, noticed as noticed_sends}
+use Rattle.walk_run.proofs.StepSends.{VacatedFrom, StepSends, only_gives, then_asks, HearSends, told as told_sends, noticed as noticed_sends}
 use Rattle.law_open_calls.proofs.Hope.{Hopeful, Clear}
 use Rattle.law_open_calls.proofs.Served.{IsWant, by_read, by_lease, Fits}
 

@@ -6,9 +6,9 @@ use Rattle.nq_model.specs.Client.{Client, UnderWay}
 use Rattle.nq_model.specs.Profile.{skew, write_slack}
 use Rattle.nq_model.specs.Skew.{IsWithinSkew}
 use Rattle.nq_model.specs.World.{Head, run}
-use Rattle.law_deliveries.specs.DeliveryEnds.{AreUnderWay, calmed}
-use Rattle.law_progress.specs.CallsAreAnswered.{IsAnswered, rounds_enough}
-use Rattle.law_progress.specs.CalmRound.{calm_rounds}
+use Rattle.law_rounds.specs.DeliveryEnds.{AreUnderWay, calmed}
+use Rattle.law_rounds.specs.CallsAreAnswered.{IsAnswered, rounds_enough}
+use Rattle.law_rounds.specs.CalmRound.{calm_rounds}
 use Rattle.law_rounds.specs.RoundsEndQuiet.{IsSmall}
 
 -- how many calls are open

@@ -1,3 +1,9 @@
+pub mod StoredOnceAnswered
+pub mod PutOff
+pub mod LooksAreAnswered
+pub mod Met
+pub mod NoticesAreHeard
+pub mod NoTagIsLater
 pub mod CallsAnswered
 pub mod StoredInTime
-pub mod Met
+pub mod OpenCallsMet

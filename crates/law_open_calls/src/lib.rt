@@ -1,36 +1,11 @@
-//! Every call is answered once the network is calm; so all that is delayed is stored, and who syncs is answered. The statements stand in `specs/`,
-//! and their proofs in `proofs/`.
+//! Calm networks: which calls are answered, and when. Each law stands on a function with an empty body, whose clause is the law and
+//! whose proof stands in `proofs/`.
 #![tactic(auto)]
 
-ghost use Rattle.law_open_calls.specs.CallsAnswered.{CallsAnswered, FewCallsAnswered};
-ghost use Rattle.law_open_calls.specs.Met.{OpenCallsAreMet};
-ghost use Rattle.law_open_calls.specs.StoredInTime.{StoredInTime, SyncsInTime};
+mod answered;
+mod open_calls;
+mod queues;
 
-/// In every run, whatever is under way: all clients are attached, and no call is open, after as many calm rounds as the longest term of all
-/// boots has ticks, 9 more, and 4 for each call that was open at first; and after any number more.
-pub fn calls_answered()
-    ensures { CallsAnswered }
-{}
-
-/// In every run, whatever is under way: where four times the open calls are no more than the longest term of all boots and 17, twice that term and
-/// 26 calm rounds are enough for that.
-pub fn few_calls_answered()
-    ensures { FewCallsAnswered }
-{}
-
-/// In every run, whatever is under way: no client has delayed writes after as many calm rounds more as the longest term of all boots has ticks, and
-/// one; and after any number more.
-pub fn stored_in_time()
-    ensures { StoredInTime }
-{}
-
-/// In every run, whatever is under way: after so many calm rounds as answer each call, or more, a `sync` of any file by any host is answered in the next
-/// calm round.
-pub fn syncs_in_time()
-    ensures { SyncsInTime }
-{}
-
-/// A schedule with a recovery meets all premises of these laws, and needs more than half of the rounds.
-pub fn open_calls_are_met()
-    ensures { OpenCallsAreMet }
-{}
+pub use answered::{answers_are_met, looks_are_answered, notices_are_heard, put_off_for_rows, stored_once_answered, syncs_answered_once};
+pub use open_calls::{calls_answered, few_calls_answered, open_calls_are_met, stored_in_time, syncs_in_time};
+pub use queues::{no_tag_is_later, row_notices_are_heard};

@@ -10,11 +10,11 @@ use Rattle.nq_model.specs.Client.{Client, ClientStep, begun, Ticket}
 use Rattle.nq_model.specs.ClientStep.{client_call, client_tick, at_time, restart, starts, fresh_client}
 use Rattle.nq_model.specs.Hear.{inc_of, reply_counts, hear, goes_on, replied, evicted, cancels}
 use Rattle.nq_model.specs.Message.{Message, Packet, call, reply, sequence_of}
-use Rattle.walk_client.proofs.ClientCases.{Core, core_of, Closed}
-use Rattle.walk_client.proofs.ClientFacts.{Alone}
-use Rattle.walk_client.proofs.ClientMoves.{some-same, none-some, keeps-or-cancels}
-use Rattle.walk_client.proofs.ClientWalk.{reply-keeps, notice-keeps, call-keeps, tick-keeps}
-use Rattle.walk_client.proofs.StepCases.{heard-cases}
+use Rattle.walk_run.proofs.ClientCases.{Core, core_of, Closed}
+use Rattle.walk_run.proofs.ClientFacts.{Alone}
+use Rattle.walk_run.proofs.ClientMoves.{some-same, none-some, keeps-or-cancels}
+use Rattle.walk_run.proofs.ClientWalk.{reply-keeps, notice-keeps, call-keeps, tick-keeps}
+use Rattle.walk_run.proofs.StepCases.{heard-cases}
 use Rattle.walk_run.proofs.Packets.{In, in-left, in-right, Told}
 use Rattle.walk_run.proofs.ServerKnows.{NoneHeard, NoneGiven}
 use Rattle.walk_run.proofs.Worlds.{IsAt, given-by}

@@ -13,9 +13,9 @@ use Rattle.nq_model.specs.World.{World, after_client, after_server, after_hearin
 use Rattle.walk_run.proofs.Members.{filter-in}
 use Rattle.walk_run.proofs.Packets.{In, in-left, in-right}
 use Rattle.walk_run.proofs.Steps.{step-changes}
-use Rattle.walk_server.proofs.Rows.{same-number}
-use Rattle.law_progress.proofs.PacketsCome.{Comes, get-kept}
-use Rattle.law_progress.proofs.QuietFlows.{grown}
+use Rattle.walk_run.proofs.Rows.{same-number}
+use Rattle.law_rounds.proofs.PacketsCome.{Comes, get-kept}
+use Rattle.law_rounds.proofs.QuietFlows.{grown}
 
 -- ---- lists
 

@@ -11,22 +11,22 @@ use Rattle.nq_model.specs.Server.{Phase, serving, recovering, Server, ServerStep
 use Rattle.nq_model.specs.ServerStep.{tick, at_time, opens, ends_writing}
 use Rattle.nq_model.specs.Table.{Table}
 use Rattle.nq_model.specs.World.{Head, World, after_client, after_server, at_client, sending_host, step, run}
-use Rattle.law_calm.proofs.RowEnds.{recoveries-end-soon}
+use Rattle.law_rounds.proofs.RowEnds.{recoveries-end-soon}
 use Rattle.law_leases.proofs.LeaseIntervals.{run-runs}
-use Rattle.law_deliveries.specs.DeliveryEnds.{calmed, enough_deliveries}
-use Rattle.law_progress.specs.CalmRound.{calm_round, calm_rounds}
-use Rattle.law_progress.specs.CalmRoundsAreLawful.{IsLawful}
-use Rattle.law_progress.specs.QuietDeliveries.{recovers}
-use Rattle.law_progress.proofs.Attaching.{tick-stays}
-use Rattle.law_progress.proofs.AllAttached.{rounds-more}
-use Rattle.law_progress.proofs.CalmEnds.{IsRising, round-rising, rounds-rising, calmed-rising}
-use Rattle.law_progress.proofs.CalmIsLawful.{played-quiet, flows, calm-round}
-use Rattle.law_progress.proofs.QuietFlows.{delivered-phase}
+use Rattle.law_rounds.specs.DeliveryEnds.{calmed, enough_deliveries}
+use Rattle.law_rounds.specs.CalmRound.{calm_round, calm_rounds}
+use Rattle.law_rounds.specs.CalmRoundsAreLawful.{IsLawful}
+use Rattle.law_rounds.specs.QuietDeliveries.{recovers}
+use Rattle.law_rounds.proofs.Attaching.{tick-stays}
+use Rattle.law_rounds.proofs.AllAttached.{rounds-more}
+use Rattle.law_rounds.proofs.CalmEnds.{IsRising, round-rising, rounds-rising, calmed-rising}
+use Rattle.law_rounds.proofs.CalmIsLawful.{played-quiet, flows, calm-round}
+use Rattle.law_rounds.proofs.QuietFlows.{delivered-phase}
 use Rattle.walk_run.proofs.Worlds.{get-set-same, get-set-other, run-holds}
-use Rattle.walk_server.proofs.Rows.{same-number, number-same}
-use Rattle.walk_server.proofs.ServerCases.{server-ticks}
-use Rattle.walk_server.proofs.ServerMoves.{receive-keeps, tick-moves}
-use Rattle.walk_server.proofs.Tests.{is-below, is-not-below}
+use Rattle.walk_run.proofs.Rows.{same-number, number-same}
+use Rattle.walk_run.proofs.ServerCases.{server-ticks}
+use Rattle.walk_run.proofs.ServerMoves.{receive-keeps, tick-moves}
+use Rattle.walk_run.proofs.Tests.{is-below, is-not-below}
 use Rattle.law_rounds.specs.RoundsEndQuiet.{IsSmall, all_delivered, IsQuiet}
 use Rattle.law_rounds.specs.RecoveriesEnd.{RecoveriesEnd}
 use Rattle.law_rounds.proofs.Coming.{Delivery, no_packet, at_server, at_host, ignored, no_client, delivery}

@@ -1,11 +1,11 @@
 -- That these laws speak of something: there is a schedule, with a recovery in it, that keeps to all their bounds.
 use Rattle.std.specs.Prelude.{◌≡◌, true, []}
 use Rattle.nq_model.specs.World.{run}
-use Rattle.law_deliveries.specs.DeliveryEnds.{calmed}
-use Rattle.law_progress.specs.CalmRound.{calm_rounds}
-use Rattle.law_progress.specs.CalmRoundsAreLawful.{IsLawful}
-use Rattle.law_progress.specs.QuietDeliveries.{recovers}
-use Rattle.law_progress.specs.SomeNeedHalf.{late_head, late_events}
+use Rattle.law_rounds.specs.DeliveryEnds.{calmed}
+use Rattle.law_rounds.specs.CalmRound.{calm_rounds}
+use Rattle.law_rounds.specs.CalmRoundsAreLawful.{IsLawful}
+use Rattle.law_rounds.specs.QuietDeliveries.{recovers}
+use Rattle.law_rounds.specs.SomeNeedHalf.{late_head, late_events}
 use Rattle.law_rounds.specs.RoundsEndQuiet.{IsSmall}
 
 -- two reads and a put while the server recovers, with terms of 6 ticks: after 14 calm rounds it serves, and the schedule is short

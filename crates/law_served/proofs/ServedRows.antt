@@ -20,9 +20,9 @@ use Rattle.nq_model.specs.Table.{empty_table}
 use Rattle.nq_server.specs.declared.Received.{Received}
 use Rattle.nq_server.specs.declared.Received.TheVariants as received
 use Rattle.nq_wire.specs.Outbox.{Datagrams}
-use Rattle.walk_server.proofs.RowChanges.{HasUniqueKeys, of-key}
-use Rattle.walk_server.proofs.TableFits.{no-rows-fit}
-use Rattle.walk_tables.proofs.ServerTables.{StandingFits, StandingFitsOf, NoneRecovering, NoneRecoveringOf, stands-receive, stands-tick, stands-boot, stands-crash, none-receive, none-tick, none-boot, none-crash}
+use Rattle.walk_run.proofs.RowChanges.{HasUniqueKeys, of-key}
+use Rattle.walk_run.proofs.TableFits.{no-rows-fit}
+use Rattle.walk_run.proofs.ServerTables.{StandingFits, StandingFitsOf, NoneRecovering, NoneRecoveringOf, stands-receive, stands-tick, stands-boot, stands-crash, none-receive, none-tick, none-boot, none-crash}
 
 -- what is kept of the rows whatever comes
 record Apart (s : Server) : Type 0 where

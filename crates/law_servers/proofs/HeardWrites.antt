@@ -9,9 +9,9 @@ use Rattle.nq_model.specs.Server.{Phase, serving, recovering, Server, quiet, dro
 use Rattle.nq_model.specs.ServerStep.{attaches, vacates, tells_later, serves, leases, receive, tick, at_time, opens, ends_writing}
 use Rattle.nq_model.specs.Table.{Table}
 use Rattle.nq_promises.specs.RecoveriesWait.{WasStoredAt}
-use Rattle.walk_server.proofs.ServerCases.{server-hears, server-ticks}
-use Rattle.walk_tables.proofs.ServerNumbers.{PhaseWaits, PhaseWaitsOf, Waits}
-use Rattle.walk_server.proofs.ServerOutcomes.{ServerCases}
+use Rattle.walk_run.proofs.ServerCases.{server-hears, server-ticks}
+use Rattle.walk_run.proofs.ServerNumbers.{PhaseWaits, PhaseWaitsOf, Waits}
+use Rattle.walk_run.proofs.ServerOutcomes.{ServerCases}
 
 -- each delayed write that was stored was stored by this time
 abbrev pub StoredBy : ℕ → List Entry → Type 0

@@ -11,11 +11,11 @@ use Rattle.nq_model.specs.Server.{Phase, serving, recovering, Server}
 use Rattle.nq_model.specs.ServerStep.{to_read, is_over, end_reading, receive, tick, boot, crash}
 use Rattle.nq_model.specs.Table.{Table, is_row_of, find_row, put_row, with_rows, after_draw, empty_table}
 use Rattle.nq_promises.specs.RowsStandApart.{KeepsTags}
-use Rattle.walk_server.proofs.AskCases.{with_marked, IsGranted, shares_again, begins_sharing, begins_caching, renews_row}
-use Rattle.walk_server.proofs.RowChanges.{HasUniqueKeys, unique-filtered, of-key, found-put, found-kept, found-vacated, found-marked, mark-is}
-use Rattle.walk_server.proofs.Rows.{found-row}
-use Rattle.walk_server.proofs.ServerMoves.{ServerMoves, server-moves, tick-moves}
-use Rattle.walk_tables.proofs.ServerTables.{StandingFits, StandingFitsOf, NoneRecovering, NoneRecoveringOf}
+use Rattle.walk_run.proofs.AskCases.{with_marked, IsGranted, shares_again, begins_sharing, begins_caching, renews_row}
+use Rattle.walk_run.proofs.RowChanges.{HasUniqueKeys, unique-filtered, of-key, found-put, found-kept, found-vacated, found-marked, mark-is}
+use Rattle.walk_run.proofs.Rows.{found-row}
+use Rattle.walk_run.proofs.ServerMoves.{ServerMoves, server-moves, tick-moves}
+use Rattle.walk_run.proofs.ServerTables.{StandingFits, StandingFitsOf, NoneRecovering, NoneRecoveringOf}
 
 keeps-fewer : (rows fewer : List Row) → ((file host : ℕ) (row : Row) → find_row file host fewer ≡ Some row → find_row file host rows ≡ Some row)
     → KeepsTags rows fewer

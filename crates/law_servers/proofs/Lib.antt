@@ -2,3 +2,12 @@ pub mod KeptTags
 pub mod HeardWrites
 pub mod ServerAlone
 pub mod SomeRecovery
+pub mod ClientSends
+pub mod NoticeCounts
+pub mod ServerSends
+pub mod WorldSends
+pub mod FilesStay
+pub mod SomeStaying
+pub mod OneHost
+pub mod Owing
+pub mod RefusedJournals

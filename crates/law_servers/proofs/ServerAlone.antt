@@ -13,11 +13,11 @@ use Rattle.nq_promises.specs.RowsStandApart.{AreOfKeptIncarnations, WritesAlone,
 use Rattle.nq_promises.specs.ServerAlone.{Coming, datagram, ticks, crashes, step_for, server_after, first_boot, booted_last, entries_since_boot}
 use Rattle.law_servers.proofs.HeardWrites.{HeardWrites, StoredBy, hears-writes, writes-receive, writes-tick}
 use Rattle.law_servers.proofs.KeptTags.{own-keys, keeps-receive, keeps-tick, keeps-crash}
-use Rattle.walk_server.proofs.RowChanges.{HasUniqueKeys, of-key}
-use Rattle.walk_tables.proofs.ServerFacts.{IncsFit, IncsFitOf, incs-receive, incs-tick, incs-boot, incs-crash}
-use Rattle.walk_tables.proofs.ServerNumbers.{Waits, PhaseWaits, PhaseWaitsOf, waits-receive, waits-tick, waits-boot, waits-crash}
-use Rattle.walk_tables.proofs.ServerTables.{StandingFits, StandingFitsOf, NoneRecovering, NoneRecoveringOf, stands-receive, stands-tick, stands-boot, stands-crash, none-receive, none-tick, none-boot, none-crash}
-use Rattle.walk_server.proofs.TableFits.{no-rows-fit}
+use Rattle.walk_run.proofs.RowChanges.{HasUniqueKeys, of-key}
+use Rattle.walk_run.proofs.ServerFacts.{IncsFit, IncsFitOf, incs-receive, incs-tick, incs-boot, incs-crash}
+use Rattle.walk_run.proofs.ServerNumbers.{Waits, PhaseWaits, PhaseWaitsOf, waits-receive, waits-tick, waits-boot, waits-crash}
+use Rattle.walk_run.proofs.ServerTables.{StandingFits, StandingFitsOf, NoneRecovering, NoneRecoveringOf, stands-receive, stands-tick, stands-boot, stands-crash, none-receive, none-tick, none-boot, none-crash}
+use Rattle.walk_run.proofs.TableFits.{no-rows-fit}
 
 -- what is kept of the rows whatever comes
 record Apart (s : Server) : Type 0 where

@@ -1,1 +1,3 @@
 pub mod RecoveriesAreMet
+pub mod Staying
+pub mod Refused

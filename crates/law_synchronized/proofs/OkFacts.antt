@@ -10,9 +10,9 @@ use Rattle.nq_base.specs.declared.Push.{Push}
 use Rattle.nq_base.specs.declared.Request.{Request}
 use Rattle.nq_base.specs.declared.Verdict.{Verdict}
 use Rattle.nq_base.specs.declared.Who.{Who}
-use Rattle.walk_calls.proofs.CallsFit.{entry_who}
-use Rattle.walk_client.proofs.SettleCases.{IsRead}
-use Rattle.walk_client.proofs.ClientMoves.{none-some}
+use Rattle.walk_leases.proofs.CallsFit.{entry_who}
+use Rattle.walk_run.proofs.SettleCases.{IsRead}
+use Rattle.walk_run.proofs.ClientMoves.{none-some}
 use Rattle.nq_model.specs.Client.{Client, ClientStep, for_call, Ticket, UnderWay, losses_of, is_clean_in}
 use Rattle.nq_base.specs.Calls.{told}
 use Rattle.nq_model.specs.Journal.{Exists, Throughout, Somewhere, IsOpen, call_of, IsWriteBy, IsThrough}

@@ -5,9 +5,9 @@ use Rattle.nq_base.specs.declared.Entry.{Entry}
 use Rattle.nq_base.specs.declared.Event.{Event}
 use Rattle.nq_base.specs.declared.Party.{Party}
 use Rattle.nq_base.specs.declared.Who.{Who}
-use Rattle.walk_calls.proofs.CallsFit.{entry_who, entry_call}
-use Rattle.walk_client.proofs.ClientMoves.{none-some}
-use Rattle.law_fates.proofs.AnsweredWorlds.{run-answered}
+use Rattle.walk_leases.proofs.CallsFit.{entry_who, entry_call}
+use Rattle.walk_run.proofs.ClientMoves.{none-some}
+use Rattle.law_leases.proofs.AnsweredWorlds.{run-answered}
 use Rattle.law_leases.proofs.LeaseIntervals.{run-runs}
 use Rattle.nq_promises.specs.Bounds.{KeepsBounds, InEveryRun}
 use Rattle.nq_model.specs.Client.{Client, ClientStep, UnderWay}

@@ -9,7 +9,7 @@ use Rattle.nq_model.proofs.SkewTest.{skew-test-is-sound}
 use Rattle.nq_model.specs.Journal.{Exists, call_of}
 use Rattle.nq_model.specs.ServerStep.{at_time as at_server_time}
 use Rattle.nq_model.specs.World.{Head, run}
-use Rattle.law_synchronized.specs.Met.{IsOk, IsDelayedAndStored, IsSyncedOnce}
+use Rattle.law_synchronized.specs.SynchronizedMet.{IsOk, IsDelayedAndStored, IsSyncedOnce}
 use Rattle.walk_run.proofs.GivenRuns.{given-run}
 
 -- one host, one file of one block

@@ -4,12 +4,12 @@ use Rattle.nq_base.specs.declared.Entry.{Entry}
 use Rattle.nq_base.specs.declared.Entry.TheVariants.{W, S, L}
 use Rattle.nq_base.specs.declared.Push.{Push}
 use Rattle.nq_base.specs.declared.Who.{Who}
-use Rattle.law_calls.proofs.RunCalls.{calls-fit}
-use Rattle.law_fates.proofs.WorldWrites.{writes-fit}
-use Rattle.walk_fates.proofs.WritesFit as fits
+use Rattle.law_leases.proofs.RunCalls.{calls-fit}
+use Rattle.law_leases.proofs.WorldWrites.{writes-fit}
+use Rattle.walk_leases.proofs.WritesFit as fits
 use Rattle.nq_model.specs.Journal.{Exists, Throughout, Covers}
 use Rattle.nq_model.specs.World.{run}
-use Rattle.law_reports.proofs.ReportedRuns.{losses-fit}
+use Rattle.law_synchronized.proofs.ReportedRuns.{losses-fit}
 use Rattle.law_synchronized.proofs.OkFacts.{CoversNumber, by_store, by_loss, LiesWithin, in_list, under_way}
 use Rattle.law_synchronized.proofs.KeptPlaces.{KeptHere, answers-are-of-calls, busy-at-once}
 use Rattle.law_synchronized.proofs.OkRuns.{Oks, oks-runs, StandingInEveryRun, CountedInEveryRun, answered-runs, synchronized-runs}

@@ -1,36 +1,33 @@
--- There is a schedule after which a sync was answered ok: the premises of the law are met.
-use Rattle.std.specs.Prelude.{◌≡◌, ℕ, List, Some, false}
-use Rattle.nq_base.specs.declared.Entry.{Entry}
-use Rattle.nq_base.specs.declared.Entry.TheVariants.{W, A}
+-- There is a schedule in which a loss waits to be named, and is named.
+use Rattle.std.specs.Prelude.{◌≡◌, ℕ, List, [], ◌∷◌, Option, Some, None, slice_get}
+use Rattle.nq_base.specs.declared.Call.{Call}
 use Rattle.nq_base.specs.declared.Event.{Event}
-use Rattle.nq_base.specs.declared.Said.TheVariants.{Ok}
-use Rattle.nq_base.specs.declared.Told.TheVariants.{Sync}
+use Rattle.nq_base.specs.declared.Loss.{Loss}
 use Rattle.nq_base.specs.declared.Who.{Who}
 use Rattle.nq_promises.specs.Bounds.{KeepsBounds}
-use Rattle.nq_model.specs.Journal.{Exists, IsStored, call_of}
+use Rattle.nq_model.specs.Client.{Client}
+use Rattle.nq_model.specs.Journal.{Exists}
+use Rattle.nq_model.specs.Reported.{Names}
 use Rattle.nq_model.specs.Skew.{IsWithinSkew}
 use Rattle.nq_model.specs.World.{Head, run}
+use Rattle.nq_promises.specs.LossesAreReported.{IsLossOf}
 
--- the entry is an A ok to call q of an incarnation
-abbrev pub IsOk : (who : Who) (q : ℕ) → Entry → Type 0
-IsOk who q (A by n Ok) = (by ≡ who) × (n ≡ q)
-IsOk who q other = ⊥
+-- the losses of a client that no answer named yet
+abbrev pub untold : Option Client → List Loss
+untold None = []
+untold (Some c) = c.losses
 
--- the entry is a delayed write of an incarnation on a file, and an S of the journal covers it
-abbrev pub IsDelayedAndStored : (journal : List Entry) (who : Who) (file : ℕ) → Entry → Type 0
-IsDelayedAndStored journal who file (W by f block number value false) = (by ≡ who) × (f ≡ file) × IsStored journal (W by f block number value false)
-IsDelayedAndStored journal who file other = ⊥
-
--- not in vain: after some schedule within skew a sync of a file was answered ok, on which a write was delayed and stored
-pub record IsSyncedOnce : Type 0 where
+-- not in vain: after some schedule within skew a loss waits to be named; after one more call of its client an A names it
+pub record IsLostAndNamed : Type 0 where
   pub most : ℕ
   pub head : Head
   pub events : List Event
+  pub host : ℕ
+  pub op : Call
   pub who : Who
-  pub q : ℕ
-  pub file : ℕ
+  pub loss : Loss
   pub bounds : KeepsBounds most head events
   pub within : IsWithinSkew head.hosts most events
-  pub asks : call_of (run head events).journal who q ≡ Some (Sync file)
-  pub answered : Exists (IsOk who q) (run head events).journal
-  pub stored : Exists (IsDelayedAndStored (run head events).journal who file) (run head events).journal
+  pub waits : untold (slice_get (run head events).clients host) ≡ loss ∷ []
+  pub lost : Exists (IsLossOf who loss) (run head events).journal
+  pub named : Exists (Names (run head (Event.Call host op ∷ events)).journal who loss) (run head (Event.Call host op ∷ events)).journal

@@ -1,6 +1,6 @@
 //! What an ok says.
 
-ghost use Rattle.law_synchronized.specs.Met.{IsSyncedOnce};
+ghost use Rattle.law_synchronized.specs.SynchronizedMet.{IsSyncedOnce};
 ghost use Rattle.nq_promises.specs.AnswersAreOfTheirCalls.{AnswersAreOfTheirCallsInEveryRun};
 ghost use Rattle.nq_promises.specs.BusyIsSaidAtOnce.{BusyIsSaidAtOnceInEveryRun};
 ghost use Rattle.nq_promises.specs.OksAreKept.{SynchronizedInEveryRun};

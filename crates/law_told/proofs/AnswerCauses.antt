@@ -19,13 +19,13 @@ use Rattle.nq_model.specs.Settle.{said}
 use Rattle.nq_model.specs.World.{Head, World}
 use Rattle.nq_promises.specs.AnswersTellWhatWas.{HasNamed, HasLength, ToldSo}
 use Rattle.nq_promises.specs.RepliesTellWhatWas.{Once, KeepsNamed}
-use Rattle.law_calm.specs.RequestsAreMeant.{IsWriteTo}
+use Rattle.law_rounds.specs.RequestsAreMeant.{IsWriteTo}
 use Rattle.law_synchronized.proofs.OkFacts.{IsFor}
 use Rattle.law_told.specs.RefusalsHaveCauses.{LacksName, HasName, LacksFile, HasNoRoom, CannotGrow, LacksBlock, IsNoLength, IsAnsweredSo}
 use Rattle.law_told.proofs.RunTells.{once-map, HadSo}
-use Rattle.walk_client.proofs.RepliedCases.{IsNamed, looked_up, created, attributes}
-use Rattle.walk_client.proofs.SettleCases.{IsRead}
-use Rattle.walk_entries.proofs.ClientEntries.{IsOfBlock, IsTelling, names, refuses}
+use Rattle.walk_run.proofs.RepliedCases.{IsNamed, looked_up, created, attributes}
+use Rattle.walk_run.proofs.SettleCases.{IsRead}
+use Rattle.walk_run.proofs.ClientEntries.{IsOfBlock, IsTelling, names, refuses}
 
 -- what an answer to this call says was so
 abbrev pub Says : Head → List Event → Said → Option Told → Type 0

@@ -26,16 +26,16 @@ use Rattle.nq_model.specs.World.{Head, World, after_server, after_client, at_cli
 use Rattle.nq_promises.specs.AnswersTellWhatWas.{HasLength, ToldSo, TellsSoAt, AnswersTellWhatWas}
 use Rattle.nq_promises.specs.Bounds.{KeepsBounds, InEveryRun}
 use Rattle.nq_promises.specs.RepliesTellWhatWas.{Once}
-use Rattle.walk_calls.proofs.CallFacts.{CallsAt}
-use Rattle.walk_calls.proofs.Placed.{Placed, call-told, call-later}
-use Rattle.walk_entries.proofs.ClientEntries.{IsTelling, Lent}
+use Rattle.walk_leases.proofs.CallFacts.{CallsAt}
+use Rattle.walk_leases.proofs.Placed.{Placed, call-told, call-later}
+use Rattle.walk_run.proofs.ClientEntries.{IsTelling, Lent}
 use Rattle.walk_run.proofs.Clocks.{within-before}
 use Rattle.walk_run.proofs.NoCrash.{bounds-before}
 use Rattle.walk_run.proofs.Packets.{In, in-get, Told as ToldTo}
 use Rattle.walk_run.proofs.RunCases.{client_at}
 use Rattle.walk_run.proofs.Worlds.{Holds, to-told, run-holds}
-use Rattle.law_calm.proofs.Meant.{requests-are-meant}
-use Rattle.law_calls.proofs.RunCalls.{calls-known}
+use Rattle.law_rounds.proofs.Meant.{requests-are-meant}
+use Rattle.law_leases.proofs.RunCalls.{calls-known}
 use Rattle.law_synchronized.proofs.OkFacts.{KeepsOf}
 use Rattle.law_synchronized.proofs.Standings.{oks-in-every-run}
 use Rattle.law_told.specs.RefusalsHaveCauses.{LacksBlock, HasCauseAt, AnswersHaveCauses}

@@ -22,12 +22,12 @@ use Rattle.nq_promises.specs.RepliesTellWhatWas.{Once, WasSo, RepliesTellWhatWas
 use Rattle.walk_run.proofs.Mail.{none-to-host}
 use Rattle.walk_run.proofs.Packets.{In, in-append, in-left, in-get, Asked, Told}
 use Rattle.walk_run.proofs.Worlds.{to-server, run-holds}
-use Rattle.walk_server.proofs.Incarnations.{one-who}
-use Rattle.walk_server.proofs.KeptChanges.{booted-line}
-use Rattle.walk_server.proofs.ServerCases.{server-ticks}
+use Rattle.walk_run.proofs.Incarnations.{one-who}
+use Rattle.walk_run.proofs.KeptChanges.{booted-line}
+use Rattle.walk_run.proofs.ServerCases.{server-ticks}
 use Rattle.law_bounds.proofs.WorldNumbers.{drawn-up-to}
-use Rattle.law_requests.proofs.OneRequests.{one-in-every-run}
-use Rattle.law_requests.proofs.Places.{in-place}
+use Rattle.law_leases.proofs.OneRequests.{one-in-every-run}
+use Rattle.law_leases.proofs.Places.{in-place}
 use Rattle.law_told.specs.RefusalsHaveCauses.{HadCause, RefusalsHaveCauses}
 use Rattle.law_told.proofs.Causes.{IsTold}
 use Rattle.law_told.proofs.ServerTells.{Reason, so_before, so_after, again, Tells, RowMove, row_stays, row_begins, row_decided, receive-tells}

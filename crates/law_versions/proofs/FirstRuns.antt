@@ -8,7 +8,7 @@ use Rattle.nq_base.specs.declared.Event.{Event}
 use Rattle.nq_base.specs.declared.Party.{Party}
 use Rattle.nq_base.specs.declared.Told.{Told}
 use Rattle.nq_base.specs.declared.Who.{Who}
-use Rattle.law_calls.proofs.OrderedCalls.{ordered-in-every-run}
+use Rattle.law_leases.proofs.OrderedCalls.{ordered-in-every-run}
 use Rattle.law_versions.proofs.Tells.{AllTell, Tells, tell-more, server-tells, client-tells}
 use Rattle.law_versions.specs.Versions.{FirstTellsItsRuns, IsOfFirst}
 use Rattle.nq_words.specs.Forms.{HasTold}
@@ -24,12 +24,12 @@ use Rattle.nq_model.specs.Server.{Server, ServerStep}
 use Rattle.nq_model.specs.ServerStep.{boot, booted, crash, receive, tick}
 use Rattle.nq_model.specs.Table.{same_who}
 use Rattle.nq_model.specs.World.{Head, World, after_client, after_hearing, after_server, at_client, deliver, deliver_to, deliver_to_client, run, sending_host, start, step}
-use Rattle.walk_client.proofs.ClientFacts.{fits_job}
-use Rattle.walk_entries.proofs.ClientEntries.{AnyCall, AnyLength, any-going, any-lent, call-keeps, tick-keeps as client-tick-keeps, hear-keeps, restart-keeps}
-use Rattle.walk_entries.proofs.ServerEntries.{receive-each, tick-each}
+use Rattle.walk_run.proofs.ClientFacts.{fits_job}
+use Rattle.walk_run.proofs.ClientEntries.{AnyCall, AnyLength, any-going, any-lent, call-keeps, tick-keeps as client-tick-keeps, hear-keeps, restart-keeps}
+use Rattle.walk_run.proofs.ServerEntries.{receive-each, tick-each}
 use Rattle.walk_run.proofs.Worlds.{Holds, run-holds}
-use Rattle.walk_server.proofs.ServerMoves.{phase-moves, receive-keeps, server-moves, tick-keeps, tick-moves}
-use Rattle.walk_tables.proofs.ServerNumbers.{fence-longest}
+use Rattle.walk_run.proofs.ServerMoves.{phase-moves, receive-keeps, server-moves, tick-keeps, tick-moves}
+use Rattle.walk_run.proofs.ServerNumbers.{fence-longest}
 
 -- ---- a step
 

@@ -17,8 +17,8 @@ use Rattle.nq_world.specs.Playing.{Plays, WorldOver, seen_of}
 use Rattle.nq_world.specs.declared.Stepped.{Stepped}
 use Rattle.nq_names_around.specs.Around.{AroundOver}
 use Rattle.nq_names.specs.Playing.{NamesOver, RunsInner, RunsTo, renewed_around}
-use Rattle.walk_server.proofs.ServerMoves.{tick-keeps}
-use Rattle.walk_tables.proofs.ServerTables.{BootsFit, BootsFitOf}
+use Rattle.walk_run.proofs.ServerMoves.{tick-keeps}
+use Rattle.walk_run.proofs.ServerTables.{BootsFit, BootsFitOf}
 
 -- ---- the server's clock
 

@@ -8,7 +8,7 @@ use Rattle.nq_base.specs.declared.Row.{Row}
 use Rattle.nq_base.specs.declared.Tag.{Tag}
 use Rattle.nq_base.specs.declared.Want.{Want}
 use Rattle.nq_base.specs.declared.Who.{Who}
-use Rattle.walk_client.proofs.ClientMoves.{none-some}
+use Rattle.walk_run.proofs.ClientMoves.{none-some}
 use Rattle.nq_model.specs.Ask.{term_of, sharing_row, caching_row, shared_again, renewed_row, marked}
 use Rattle.nq_model.specs.Kept.{Kept}
 use Rattle.nq_model.specs.Message.{Datagram}
@@ -16,12 +16,12 @@ use Rattle.nq_model.specs.Server.{Phase, serving, recovering, Server, standing, 
 use Rattle.nq_model.specs.ServerStep.{to_read, receive, is_over, end_reading, tick, boot}
 use Rattle.nq_model.specs.Table.{Table, is_writing, tag_below, next_tag, is_row_of, find_row, with_rows, after_draw, put_row}
 use Rattle.walk_run.proofs.TagFacts.{IsDrawn}
-use Rattle.walk_tables.proofs.ServerTables.{StandingFits, StandingFitsOf, NoneRecoveringOf, none-opened}
-use Rattle.walk_server.proofs.AskCases.{with_marked, with_waiter, IsGranted, shares_again, begins_sharing, begins_caching, renews_row}
-use Rattle.walk_server.proofs.RowChanges.{HasUniqueKeys, of-key, found-put, found-kept, found-marked, mark-is, found-vacated, unique-filtered}
-use Rattle.walk_server.proofs.Rows.{found-row}
-use Rattle.walk_server.proofs.ServerMoves.{ServerMoves, server-moves, tick-moves}
-use Rattle.walk_server.proofs.TableFits.{TableFits}
+use Rattle.walk_run.proofs.ServerTables.{StandingFits, StandingFitsOf, NoneRecoveringOf, none-opened}
+use Rattle.walk_run.proofs.AskCases.{with_marked, with_waiter, IsGranted, shares_again, begins_sharing, begins_caching, renews_row}
+use Rattle.walk_run.proofs.RowChanges.{HasUniqueKeys, of-key, found-put, found-kept, found-marked, mark-is, found-vacated, unique-filtered}
+use Rattle.walk_run.proofs.Rows.{found-row}
+use Rattle.walk_run.proofs.ServerMoves.{ServerMoves, server-moves, tick-moves}
+use Rattle.walk_run.proofs.TableFits.{TableFits}
 
 -- the own row stands, with a chain that began no later than the tag
 pub record Stood (who : Who) (file : ℕ) (tag : Tag) (rows : List Row) : Type 0 where

@@ -6,9 +6,9 @@ use Rattle.nq_base.specs.declared.Reply.{Reply}
 use Rattle.nq_base.specs.declared.Request.{Request}
 use Rattle.nq_base.specs.declared.Tag.{Tag}
 use Rattle.nq_base.specs.declared.Who.{Who}
-use Rattle.walk_client.proofs.ClientFacts.{Alone}
+use Rattle.walk_run.proofs.ClientFacts.{Alone}
 use Rattle.walk_run.proofs.ClientKnows.{Knows}
-use Rattle.walk_client.proofs.ClientMoves.{some-same, none-some}
+use Rattle.walk_run.proofs.ClientMoves.{some-same, none-some}
 use Rattle.walk_run.proofs.ClientSteps.{KnowsOf, knows-passes}
 use Rattle.walk_run.proofs.CoverFacts.{CoverFits, cover-ticket}
 use Rattle.walk_run.proofs.HostLine.{LineFits}

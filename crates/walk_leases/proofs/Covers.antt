@@ -9,11 +9,11 @@ use Rattle.nq_base.specs.declared.Row.{Row}
 use Rattle.nq_base.specs.declared.Tag.{Tag}
 use Rattle.nq_base.specs.declared.Want.{Want}
 use Rattle.nq_base.specs.declared.Who.{Who}
-use Rattle.walk_server.proofs.AskCases.{own_in, with_marked, with_waiter, IsGranted, shares_again, begins_sharing, begins_caching, renews_row}
-use Rattle.walk_client.proofs.ClientMoves.{some-same, none-some}
-use Rattle.walk_server.proofs.Modes.{at-least-more, at-least-caching}
-use Rattle.walk_server.proofs.RowChanges.{of-key, find-put, find-marked, mark, mark-is}
-use Rattle.walk_server.proofs.Rows.{found-row}
+use Rattle.walk_run.proofs.AskCases.{own_in, with_marked, with_waiter, IsGranted, shares_again, begins_sharing, begins_caching, renews_row}
+use Rattle.walk_run.proofs.ClientMoves.{some-same, none-some}
+use Rattle.walk_run.proofs.Modes.{at-least-more, at-least-caching}
+use Rattle.walk_run.proofs.RowChanges.{of-key, find-put, find-marked, mark, mark-is}
+use Rattle.walk_run.proofs.Rows.{found-row}
 use Rattle.nq_model.specs.Ask.{marked, sharing_row, caching_row, shared_again, renewed_row, term_of}
 use Rattle.nq_model.specs.LeaseInterval.{claim_of, is_at_least, HasFitting, IsCovered}
 use Rattle.nq_model.specs.Server.{serving, Server}

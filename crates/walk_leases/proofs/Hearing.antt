@@ -3,13 +3,13 @@ use Rattle.std.proofs.Common.{◌≡◌, ℕ, Bool, false, List, [], Option, Som
 use Rattle.nq_base.specs.declared.Event.{Event}
 use Rattle.nq_base.specs.declared.Request.{Request}
 use Rattle.nq_base.specs.declared.Who.{Who}
-use Rattle.walk_client.proofs.ClientFacts.{changes_file}
+use Rattle.walk_run.proofs.ClientFacts.{changes_file}
 use Rattle.walk_run.proofs.ClientKnows.{Knows}
 use Rattle.walk_run.proofs.Packets.{Asked, Mail}
-use Rattle.walk_tables.proofs.ServerFacts.{IncsFitOf}
+use Rattle.walk_run.proofs.ServerFacts.{IncsFitOf}
 use Rattle.walk_run.proofs.ServerKnows.{NoneHeard, NoneGiven}
-use Rattle.walk_tables.proofs.ServerNumbers.{TermsFitOf, LinesFitOf}
-use Rattle.walk_tables.proofs.ServerTables.{BootsFitOf, StandingFitsOf}
+use Rattle.walk_run.proofs.ServerNumbers.{TermsFitOf, LinesFitOf}
+use Rattle.walk_run.proofs.ServerTables.{BootsFitOf, StandingFitsOf}
 use Rattle.nq_model.specs.Client.{Lease, Notice, Ticket, lease_on}
 use Rattle.nq_model.specs.Kept.{host_row}
 use Rattle.nq_model.specs.LeaseInterval.{requested_file}

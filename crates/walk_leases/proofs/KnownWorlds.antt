@@ -7,13 +7,13 @@ use Rattle.nq_base.specs.declared.Event.{Event}
 use Rattle.nq_base.specs.declared.Grant.{Grant}
 use Rattle.nq_base.specs.declared.HostRow.{HostRow}
 use Rattle.nq_base.specs.declared.Row.{Row}
-use Rattle.walk_client.proofs.ClientMoves.{none-some}
+use Rattle.walk_run.proofs.ClientMoves.{none-some}
 use Rattle.walk_leases.proofs.ClientRestarts.{restart-knows, other-knows}
 use Rattle.walk_run.proofs.ClientSteps.{KnowsOf, KnowsIf, knows-passes, call-knows, tick-knows, hear-knows}
 use Rattle.walk_run.proofs.CoverFacts.{IsTakeable}
 use Rattle.walk_run.proofs.Mail.{packets_with}
 use Rattle.walk_run.proofs.Packets.{In, Told, in-get}
-use Rattle.walk_server.proofs.Rows.{same-number, number-same}
+use Rattle.walk_run.proofs.Rows.{same-number, number-same}
 use Rattle.walk_run.proofs.ServerKnows.{Effect, Timely, knows-after}
 use Rattle.walk_leases.proofs.WorldClocks.{Clocked}
 use Rattle.walk_run.proofs.Worlds.{IsAt, Holds, get-set-same, get-set-other, first-client, to-told}

@@ -3,10 +3,10 @@ use Rattle.std.proofs.Common.{◌≡◌, ◌<◌, ℕ, false, List, Some}
 use Rattle.std.specs.Prelude.{slice_get}
 use Rattle.nq_base.specs.declared.Event.{Event}
 use Rattle.walk_leases.proofs.KnownWorlds.{Known}
-use Rattle.walk_tables.proofs.ServerFacts.{IncsFitOf}
+use Rattle.walk_run.proofs.ServerFacts.{IncsFitOf}
 use Rattle.walk_leases.proofs.ServerLives.{HasServed}
-use Rattle.walk_tables.proofs.ServerNumbers.{TermsFitOf, LinesFitOf}
-use Rattle.walk_tables.proofs.ServerTables.{BootsFitOf, StandingFitsOf, NoneRecoveringOf, none-of-boots}
+use Rattle.walk_run.proofs.ServerNumbers.{TermsFitOf, LinesFitOf}
+use Rattle.walk_run.proofs.ServerTables.{BootsFitOf, StandingFitsOf, NoneRecoveringOf, none-of-boots}
 use Rattle.walk_leases.proofs.Unrowed.{IsUnrowed}
 use Rattle.nq_model.specs.Client.{Client}
 use Rattle.nq_model.specs.Server.{Server}

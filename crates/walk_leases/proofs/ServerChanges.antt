@@ -12,19 +12,19 @@ use Rattle.nq_base.specs.declared.Row.{Row}
 use Rattle.nq_base.specs.declared.Tag.{Tag}
 use Rattle.nq_base.specs.declared.Verdict.{Verdict}
 use Rattle.nq_base.specs.declared.Who.{Who}
-use Rattle.walk_client.proofs.ClientFacts.{changes_file}
-use Rattle.walk_client.proofs.ClientMoves.{some-same, none-some}
+use Rattle.walk_run.proofs.ClientFacts.{changes_file}
+use Rattle.walk_run.proofs.ClientMoves.{some-same, none-some}
 use Rattle.walk_leases.proofs.Covers.{GoesOnAt, marked-goes-on, heard-goes-on}
 use Rattle.walk_leases.proofs.Hearing.{Hearing}
 use Rattle.walk_run.proofs.HostLine.{IsSettled}
-use Rattle.walk_server.proofs.KeptChanges.{own-line, same-lines}
+use Rattle.walk_run.proofs.KeptChanges.{own-line, same-lines}
 use Rattle.walk_run.proofs.Packets.{In, Asked}
-use Rattle.walk_server.proofs.RowChanges.{no-clash, find-other-dropped, find-other-host-dropped, find-other-file-dropped}
-use Rattle.walk_server.proofs.Rows.{same-number, number-same, found-row}
+use Rattle.walk_run.proofs.RowChanges.{no-clash, find-other-dropped, find-other-host-dropped, find-other-file-dropped}
+use Rattle.walk_run.proofs.Rows.{same-number, number-same, found-row}
 use Rattle.walk_leases.proofs.ServerEffects.{verdict-no-attach, line-after, drawn-more, claimed-kept, one-new, both-new, rows-new, reply-new, goes-effect, all-go-on, way-rows}
 use Rattle.walk_run.proofs.ServerKnows.{IsNew, LineMoves, line_stays, line_decides, line_attaches, IsClaimed, Effect}
-use Rattle.walk_server.proofs.ServerMoves.{first_line}
-use Rattle.walk_server.proofs.ServerOutcomes.{line_of, IsFrom, IsCurrent, IsFresh, IsChanging, CanStore, clash_with}
+use Rattle.walk_run.proofs.ServerMoves.{first_line}
+use Rattle.walk_run.proofs.ServerOutcomes.{line_of, IsFrom, IsCurrent, IsFresh, IsChanging, CanStore, clash_with}
 use Rattle.walk_run.proofs.ServerSays.{verdict-inc, verdict-grant}
 use Rattle.walk_run.proofs.TagFacts.{IsDrawn}
 use Rattle.nq_model.specs.Ask.{marked}

@@ -14,20 +14,20 @@ use Rattle.nq_base.specs.declared.Verdict.{Verdict}
 use Rattle.nq_base.specs.declared.Want.{Want}
 use Rattle.nq_base.specs.declared.Who.{Who}
 use Rattle.walk_run.proofs.Members.{in-filtered}
-use Rattle.walk_server.proofs.AskCases.{with_marked, with_waiter, IsGranted, shares_again, begins_sharing, begins_caching, renews_row}
-use Rattle.walk_client.proofs.ClientMoves.{some-same, none-some}
+use Rattle.walk_run.proofs.AskCases.{with_marked, with_waiter, IsGranted, shares_again, begins_sharing, begins_caching, renews_row}
+use Rattle.walk_run.proofs.ClientMoves.{some-same, none-some}
 use Rattle.walk_leases.proofs.Covers.{GoesOnAt, same-goes-on, covered-goes-on, marked-goes-on, granted-goes-on, granted-key, AreOfBoot}
 use Rattle.walk_leases.proofs.Hearing.{Hearing}
-use Rattle.walk_server.proofs.KeptChanges.{other-line}
+use Rattle.walk_run.proofs.KeptChanges.{other-line}
 use Rattle.walk_run.proofs.Packets.{In, in-append, Asked}
-use Rattle.walk_server.proofs.RowChanges.{HasUniqueKeys, of-key, own-key, find-put-same}
-use Rattle.walk_server.proofs.Rows.{same-number, number-same, found-row}
-use Rattle.walk_tables.proofs.ServerFacts.{IncsFit, AreCurrent}
+use Rattle.walk_run.proofs.RowChanges.{HasUniqueKeys, of-key, own-key, find-put-same}
+use Rattle.walk_run.proofs.Rows.{same-number, number-same, found-row}
+use Rattle.walk_run.proofs.ServerFacts.{IncsFit, AreCurrent}
 use Rattle.walk_run.proofs.ServerKnows.{IsFreshGrant, IsNew, new_reply, new_error, new_notice, LineMoves, line_stays, IsClaimed, Effect}
-use Rattle.walk_server.proofs.ServerOutcomes.{error_for, line_of, IsFrom, IsPlain, unattached, attached_again, not_yet, no_entry, entry, no_attributes, attributes, no_file, no_block, decided_again, is_old, IsAsking}
+use Rattle.walk_run.proofs.ServerOutcomes.{error_for, line_of, IsFrom, IsPlain, unattached, attached_again, not_yet, no_entry, entry, no_attributes, attributes, no_file, no_block, decided_again, is_old, IsAsking}
 use Rattle.walk_run.proofs.ServerSays.{plain-inc, plain-grant}
-use Rattle.walk_tables.proofs.ServerTables.{StandingFits}
-use Rattle.walk_server.proofs.TableFits.{TableFits}
+use Rattle.walk_run.proofs.ServerTables.{StandingFits}
+use Rattle.walk_run.proofs.TableFits.{TableFits}
 use Rattle.walk_run.proofs.TagFacts.{IsDrawn}
 use Rattle.nq_model.specs.Ask.{conflicts, grant_of, sharing_row, caching_row, shared_again, renewed_row, term_of}
 use Rattle.nq_model.specs.Client.{Lease, Notice, Ticket, lease_on}

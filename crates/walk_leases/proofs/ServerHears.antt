@@ -5,16 +5,16 @@ use Rattle.nq_base.specs.declared.Question.{Question}
 use Rattle.nq_base.specs.declared.Row.{Row}
 use Rattle.nq_base.specs.declared.Who.{Who}
 use Rattle.walk_run.proofs.Members.{find-in}
-use Rattle.walk_server.proofs.AskCases.{with_marked, with_waiter}
+use Rattle.walk_run.proofs.AskCases.{with_marked, with_waiter}
 use Rattle.walk_leases.proofs.Covers.{waiting-goes-on}
 use Rattle.walk_leases.proofs.Hearing.{Hearing}
 use Rattle.walk_run.proofs.Packets.{In}
-use Rattle.walk_server.proofs.ServerCases.{server-hears}
+use Rattle.walk_run.proofs.ServerCases.{server-hears}
 use Rattle.walk_leases.proofs.ServerChanges.{declines-effect, puts-off-effect, creates-effect, writes-effect, stores-effect, stores-recovering-effect, resizes-effect, removes-effect, attaches-effect, vacates-effect}
 use Rattle.walk_run.proofs.Sequences.{reads-no-seq}
 use Rattle.walk_leases.proofs.ServerEffects.{quiet-effect, drops-effect, says-effect, error-new, plain-effect, all-go-on, later-effect, marked-boot, marked-drawn, marked-rows, waiter-boot, waiter-drawn, way-rows, reads-effect, asks-effect, reads-granted, leases-granted}
 use Rattle.walk_run.proofs.ServerKnows.{Effect}
-use Rattle.walk_server.proofs.ServerOutcomes.{wanted_by, ServerCases}
+use Rattle.walk_run.proofs.ServerOutcomes.{wanted_by, ServerCases}
 use Rattle.nq_model.specs.Client.{Lease, Notice, Ticket}
 use Rattle.nq_model.specs.Decide.{in_the_way}
 use Rattle.nq_model.specs.Message.{Packet, Datagram}

@@ -10,20 +10,20 @@ use Rattle.nq_base.specs.declared.Row.{Row}
 use Rattle.nq_base.specs.declared.Tag.{Tag}
 use Rattle.nq_base.specs.declared.Who.{Who}
 use Rattle.walk_run.proofs.ClientKnows.{Knows}
-use Rattle.walk_client.proofs.ClientMoves.{some-same}
+use Rattle.walk_run.proofs.ClientMoves.{some-same}
 use Rattle.walk_run.proofs.Clocks.{runs-below, same-cover, moment-past}
 use Rattle.walk_run.proofs.CoverFacts.{IsShort}
 use Rattle.walk_run.proofs.HostLine.{LineFits}
-use Rattle.walk_server.proofs.RowChanges.{kept_if, find-kept, found-any, unique-filtered, find-other-dropped}
-use Rattle.walk_server.proofs.Rows.{same-number, find-passes}
-use Rattle.walk_server.proofs.ServerCases.{server-ticks}
+use Rattle.walk_run.proofs.RowChanges.{kept_if, find-kept, found-any, unique-filtered, find-other-dropped}
+use Rattle.walk_run.proofs.Rows.{same-number, find-passes}
+use Rattle.walk_run.proofs.ServerCases.{server-ticks}
 use Rattle.walk_leases.proofs.ServerChanges.{same-cover-table}
 use Rattle.walk_leases.proofs.ServerEffects.{drawn-more}
-use Rattle.walk_tables.proofs.ServerFacts.{fence-lines}
+use Rattle.walk_run.proofs.ServerFacts.{fence-lines}
 use Rattle.walk_run.proofs.ServerKnows.{NoneHeard, NoneGiven, Timely}
-use Rattle.walk_tables.proofs.ServerNumbers.{TermsFitOf}
-use Rattle.walk_tables.proofs.ServerTables.{BootsFit, BootsFitOf, RecoversBoot, StandingFits, StandingFitsOf}
-use Rattle.walk_server.proofs.TableFits.{TableFits}
+use Rattle.walk_run.proofs.ServerNumbers.{TermsFitOf}
+use Rattle.walk_run.proofs.ServerTables.{BootsFit, BootsFitOf, RecoversBoot, StandingFits, StandingFitsOf}
+use Rattle.walk_run.proofs.TableFits.{TableFits}
 use Rattle.walk_run.proofs.TagFacts.{IsDrawn}
 use Rattle.nq_model.specs.Client.{Lease, Notice, Ticket}
 use Rattle.nq_model.specs.Kept.{File, Kept, host_row, find_file, with_files}

@@ -1,8 +1,8 @@
 -- A tick of the server leaves the kept line of each host.
 use Rattle.std.proofs.Common.{◌≡◌, ℕ, List, refl}
 use Rattle.nq_base.specs.declared.Row.{Row}
-use Rattle.walk_server.proofs.ServerCases.{server-ticks}
-use Rattle.walk_tables.proofs.ServerFacts.{fence-lines}
+use Rattle.walk_run.proofs.ServerCases.{server-ticks}
+use Rattle.walk_run.proofs.ServerFacts.{fence-lines}
 use Rattle.nq_model.specs.Kept.{find_file, host_row}
 use Rattle.nq_model.specs.Server.{Server, quiet, with_table, keeping_with}
 use Rattle.nq_model.specs.ServerStep.{tick, opens, ends_writing, at_time}

@@ -7,16 +7,16 @@ use Rattle.nq_base.specs.declared.Request.{Request}
 use Rattle.nq_base.specs.declared.Row.{Row}
 use Rattle.nq_base.specs.declared.Want.{Want}
 use Rattle.nq_base.specs.declared.Who.{Who}
-use Rattle.walk_server.proofs.AskCases.{own_in, with_marked, IsGranted, shares_again, begins_sharing, begins_caching, renews_row}
-use Rattle.walk_client.proofs.ClientMoves.{none-some}
+use Rattle.walk_run.proofs.AskCases.{own_in, with_marked, IsGranted, shares_again, begins_sharing, begins_caching, renews_row}
+use Rattle.walk_run.proofs.ClientMoves.{none-some}
 use Rattle.walk_leases.proofs.Hearing.{Hearing}
 use Rattle.walk_run.proofs.Packets.{Asked}
-use Rattle.walk_server.proofs.RowChanges.{HasUniqueKeys, of-key, found-put, found-kept, found-vacated, found-marked, mark-is, unique-filtered}
-use Rattle.walk_server.proofs.Rows.{found-row}
-use Rattle.walk_server.proofs.ServerCases.{server-hears, server-ticks}
-use Rattle.walk_server.proofs.ServerOutcomes.{wanted_by, ServerCases, IsAsking}
-use Rattle.walk_tables.proofs.ServerTables.{StandingFits, StandingFitsOf, NoneRecovering, none-of-boots}
-use Rattle.walk_server.proofs.TableFits.{TableFits}
+use Rattle.walk_run.proofs.RowChanges.{HasUniqueKeys, of-key, found-put, found-kept, found-vacated, found-marked, mark-is, unique-filtered}
+use Rattle.walk_run.proofs.Rows.{found-row}
+use Rattle.walk_run.proofs.ServerCases.{server-hears, server-ticks}
+use Rattle.walk_run.proofs.ServerOutcomes.{wanted_by, ServerCases, IsAsking}
+use Rattle.walk_run.proofs.ServerTables.{StandingFits, StandingFitsOf, NoneRecovering, none-of-boots}
+use Rattle.walk_run.proofs.TableFits.{TableFits}
 use Rattle.nq_model.specs.Ask.{marked, sharing_row, caching_row, shared_again, renewed_row, term_of}
 use Rattle.nq_model.specs.Client.{Lease, Notice, Ticket}
 use Rattle.nq_model.specs.Decide.{decides, creates, writes_through, stores, wrote, stores_recovering, resizes, removes, puts_off, commits}

@@ -10,12 +10,12 @@ use Rattle.nq_base.specs.declared.Reply.{Reply}
 use Rattle.nq_base.specs.declared.Request.{Request}
 use Rattle.nq_base.specs.declared.Tag.{Tag}
 use Rattle.nq_base.specs.declared.Who.{Who}
-use Rattle.walk_client.proofs.ClientCases.{Core, core_of, Closed}
-use Rattle.walk_client.proofs.ClientWalk.{Replying, reply-keeps, notice-keeps, call-keeps, tick-keeps}
+use Rattle.walk_run.proofs.ClientCases.{Core, core_of, Closed}
+use Rattle.walk_run.proofs.ClientWalk.{Replying, reply-keeps, notice-keeps, call-keeps, tick-keeps}
 use Rattle.walk_run.proofs.Packets.{Told, in-get}
-use Rattle.walk_server.proofs.Rows.{choice, same-number, number-same}
+use Rattle.walk_run.proofs.Rows.{choice, same-number, number-same}
 use Rattle.walk_run.proofs.ServerKnows.{NoneHeard, NoneGiven}
-use Rattle.walk_server.proofs.ServerMoves.{receive-keeps, tick-keeps as server-tick-keeps}
+use Rattle.walk_run.proofs.ServerMoves.{receive-keeps, tick-keeps as server-tick-keeps}
 use Rattle.walk_run.proofs.Worlds.{IsAt, Holds, given-by, get-set-same, get-set-other, first-client, to-told, run-holds}
 use Rattle.nq_model.specs.Client.{Client, ClientStep, begun, Ticket, lease_on}
 use Rattle.nq_model.specs.ClientStep.{client_call, client_tick, at_time, restart, starts, fresh_client, attached_client}

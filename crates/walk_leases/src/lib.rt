@@ -1,2 +1,2 @@
-//! What a step keeps of what the clients and the server know of each other's leases. It has no code.
+//! What each step keeps of leases and their lines, of chains of tags, of calls, and of what becomes of delayed writes. It has no code.
 #![tactic(auto)]

@@ -3,15 +3,15 @@ use Rattle.std.proofs.Common.{◌≡◌, ◌<◌, ◌≤◌, ℕ, true, false, L
 use Rattle.nq_base.specs.declared.Entry.{Entry}
 use Rattle.nq_base.specs.declared.Entry.TheVariants.{C, W, S, L, B, A}
 use Rattle.nq_base.specs.declared.Who.{Who}
-use Rattle.walk_fates.proofs.WritesFit.{CoversNumber, IsRising}
+use Rattle.walk_leases.proofs.WritesFit.{CoversNumber, IsRising}
 use Rattle.walk_legal.proofs.HeldContents.{IsInside, content}
 use Rattle.walk_legal.proofs.Stores.{Rests}
 use Rattle.nq_model.proofs.Lists.{each-append, each-map}
 use Rattle.nq_model.specs.Client.{ClientStep}
 use Rattle.nq_model.specs.Journal.{Throughout, Covers, Stores, IsStored, Each}
 use Rattle.walk_run.proofs.Packets.{In, in-right}
-use Rattle.walk_undisturbed.proofs.Accesses.{Accesses, neither, read, wrote}
-use Rattle.walk_undisturbed.proofs.PlainParts.{IsPlain}
+use Rattle.walk_legal.proofs.Accesses.{Accesses, neither, read, wrote}
+use Rattle.walk_legal.proofs.PlainParts.{IsPlain}
 
 abbrev pub IsIdle : Entry → Type 0
 IsIdle (S who file block first last now) = ⊥

@@ -11,10 +11,10 @@ use Rattle.nq_base.specs.declared.Said.{Said}
 use Rattle.nq_base.specs.declared.Said.TheVariants.{OkValue, OkBy}
 use Rattle.nq_base.specs.declared.Want.{Want}
 use Rattle.nq_base.specs.declared.Who.{Who}
-use Rattle.walk_calls.proofs.Entries.{IsOpenAsTold}
-use Rattle.walk_calls.proofs.Placed.{Placed, IsServedInOrder, reads-on, call-later, reads-called}
-use Rattle.walk_calls.proofs.CallWorlds.{CallsKnown}
-use Rattle.walk_fates.proofs.WritesFit.{IsRising}
+use Rattle.walk_leases.proofs.Entries.{IsOpenAsTold}
+use Rattle.walk_leases.proofs.Placed.{Placed, IsServedInOrder, reads-on, call-later, reads-called}
+use Rattle.walk_leases.proofs.CallWorlds.{CallsKnown}
+use Rattle.walk_leases.proofs.WritesFit.{IsRising}
 use Rattle.walk_legal.proofs.ReadClient.{Adds, accesses-writes, put-reads-nothing, told-reads-nothing, plain-reads}
 use Rattle.walk_legal.proofs.ReadFacts.{IsServed, IsBacked, reads_nothing, counted_read, IsGood, ReadsOf, ReadsFit, placed-append, served-once, waits-more, standing-before}
 use Rattle.walk_legal.proofs.Places.{IsPlaced, placed-in, throughout-at, before-exists}
@@ -36,8 +36,8 @@ use Rattle.walk_run.proofs.Mail.{sent-calls}
 use Rattle.walk_run.proofs.Members.{in-exists, exists-in}
 use Rattle.walk_run.proofs.Packets.{In, in-append, in-left, Asked, in-right}
 use Rattle.walk_run.proofs.Worlds.{IsAt, Holds}
-use Rattle.walk_server.proofs.Incarnations.{one-who}
-use Rattle.walk_undisturbed.proofs.Accesses.{Accesses, neither, read, wrote, IsHeld, IsCalm}
+use Rattle.walk_run.proofs.Incarnations.{one-who}
+use Rattle.walk_legal.proofs.Accesses.{Accesses, neither, read, wrote, IsHeld, IsCalm}
 
 -- what an entry that is a read has
 abbrev GoodFor : List Entry → List Entry → Entry → Type 0

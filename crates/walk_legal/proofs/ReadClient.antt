@@ -10,7 +10,7 @@ use Rattle.nq_base.specs.declared.Reply.{Reply}
 use Rattle.nq_base.specs.declared.Request.{Request}
 use Rattle.nq_base.specs.declared.Said.{Said}
 use Rattle.nq_base.specs.declared.Who.{Who}
-use Rattle.walk_fates.proofs.WritesFit.{IsRising}
+use Rattle.walk_leases.proofs.WritesFit.{IsRising}
 use Rattle.walk_legal.proofs.ReadFacts.{IsServed, IsBacked, IsGood, ReadsOf, ReadsFit, placed-append, get-append, served-more, backed-more, waits-more}
 use Rattle.walk_legal.proofs.Places.{IsPlaced}
 use Rattle.walk_legal.proofs.ReadParts.{ReadsNothing}
@@ -29,9 +29,9 @@ use Rattle.walk_run.proofs.RunCases.{clients-after}
 use Rattle.walk_run.proofs.Mail.{none-to-host}
 use Rattle.walk_run.proofs.Packets.{In, in-append, in-get, Asked, message-same}
 use Rattle.walk_run.proofs.Worlds.{Holds}
-use Rattle.walk_undisturbed.proofs.Accesses.{Accesses, neither, read, wrote, IsCalm}
-use Rattle.walk_undisturbed.proofs.Marks.{plain-no-write}
-use Rattle.walk_undisturbed.proofs.PlainParts.{IsPlain}
+use Rattle.walk_legal.proofs.Accesses.{Accesses, neither, read, wrote, IsCalm}
+use Rattle.walk_legal.proofs.Marks.{plain-no-write}
+use Rattle.walk_legal.proofs.PlainParts.{IsPlain}
 
 -- ---- what a step adds
 

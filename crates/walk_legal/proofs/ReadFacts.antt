@@ -12,9 +12,9 @@ use Rattle.nq_base.specs.declared.Said.{Said}
 use Rattle.nq_base.specs.declared.Told.{Told}
 use Rattle.nq_base.specs.declared.Want.{Want}
 use Rattle.nq_base.specs.declared.Who.{Who}
-use Rattle.walk_calls.proofs.Placed.{Placed, IsServedIn, IsServedInOrder, call-later}
-use Rattle.walk_fates.proofs.JournalMoves.{covers-more}
-use Rattle.walk_fates.proofs.WritesFit.{CoversNumber}
+use Rattle.walk_leases.proofs.Placed.{Placed, IsServedIn, IsServedInOrder, call-later}
+use Rattle.walk_leases.proofs.JournalMoves.{covers-more}
+use Rattle.walk_leases.proofs.WritesFit.{CoversNumber}
 use Rattle.walk_legal.proofs.Places.{IsPlaced, last-same}
 use Rattle.walk_legal.proofs.ReaderValues.{NoneWaits}
 use Rattle.walk_legal.proofs.ReadParts.{TicketOfCall}

@@ -1,3 +1,2 @@
-//! What the journal says of values: what the server holds of each block, which reads are legal, and that each step keeps it. It
-//! has no code.
+//! What each step keeps of contents, of ends of leases, of delayed writes that nobody disturbs, and of legal reads. It has no code.
 #![tactic(auto)]

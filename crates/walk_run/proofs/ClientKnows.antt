@@ -8,9 +8,9 @@ use Rattle.nq_base.specs.declared.Reply.{Reply}
 use Rattle.nq_base.specs.declared.Request.{Request}
 use Rattle.nq_base.specs.declared.Tag.{Tag}
 use Rattle.nq_base.specs.declared.Who.{Who}
-use Rattle.walk_client.proofs.ClientCases.{Core, Closed, CanSend, CanVacate}
-use Rattle.walk_client.proofs.ClientFacts.{fits_job}
-use Rattle.walk_client.proofs.ClientMoves.{some-same, none-some, keeps-or-cancels}
+use Rattle.walk_run.proofs.ClientCases.{Core, Closed, CanSend, CanVacate}
+use Rattle.walk_run.proofs.ClientFacts.{fits_job}
+use Rattle.walk_run.proofs.ClientMoves.{some-same, none-some, keeps-or-cancels}
 use Rattle.walk_run.proofs.CoverFacts.{IsCoveredWhile, IsShort, IsTakeable, CoverFits, cover-leases, cover-used, cover-dropped, cover-ticket, cover-holds}
 use Rattle.walk_run.proofs.HostLine.{LineFits, IsSettled, line-sends, line-adds, line-again, line-ticket}
 use Rattle.walk_run.proofs.Mail.{packets_with, packets-last}

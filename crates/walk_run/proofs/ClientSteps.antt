@@ -9,17 +9,17 @@ use Rattle.nq_base.specs.declared.Reply.{Reply}
 use Rattle.nq_base.specs.declared.Request.{Request}
 use Rattle.nq_base.specs.declared.Tag.{Tag}
 use Rattle.nq_base.specs.declared.Who.{Who}
-use Rattle.walk_client.proofs.ClientCases.{core_of, Both}
-use Rattle.walk_client.proofs.ClientFacts.{Alone, IsLease, fits_job}
+use Rattle.walk_run.proofs.ClientCases.{core_of, Both}
+use Rattle.walk_run.proofs.ClientFacts.{Alone, IsLease, fits_job}
 use Rattle.walk_run.proofs.ClientKnows.{IsPending, Knows, Knowing, knowing-closed}
-use Rattle.walk_client.proofs.ClientMoves.{some-same, none-some}
-use Rattle.walk_client.proofs.ClientWalk.{Replying, reply-keeps, notice-keeps, call-keeps, tick-keeps}
+use Rattle.walk_run.proofs.ClientMoves.{some-same, none-some}
+use Rattle.walk_run.proofs.ClientWalk.{Replying, reply-keeps, notice-keeps, call-keeps, tick-keeps}
 use Rattle.walk_run.proofs.Clocks.{same-cover}
 use Rattle.walk_run.proofs.CoverFacts.{IsCoveredWhile, IsTakeable, CoverFits, cover-ticket}
 use Rattle.walk_run.proofs.HostLine.{IsSettled, line-ticket}
 use Rattle.walk_run.proofs.Mail.{packets_with, spent-mail}
 use Rattle.walk_run.proofs.Packets.{Asked, Told, Mail}
-use Rattle.walk_server.proofs.Rows.{choice, same-number}
+use Rattle.walk_run.proofs.Rows.{choice, same-number}
 use Rattle.walk_run.proofs.ServerKnows.{NoneHeard, NoneGiven}
 use Rattle.walk_run.proofs.TagFacts.{IsDrawn, tags-ticket}
 use Rattle.walk_run.proofs.Worlds.{Going, IsAt, begun-going, timed-going}

@@ -6,7 +6,7 @@ use Rattle.nq_base.specs.declared.Reply.{Reply}
 use Rattle.nq_base.specs.declared.Request.{Request}
 use Rattle.nq_base.specs.declared.Tag.{Tag}
 use Rattle.nq_base.specs.declared.Who.{Who}
-use Rattle.walk_client.proofs.ClientMoves.{some-same, none-some}
+use Rattle.walk_run.proofs.ClientMoves.{some-same, none-some}
 use Rattle.walk_run.proofs.Packets.{In, in-last, Asked, Told, message-same, not-both, call-same, Mail}
 use Rattle.nq_model.specs.Client.{Ticket, Notice}
 use Rattle.nq_model.specs.Hear.{inc_of}

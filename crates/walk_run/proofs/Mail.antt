@@ -5,8 +5,8 @@ use Rattle.nq_base.specs.declared.Reply.{Reply}
 use Rattle.nq_base.specs.declared.Request.{Request}
 use Rattle.nq_base.specs.declared.Tag.{Tag}
 use Rattle.nq_base.specs.declared.Who.{Who}
-use Rattle.walk_client.proofs.ClientCases.{Core, Closed, after_request, after_vacated, after_again}
-use Rattle.walk_client.proofs.ClientMoves.{some-same, none-some, keeps-or-cancels}
+use Rattle.walk_run.proofs.ClientCases.{Core, Closed, after_request, after_vacated, after_again}
+use Rattle.walk_run.proofs.ClientMoves.{some-same, none-some, keeps-or-cancels}
 use Rattle.walk_run.proofs.Packets.{In, in-left, in-append, Asked, message-same, told-same, not-both, reply-same, IsReplied, Mail, IsFewer, fewer, mail-sends, mail-adds, mail-again, Told}
 use Rattle.walk_run.proofs.ServerSays.{IsSaid, said_reply, said_error, said_notice, AllSaid}
 use Rattle.nq_model.specs.Client.{Job, Ticket}

@@ -4,12 +4,12 @@ use Rattle.std.proofs.lemmas.Grind.{reverse_onto}
 use Rattle.std.specs.List.{find, filter}
 use Rattle.std.specs.Prelude.{reverse}
 use Rattle.nq_base.specs.declared.Push.{Push}
-use Rattle.walk_client.proofs.ClientMoves.{some-same, none-some}
+use Rattle.walk_run.proofs.ClientMoves.{some-same, none-some}
 use Rattle.nq_model.specs.Client.{is_push_of}
 use Rattle.nq_model.specs.Hear.{push_of}
 use Rattle.nq_model.specs.Journal.{Each, Exists}
 use Rattle.walk_run.proofs.Packets.{In, in-left, in-right, in-last}
-use Rattle.walk_server.proofs.Rows.{same-number}
+use Rattle.walk_run.proofs.Rows.{same-number}
 
 -- ---- those that pass a test
 

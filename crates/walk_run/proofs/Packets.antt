@@ -6,7 +6,7 @@ use Rattle.nq_base.specs.declared.Party.{Party}
 use Rattle.nq_base.specs.declared.Reply.{Reply}
 use Rattle.nq_base.specs.declared.Request.{Request}
 use Rattle.nq_base.specs.declared.Who.{Who}
-use Rattle.walk_client.proofs.ClientMoves.{some-same, none-some}
+use Rattle.walk_run.proofs.ClientMoves.{some-same, none-some}
 use Rattle.nq_model.specs.Client.{Ticket}
 use Rattle.nq_model.specs.Hear.{wants_of, inc_of}
 use Rattle.nq_model.specs.LeaseInterval.{grant_in, requested_file}

@@ -16,7 +16,7 @@ use Rattle.nq_model.specs.Skew.{IsWithinSkew}
 use Rattle.nq_model.specs.World.{Head, World, after_server, after_client, at_client, after_hearing, sending_host, deliver_to_client, deliver_to, deliver, start, run, step}
 use Rattle.walk_run.proofs.Clocks.{within-before}
 use Rattle.walk_run.proofs.Worlds.{get-set-same, get-set-other}
-use Rattle.walk_server.proofs.Rows.{same-number, number-same}
+use Rattle.walk_run.proofs.Rows.{same-number, number-same}
 
 -- an event comes after a schedule, and both keep to bounds and are within skew
 pub record During (most : ℕ) (head : Head) (e : Event) (events : List Event) : Type 0 where

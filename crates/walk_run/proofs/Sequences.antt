@@ -7,12 +7,12 @@ use Rattle.nq_base.specs.declared.Reply.{Reply}
 use Rattle.nq_base.specs.declared.Request.{Request}
 use Rattle.nq_base.specs.declared.Tag.{Tag}
 use Rattle.nq_base.specs.declared.Who.{Who}
-use Rattle.walk_client.proofs.ClientCases.{Core, core_of, Closed, Both}
-use Rattle.walk_client.proofs.ClientMoves.{some-same, none-some}
-use Rattle.walk_client.proofs.ClientWalk.{Replying, reply-keeps, notice-keeps, call-keeps, tick-keeps}
+use Rattle.walk_run.proofs.ClientCases.{Core, core_of, Closed, Both}
+use Rattle.walk_run.proofs.ClientMoves.{some-same, none-some}
+use Rattle.walk_run.proofs.ClientWalk.{Replying, reply-keeps, notice-keeps, call-keeps, tick-keeps}
 use Rattle.walk_run.proofs.Mail.{packets_with, packets-last, spent-mail}
 use Rattle.walk_run.proofs.Packets.{In, in-last, Asked, Told, Mail, in-append, not-both}
-use Rattle.walk_server.proofs.Rows.{choice, same-number}
+use Rattle.walk_run.proofs.Rows.{choice, same-number}
 use Rattle.walk_run.proofs.ServerKnows.{NoneHeard, NoneGiven}
 use Rattle.walk_run.proofs.TagFacts.{asked-before}
 use Rattle.walk_run.proofs.Worlds.{Going, going-closed, IsAt, begun-going, timed-going, given-by}
@@ -23,7 +23,7 @@ use Rattle.nq_model.specs.Message.{Message, Packet, call, reply, error, asker, s
 use Rattle.nq_model.specs.Table.{same_who}
 use Rattle.nq_model.specs.World.{from_host}
 use Rattle.walk_run.proofs.ServerSays.{IsSaid, said_reply, said_error, said_notice, AllSaid}
-use Rattle.walk_server.proofs.ServerOutcomes.{only_asks}
+use Rattle.walk_run.proofs.ServerOutcomes.{only_asks}
 use Rattle.nq_model.specs.LeaseInterval.{requested_file}
 
 -- ---- the sequences that a host's client drew

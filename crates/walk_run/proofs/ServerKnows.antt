@@ -10,9 +10,9 @@ use Rattle.nq_base.specs.declared.Request.{Request}
 use Rattle.nq_base.specs.declared.Row.{Row}
 use Rattle.nq_base.specs.declared.Tag.{Tag}
 use Rattle.nq_base.specs.declared.Who.{Who}
-use Rattle.walk_client.proofs.ClientFacts.{IsLease}
+use Rattle.walk_run.proofs.ClientFacts.{IsLease}
 use Rattle.walk_run.proofs.ClientKnows.{Knows}
-use Rattle.walk_client.proofs.ClientMoves.{none-some}
+use Rattle.walk_run.proofs.ClientMoves.{none-some}
 use Rattle.walk_run.proofs.Clocks.{same-cover, moment-past}
 use Rattle.walk_run.proofs.CoverFacts.{IsCoveredWhile, IsShort, IsTakeable, CoverFits}
 use Rattle.walk_run.proofs.HostLine.{LineFits, IsSettled, IsDecidedBy}

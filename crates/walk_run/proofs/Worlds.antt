@@ -11,15 +11,15 @@ use Rattle.nq_base.specs.declared.Request.{Request}
 use Rattle.nq_base.specs.declared.Row.{Row}
 use Rattle.nq_base.specs.declared.Tag.{Tag}
 use Rattle.nq_base.specs.declared.Who.{Who}
-use Rattle.walk_client.proofs.ClientCases.{Core, core_of, Closed, Both}
-use Rattle.walk_client.proofs.ClientFacts.{Alone}
-use Rattle.walk_client.proofs.ClientMoves as move
-use Rattle.walk_client.proofs.ClientMoves.{some-same, none-some}
-use Rattle.walk_client.proofs.ClientWalk.{Replying, reply-keeps, notice-keeps, call-keeps, tick-keeps}
+use Rattle.walk_run.proofs.ClientCases.{Core, core_of, Closed, Both}
+use Rattle.walk_run.proofs.ClientFacts.{Alone}
+use Rattle.walk_run.proofs.ClientMoves as move
+use Rattle.walk_run.proofs.ClientMoves.{some-same, none-some}
+use Rattle.walk_run.proofs.ClientWalk.{Replying, reply-keeps, notice-keeps, call-keeps, tick-keeps}
 use Rattle.walk_run.proofs.Mail.{packets_with, MailIn, mail-closed, spent-mail, server-mail, other-mail}
 use Rattle.walk_run.proofs.Packets.{In, in-right, in-append, in-last, in-get, Asked, Told, message-same, not-both, call-same, IsAsked, IsOwn, Mail}
-use Rattle.walk_server.proofs.Rows.{choice, same-number, number-same}
-use Rattle.walk_server.proofs.ServerCases.{request-sent, server-ticks}
+use Rattle.walk_run.proofs.Rows.{choice, same-number, number-same}
+use Rattle.walk_run.proofs.ServerCases.{request-sent, server-ticks}
 use Rattle.walk_run.proofs.ServerSays.{IsSaid, said_reply, said_error, said_notice, AllSaid, all-said}
 use Rattle.nq_model.specs.Client.{Client, ClientStep, begun, attaching, Ticket, lease_on}
 use Rattle.nq_model.specs.ClientStep.{client_call, client_tick, at_time, restart, starts, fresh_client, attached_client, next_incarnation}

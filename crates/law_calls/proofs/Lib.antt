@@ -1,3 +1,0 @@
-pub mod RunCalls
-pub mod OrderedCalls
-pub mod SomeCalls

@@ -1,0 +1,5 @@
+use Rattle.law_leases.proofs.OneRequests.{replies-come-after}
+use Rattle.law_leases.proofs.requests.replies_come_after.Goals as goal
+
+pub returns : goal.returns
+returns c = replies-come-after
