@@ -18,10 +18,10 @@ use Rattle.nq_model.specs.Settle.{settle, settle_under_way}
 use Rattle.nq_model.proofs.ClientLists.{lease-before-drop, lease-after-put}
 use Rattle.std.proofs.lemmas.Bool.{and_parts}
 use Rattle.walk_chains.proofs.ChainLists.{unclean-pushed, unclean-lost, unclean-ended}
-use Rattle.walk_client.proofs.ClientMoves.{some-same, none-some, keeps-or-cancels}
-use Rattle.walk_client.proofs.SendCases.{send-cases}
-use Rattle.walk_client.proofs.StepCases.{tick-cases, evicted-cases, heard-cases}
-use Rattle.walk_server.proofs.Rows.{choice}
+use Rattle.walk_steps.proofs.ClientMoves.{some-same, none-some, keeps-or-cancels}
+use Rattle.walk_steps.proofs.SendCases.{send-cases}
+use Rattle.walk_steps.proofs.StepCases.{tick-cases, evicted-cases, heard-cases}
+use Rattle.walk_steps.proofs.Rows.{choice}
 
 -- a request is none of a call, and if it renews a lease the file is clean
 pub record IsIdle (dirty : List Push) (push : Option Push) (job : Job) (request : Request) : Type 0 where

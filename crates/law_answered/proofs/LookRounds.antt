@@ -22,11 +22,11 @@ use Rattle.law_progress.proofs.PacketsCome.{Comes}
 use Rattle.law_progress.proofs.Attaching.{tick-stays}
 use Rattle.law_progress.proofs.CalmEnds.{IsRising, rounds-rising, calmed-rising, lawful-delivers}
 use Rattle.law_progress.proofs.CalmIsLawful.{flows, calm-round, rounds}
-use Rattle.walk_client.proofs.ClientFacts.{Alone}
-use Rattle.walk_client.proofs.ClientMoves.{none-some}
-use Rattle.walk_run.proofs.Packets.{In}
-use Rattle.walk_run.proofs.Worlds.{run-holds}
-use Rattle.walk_server.proofs.ServerCases.{server-ticks}
+use Rattle.walk_steps.proofs.ClientFacts.{Alone}
+use Rattle.walk_steps.proofs.ClientMoves.{none-some}
+use Rattle.walk_steps.proofs.Packets.{In}
+use Rattle.walk_steps.proofs.Worlds.{run-holds}
+use Rattle.walk_steps.proofs.ServerCases.{server-ticks}
 use Rattle.law_rounds.specs.RoundsEndQuiet.{IsSmall, all_delivered, IsQuiet}
 use Rattle.law_rounds.proofs.Flows.{round-small, rounds-small}
 use Rattle.law_rounds.proofs.RecoveryRounds.{recoveries-end}

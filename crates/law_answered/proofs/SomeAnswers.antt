@@ -11,10 +11,10 @@ use Rattle.nq_model.specs.Lines.{Play}
 use Rattle.nq_model.specs.Skew.{is_within_skew}
 use Rattle.nq_model.specs.Stepped.{most_events, most_sent}
 use Rattle.nq_model.proofs.SkewTest.{skew-test-is-sound}
-use Rattle.walk_client.proofs.ClientMoves.{some-same, none-some}
-use Rattle.walk_run.proofs.GivenRuns.{given-run}
-use Rattle.walk_run.proofs.NoCrash.{one-first}
-use Rattle.walk_server.proofs.Tests.{is-at-most}
+use Rattle.walk_steps.proofs.ClientMoves.{some-same, none-some}
+use Rattle.walk_steps.proofs.GivenRuns.{given-run}
+use Rattle.walk_steps.proofs.NoCrash.{one-first}
+use Rattle.walk_steps.proofs.Tests.{is-at-most}
 use Rattle.law_deliveries.specs.DeliveryEnds.{calmed}
 use Rattle.law_progress.specs.CallsAreAnswered.{IsAnswered}
 use Rattle.law_progress.specs.CalmRoundsAreLawful.{IsLawful}

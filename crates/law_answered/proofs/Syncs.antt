@@ -19,11 +19,11 @@ use Rattle.law_progress.proofs.AllAttached.{rounds-more}
 use Rattle.law_progress.proofs.CalmEnds.{IsRising, played-rising, rounds-rising, calmed-rising}
 use Rattle.law_progress.proofs.CalmIsLawful.{played-quiet, rounds}
 use Rattle.law_progress.proofs.IdleWorlds.{answers-stay}
-use Rattle.walk_client.proofs.ClientMoves.{some-same, none-some}
-use Rattle.walk_client.proofs.StepCases.{call-cases, unless-cached-cases}
-use Rattle.walk_run.proofs.Packets.{In}
-use Rattle.walk_run.proofs.Worlds.{get-set-other, set-there, run-holds}
-use Rattle.walk_server.proofs.Rows.{same-number, number-same}
+use Rattle.walk_steps.proofs.ClientMoves.{some-same, none-some}
+use Rattle.walk_steps.proofs.StepCases.{call-cases, unless-cached-cases}
+use Rattle.walk_steps.proofs.Packets.{In}
+use Rattle.walk_steps.proofs.Worlds.{get-set-other, set-there, run-holds}
+use Rattle.walk_steps.proofs.Rows.{same-number, number-same}
 use Rattle.law_rounds.specs.RoundsEndQuiet.{IsSmall, all_delivered, waits_to_store, IsQuiet}
 use Rattle.law_rounds.proofs.ClientTickets.{TicketIs, kept, resent, fresh, Renewed, call-renews}
 use Rattle.law_rounds.proofs.Coming.{in-map, keeps-coming, adds-coming}

@@ -1,3 +1,13 @@
+pub mod KeptTags
+pub mod HeardWrites
+pub mod ServerAlone
+pub mod SomeRecovery
+pub mod ClientSends
+pub mod NoticeCounts
+pub mod ServerSends
+pub mod WorldSends
+pub mod LeaseIntervals
+pub mod SomeLease
 pub mod ClientNumbers
 pub mod FirstNumbers
 pub mod KeptNumbers
@@ -6,3 +16,10 @@ pub mod NoneOut
 pub mod Saying
 pub mod SomeFile
 pub mod WorldNumbers
+pub mod Places
+pub mod WorldSequences
+pub mod OpenRequests
+pub mod SentTimes
+pub mod OneRequests
+pub mod SomeRequests
+pub mod OneHost

@@ -21,8 +21,8 @@ use Rattle.nq_model.specs.Table.{Table, find_row}
 use Rattle.nq_model.specs.World.{World, sending_host, run}
 use Rattle.nq_model.proofs.FreshFits.{found-has}
 use Rattle.nq_promises.specs.RepliesAreOwed.{goes_out, is_out_of_bounds}
-use Rattle.walk_run.proofs.Packets.{in-get}
-use Rattle.walk_run.proofs.Worlds.{Holds, to-server, run-holds}
+use Rattle.walk_steps.proofs.Packets.{in-get}
+use Rattle.walk_steps.proofs.Worlds.{Holds, to-server, run-holds}
 use Rattle.law_bounds.specs.Within.{GrewTo, NoneGoesOut}
 use Rattle.law_bounds.proofs.WorldNumbers.{DrawnUpTo, drawn-up-to, numbers-stay-within}
 

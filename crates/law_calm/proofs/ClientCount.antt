@@ -3,7 +3,7 @@ use Rattle.std.proofs.Common.{◌≡◌, ℕ, ◌+◌, zero, suc, List, [], ◌�
 use Rattle.std.proofs.lemmas.List.{length-set}
 use Rattle.nq_base.specs.declared.Event.{Event}
 use Rattle.nq_model.specs.World.{Head, World, after_server, after_client, first_clients, run, start}
-use Rattle.walk_run.proofs.Steps.{Changes, nothing, by_client, by_server, step-changes}
+use Rattle.walk_steps.proofs.Steps.{Changes, nothing, by_client, by_server, step-changes}
 
 same-clients : (w v : World) → Changes w v → length v.clients ≡ length w.clients
 unfolding after_client after_server

@@ -14,10 +14,10 @@ use Rattle.nq_model.specs.Client.{ClientStep, Job, attaching, for_call, renewing
 use Rattle.nq_model.specs.Message.{Message}
 use Rattle.nq_model.specs.Send.{sends_request, after_seq, after_number, takes_push, gives_up, base_of, send_next}
 use Rattle.nq_model.specs.Settle.{answers, after_read, reads_cached, overwritten_at, with_write, write_in, after_write, delays, marks_written, ticket_is_for_call, is_for_call, settle}
-use Rattle.walk_client.proofs.ClientMoves.{some-same, none-some}
-use Rattle.walk_client.proofs.SendCases.{pushed, send-cases}
-use Rattle.walk_client.proofs.SettleCases.{IsSettling, IsRead, IsWrite, IsSync, of_sync, of_put, needs_packet, CanWrite, WriteWaits, settle-cases}
-use Rattle.walk_server.proofs.Rows.{choice, number-same}
+use Rattle.walk_steps.proofs.ClientMoves.{some-same, none-some}
+use Rattle.walk_steps.proofs.SendCases.{pushed, send-cases}
+use Rattle.walk_steps.proofs.SettleCases.{IsSettling, IsRead, IsWrite, IsSync, of_sync, of_put, needs_packet, CanWrite, WriteWaits, settle-cases}
+use Rattle.walk_steps.proofs.Rows.{choice, number-same}
 use Rattle.law_calm.specs.Efforts.{write_price, put_price, fresh_for, fresh_left, writes_to, read_left, lease_left, sent_left, asked_left, requests_left, put_delays, may_delay, delays_left, calls_left}
 use Rattle.law_calm.proofs.Efforts.{total-more, request_weight, weight, cost}
 

@@ -18,14 +18,14 @@ use Rattle.nq_model.specs.Message.{Message}
 use Rattle.nq_model.specs.Profile.{patience}
 use Rattle.nq_model.specs.Settle.{answers, names_losses, is_for_call, ticket_is_for_call, settle}
 use Rattle.nq_model.specs.Table.{is_writing}
-use Rattle.walk_client.proofs.ClientFacts.{Alone}
-use Rattle.walk_client.proofs.ClientMoves.{none-some}
-use Rattle.walk_client.proofs.PartCases.{answers-call-cases, lease-done-cases, vacates-if-clean-cases}
-use Rattle.walk_client.proofs.RepliedCases.{IsNamed, looked_up, created, attributes, OfCall, replied-cases}
-use Rattle.walk_client.proofs.SettleCases.{CanWrite, IsSettling}
-use Rattle.walk_client.proofs.StepCases.{evicted-cases, heard-cases}
-use Rattle.walk_server.proofs.Rows.{choice, same-number, number-same}
-use Rattle.walk_server.proofs.Tests.{is-not-below}
+use Rattle.walk_steps.proofs.ClientFacts.{Alone}
+use Rattle.walk_steps.proofs.ClientMoves.{none-some}
+use Rattle.walk_steps.proofs.PartCases.{answers-call-cases, lease-done-cases, vacates-if-clean-cases}
+use Rattle.walk_steps.proofs.RepliedCases.{IsNamed, looked_up, created, attributes, OfCall, replied-cases}
+use Rattle.walk_steps.proofs.SettleCases.{CanWrite, IsSettling}
+use Rattle.walk_steps.proofs.StepCases.{evicted-cases, heard-cases}
+use Rattle.walk_steps.proofs.Rows.{choice, same-number, number-same}
+use Rattle.walk_steps.proofs.Tests.{is-not-below}
 use Rattle.law_calm.specs.SendsAgain.{is_cancelled}
 use Rattle.law_calm.specs.Spared.{wants_lease, IsSpared, pausing, wants_none}
 use Rattle.law_calm.specs.Efforts.{write_price, put_price, fresh_for, fresh_left, writes_to, read_left, lease_left, sent_left, job_left, asked_left, requests_left, delays_left, is_idle, writes_left, calls_left, effort}

@@ -12,15 +12,15 @@ use Rattle.nq_model.specs.Message.{Message, asker}
 use Rattle.nq_model.specs.Send.{send_next, is_asking, sends_request}
 use Rattle.nq_model.specs.Settle.{answers, names_losses, after_read, reads_cached, after_write, marks_written, settle}
 use Rattle.nq_model.specs.World.{Head, World, after_server, after_client, start, run}
-use Rattle.walk_client.proofs.ClientFacts.{Alone, fits_attach, fits_job}
-use Rattle.walk_client.proofs.ClientMoves.{some-same, none-some}
-use Rattle.walk_client.proofs.SendCases.{send-moves}
-use Rattle.walk_client.proofs.SettleCases.{settle-cases, settle-settles}
-use Rattle.walk_client.proofs.StepCases.{call-cases, unless-cached-cases, tick-cases, heard-cases}
-use Rattle.walk_run.proofs.Steps.{Changes, nothing, by_client, by_server, ClientActs, called, ticked, restarted, heard, step-changes}
-use Rattle.walk_run.proofs.Worlds.{Holds, run-holds, get-set-same, get-set-other, set-there, first-client}
-use Rattle.walk_server.proofs.Rows.{same-number, number-same}
-use Rattle.walk_server.proofs.Tests.{is-at-most, is-not-at-most}
+use Rattle.walk_steps.proofs.ClientFacts.{Alone, fits_attach, fits_job}
+use Rattle.walk_steps.proofs.ClientMoves.{some-same, none-some}
+use Rattle.walk_steps.proofs.SendCases.{send-moves}
+use Rattle.walk_steps.proofs.SettleCases.{settle-cases, settle-settles}
+use Rattle.walk_steps.proofs.StepCases.{call-cases, unless-cached-cases, tick-cases, heard-cases}
+use Rattle.walk_steps.proofs.Steps.{Changes, nothing, by_client, by_server, ClientActs, called, ticked, restarted, heard, step-changes}
+use Rattle.walk_steps.proofs.Worlds.{Holds, run-holds, get-set-same, get-set-other, set-there, first-client}
+use Rattle.walk_steps.proofs.Rows.{same-number, number-same}
+use Rattle.walk_steps.proofs.Tests.{is-at-most, is-not-at-most}
 use Rattle.law_calm.specs.CallsGoOn.{AsksToBeAttached, CallsGoOn}
 use Rattle.law_calm.proofs.Busy.{Busy, asks-next}
 use Rattle.law_calm.proofs.Prompt.{Prompt, hear-prompt, call-prompt, tick-prompt, restart-prompt}

@@ -22,20 +22,20 @@ use Rattle.nq_model.specs.Table.{Table, empty_table, after_draw, find_row, is_ro
 use Rattle.nq_model.specs.World.{Head, World, from_host, after_server, after_client, sending_host, first_kept, start, run}
 use Rattle.nq_promises.specs.RowsStandApart.{HasOneRowEach, StandApart}
 use Rattle.nq_promises.specs.ServerAlone.{Coming, datagram, step_for, server_after, first_boot}
-use Rattle.law_packets.proofs.NoticeCounts.{HostedBelow}
-use Rattle.law_servers.proofs.ServerAlone.{rows-stand-apart}
-use Rattle.walk_client.proofs.ClientMoves.{none-some}
-use Rattle.walk_run.proofs.Members.{in-map}
-use Rattle.walk_run.proofs.Packets.{In, in-append, in-get}
-use Rattle.walk_run.proofs.ServerSays.{IsSaid, said_reply, said_error, said_notice, AllSaid}
-use Rattle.walk_run.proofs.Steps.{Changes, nothing, by_client, by_server, ServerActs, received, ticks, crashes, step-changes}
-use Rattle.walk_run.proofs.Worlds.{run-holds, received-said, tick-said}
-use Rattle.walk_server.proofs.AskCases.{IsGranted, shares_again, begins_sharing, begins_caching, renews_row}
-use Rattle.walk_server.proofs.RowChanges.{mark, find-put, find-marked, none-filtered, of-key}
-use Rattle.walk_server.proofs.Rows.{choice, found-row}
-use Rattle.walk_server.proofs.ServerCases.{server-hears}
-use Rattle.walk_server.proofs.ServerMoves.{tick-moves}
-use Rattle.walk_server.proofs.ServerOutcomes.{IsFrom}
+use Rattle.law_bounds.proofs.NoticeCounts.{HostedBelow}
+use Rattle.law_bounds.proofs.ServerAlone.{rows-stand-apart}
+use Rattle.walk_steps.proofs.ClientMoves.{none-some}
+use Rattle.walk_steps.proofs.Members.{in-map}
+use Rattle.walk_steps.proofs.Packets.{In, in-append, in-get}
+use Rattle.walk_steps.proofs.ServerSays.{IsSaid, said_reply, said_error, said_notice, AllSaid}
+use Rattle.walk_steps.proofs.Steps.{Changes, nothing, by_client, by_server, ServerActs, received, ticks, crashes, step-changes}
+use Rattle.walk_steps.proofs.Worlds.{run-holds, received-said, tick-said}
+use Rattle.walk_steps.proofs.AskCases.{IsGranted, shares_again, begins_sharing, begins_caching, renews_row}
+use Rattle.walk_steps.proofs.RowChanges.{mark, find-put, find-marked, none-filtered, of-key}
+use Rattle.walk_steps.proofs.Rows.{choice, found-row}
+use Rattle.walk_steps.proofs.ServerCases.{server-hears}
+use Rattle.walk_steps.proofs.ServerMoves.{tick-moves}
+use Rattle.walk_steps.proofs.ServerOutcomes.{IsFrom}
 use Rattle.law_calm.proofs.ClientCount.{client-count}
 
 -- a number that is found stands below the length

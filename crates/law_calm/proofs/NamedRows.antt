@@ -24,26 +24,26 @@ use Rattle.nq_model.specs.World.{Head, World, from_host, after_server, after_cli
 use Rattle.nq_promises.specs.Bounds.{KeepsBounds}
 use Rattle.nq_promises.specs.RowsStandApart.{HasOneRowEach}
 use Rattle.nq_model.specs.Skew.{IsWithinSkew}
-use Rattle.law_leases.proofs.LeaseIntervals.{run-runs}
-use Rattle.law_packets.proofs.NoticeCounts.{HostedBelow}
-use Rattle.walk_client.proofs.ClientCases.{Core, Closed, core_of}
-use Rattle.walk_client.proofs.ClientFacts.{Alone, fits_job}
-use Rattle.walk_client.proofs.ClientMoves.{some-same, none-some, keeps-or-cancels}
-use Rattle.walk_client.proofs.ClientWalk.{reply-keeps, notice-keeps, call-keeps, tick-keeps}
-use Rattle.walk_client.proofs.StepCases.{heard-cases}
-use Rattle.walk_leases.proofs.Runs.{Runs}
-use Rattle.walk_run.proofs.Members.{in-filtered, in-map, find-in}
-use Rattle.walk_run.proofs.Packets.{In, in-append, in-left, in-last, in-get, Asked, Told, message-same, told-same, not-both, call-same}
-use Rattle.walk_run.proofs.ServerSays.{IsSaid, said_reply, said_error, said_notice}
-use Rattle.walk_run.proofs.Steps.{Changes, nothing, by_client, by_server, ClientActs, called, ticked, restarted, heard, ServerActs, received, ticks, crashes, run-goes}
-use Rattle.walk_run.proofs.TagFacts.{IsDrawn}
-use Rattle.walk_run.proofs.Worlds.{IsAt, run-holds, given-by, get-set-same, get-set-other, first-client, received-said, to-told}
-use Rattle.walk_server.proofs.AskCases.{IsGranted, shares_again, begins_sharing, begins_caching, renews_row}
-use Rattle.walk_server.proofs.RowChanges.{mark-is, found-marked, find-put}
-use Rattle.walk_server.proofs.Rows.{choice, same-number, number-same, find-passes}
-use Rattle.walk_server.proofs.ServerCases.{server-ticks}
-use Rattle.walk_server.proofs.ServerMoves.{server-moves, tick-moves}
-use Rattle.walk_server.proofs.Tests.{is-below, is-not-below}
+use Rattle.law_bounds.proofs.LeaseIntervals.{run-runs}
+use Rattle.law_bounds.proofs.NoticeCounts.{HostedBelow}
+use Rattle.walk_steps.proofs.ClientCases.{Core, Closed, core_of}
+use Rattle.walk_steps.proofs.ClientFacts.{Alone, fits_job}
+use Rattle.walk_steps.proofs.ClientMoves.{some-same, none-some, keeps-or-cancels}
+use Rattle.walk_steps.proofs.ClientWalk.{reply-keeps, notice-keeps, call-keeps, tick-keeps}
+use Rattle.walk_steps.proofs.StepCases.{heard-cases}
+use Rattle.walk_steps.proofs.Runs.{Runs}
+use Rattle.walk_steps.proofs.Members.{in-filtered, in-map, find-in}
+use Rattle.walk_steps.proofs.Packets.{In, in-append, in-left, in-last, in-get, Asked, Told, message-same, told-same, not-both, call-same}
+use Rattle.walk_steps.proofs.ServerSays.{IsSaid, said_reply, said_error, said_notice}
+use Rattle.walk_steps.proofs.Steps.{Changes, nothing, by_client, by_server, ClientActs, called, ticked, restarted, heard, ServerActs, received, ticks, crashes, run-goes}
+use Rattle.walk_steps.proofs.TagFacts.{IsDrawn}
+use Rattle.walk_steps.proofs.Worlds.{IsAt, run-holds, given-by, get-set-same, get-set-other, first-client, received-said, to-told}
+use Rattle.walk_steps.proofs.AskCases.{IsGranted, shares_again, begins_sharing, begins_caching, renews_row}
+use Rattle.walk_steps.proofs.RowChanges.{mark-is, found-marked, find-put}
+use Rattle.walk_steps.proofs.Rows.{choice, same-number, number-same, find-passes}
+use Rattle.walk_steps.proofs.ServerCases.{server-ticks}
+use Rattle.walk_steps.proofs.ServerMoves.{server-moves, tick-moves}
+use Rattle.walk_steps.proofs.Tests.{is-below, is-not-below}
 use Rattle.law_calm.specs.NamedRows.{IsNamed, by_notice, by_vacated, NamedRowsAreToGo}
 use Rattle.law_calm.proofs.ClientCount.{client-count}
 use Rattle.law_calm.proofs.HostsBelow.{run-local, one-row-each}

@@ -18,12 +18,12 @@ use Rattle.nq_model.specs.Server.{Server, notices, to_host, after_notices, keepi
 use Rattle.nq_model.specs.ServerStep.{access_of, attaches, vacates, tells_later, serves, leases, receive}
 use Rattle.nq_model.specs.Table.{find_row, is_row_of, put_row, with_rows, after_draw}
 use Rattle.nq_promises.specs.RowsStandApart.{HasOneRowEach}
-use Rattle.walk_run.proofs.Members.{in-filter, filter-in}
-use Rattle.walk_run.proofs.Packets.{In, in-append, in-get}
-use Rattle.walk_server.proofs.RowChanges.{mark, own-key, find-put, find-marked, mark-is, is-clash}
-use Rattle.walk_server.proofs.Rows.{found-row}
-use Rattle.walk_server.proofs.ServerCases.{server-hears}
-use Rattle.walk_server.proofs.ServerOutcomes.{error_for, wanted_by}
+use Rattle.walk_steps.proofs.Members.{in-filter, filter-in}
+use Rattle.walk_steps.proofs.Packets.{In, in-append, in-get}
+use Rattle.walk_steps.proofs.RowChanges.{mark, own-key, find-put, find-marked, mark-is, is-clash}
+use Rattle.walk_steps.proofs.Rows.{found-row}
+use Rattle.walk_steps.proofs.ServerCases.{server-hears}
+use Rattle.walk_steps.proofs.ServerOutcomes.{error_for, wanted_by}
 use Rattle.law_calm.specs.NoticesMark.{IsToGo, NoticesMarkRows}
 
 -- ---- rows that are members

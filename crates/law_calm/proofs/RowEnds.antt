@@ -19,14 +19,14 @@ use Rattle.nq_model.specs.Table.{Table, empty_table, is_row_of, is_writing, row_
 use Rattle.nq_model.specs.World.{Head, World, after_server, after_client, sending_host, first_kept, start, run}
 use Rattle.nq_promises.specs.Bounds.{KeepsBounds}
 use Rattle.nq_model.specs.Skew.{IsWithinSkew}
-use Rattle.law_leases.proofs.LeaseIntervals.{run-runs}
-use Rattle.walk_run.proofs.Members.{in-filtered, in-map, find-in}
-use Rattle.walk_run.proofs.Packets.{In}
-use Rattle.walk_run.proofs.Steps.{Changes, nothing, by_client, by_server, ServerActs, received, ticks, crashes, step-changes, run-goes}
-use Rattle.walk_server.proofs.AskCases.{IsGranted, shares_again, begins_sharing, begins_caching, renews_row}
-use Rattle.walk_server.proofs.RowChanges.{mark, mark-is}
-use Rattle.walk_server.proofs.Rows.{choice}
-use Rattle.walk_server.proofs.ServerMoves.{server-moves, phase-moves, receive-keeps, tick-moves, tick-keeps}
+use Rattle.law_bounds.proofs.LeaseIntervals.{run-runs}
+use Rattle.walk_steps.proofs.Members.{in-filtered, in-map, find-in}
+use Rattle.walk_steps.proofs.Packets.{In}
+use Rattle.walk_steps.proofs.Steps.{Changes, nothing, by_client, by_server, ServerActs, received, ticks, crashes, step-changes, run-goes}
+use Rattle.walk_steps.proofs.AskCases.{IsGranted, shares_again, begins_sharing, begins_caching, renews_row}
+use Rattle.walk_steps.proofs.RowChanges.{mark, mark-is}
+use Rattle.walk_steps.proofs.Rows.{choice}
+use Rattle.walk_steps.proofs.ServerMoves.{server-moves, phase-moves, receive-keeps, tick-moves, tick-keeps}
 use Rattle.law_calm.specs.EndsSoon.{RowsEndSoon, RecoveriesEndSoon}
 
 -- ---- rows

@@ -13,16 +13,16 @@ use Rattle.nq_model.specs.Hear.{vacates_lease, notes_notice, noticed_tag, evicte
 use Rattle.nq_model.specs.Message.{Message, call}
 use Rattle.nq_model.specs.Send.{sends_request, after_seq, after_number, takes_push, gives_up, want_of, read_want, shares_live, noticed_in, is_asking, send_next}
 use Rattle.nq_model.specs.Settle.{answers, after_read, reads_cached, after_write, marks_written, is_for_call, settle}
-use Rattle.walk_client.proofs.ClientCases.{Core, Closed}
-use Rattle.walk_client.proofs.ClientFacts.{Alone, DelayingOf}
-use Rattle.walk_client.proofs.ClientMoves.{some-same, none-some}
-use Rattle.walk_client.proofs.ClientWalk.{notice-keeps}
-use Rattle.walk_client.proofs.SendCases.{NothingToPush, noticed-one, no-noticed, send-cases}
-use Rattle.walk_client.proofs.SettleCases.{settle-moves, settle-settles, Settled}
-use Rattle.walk_client.proofs.StepCases.{evicted-cases, heard-cases}
-use Rattle.walk_run.proofs.Worlds.{run-holds}
-use Rattle.walk_server.proofs.Rows.{same-number}
-use Rattle.walk_server.proofs.Tests.{is-at-most, is-not-at-most, there-is}
+use Rattle.walk_steps.proofs.ClientCases.{Core, Closed}
+use Rattle.walk_steps.proofs.ClientFacts.{Alone, DelayingOf}
+use Rattle.walk_steps.proofs.ClientMoves.{some-same, none-some}
+use Rattle.walk_steps.proofs.ClientWalk.{notice-keeps}
+use Rattle.walk_steps.proofs.SendCases.{NothingToPush, noticed-one, no-noticed, send-cases}
+use Rattle.walk_steps.proofs.SettleCases.{settle-moves, settle-settles, Settled}
+use Rattle.walk_steps.proofs.StepCases.{evicted-cases, heard-cases}
+use Rattle.walk_steps.proofs.Worlds.{run-holds}
+use Rattle.walk_steps.proofs.Rows.{same-number}
+use Rattle.walk_steps.proofs.Tests.{is-at-most, is-not-at-most, there-is}
 use Rattle.law_calm.specs.RequestsAreMeant.{wanted, IsMeant}
 use Rattle.law_calm.specs.SendsAgain.{SendsAgain, the_same, delayed_writes, nothing_now, NoticesAreAnsweredAtOnce}
 use Rattle.law_calm.proofs.Busy.{any-found, dirty-listed, asks-next}

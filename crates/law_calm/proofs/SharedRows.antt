@@ -18,13 +18,13 @@ use Rattle.nq_model.specs.Profile.{most_rows}
 use Rattle.nq_model.specs.Server.{Server}
 use Rattle.nq_model.specs.ServerStep.{access_of, to_read, vacated_rows, receive}
 use Rattle.nq_model.specs.Table.{Table, caches, same_tag, find_row, is_row_of, put_row, drop_row, drop_host, drop_rows_of, with_rows, after_draw}
-use Rattle.walk_client.proofs.ClientMoves.{none-some}
-use Rattle.walk_server.proofs.AskCases.{IsGranted, shares_again, begins_sharing, begins_caching, renews_row, with_marked, with_waiter}
-use Rattle.walk_server.proofs.RowChanges.{mark, of-key, find-row-dropped, find-other-dropped, find-put-same, found-put, find-host-dropped, find-other-host-dropped, find-file-dropped, find-other-file-dropped, find-marked, mark-is, found-marked}
+use Rattle.walk_steps.proofs.ClientMoves.{none-some}
+use Rattle.walk_steps.proofs.AskCases.{IsGranted, shares_again, begins_sharing, begins_caching, renews_row, with_marked, with_waiter}
+use Rattle.walk_steps.proofs.RowChanges.{mark, of-key, find-row-dropped, find-other-dropped, find-put-same, found-put, find-host-dropped, find-other-host-dropped, find-file-dropped, find-other-file-dropped, find-marked, mark-is, found-marked}
 use Rattle.nq_model.proofs.Finding.{number-other}
-use Rattle.walk_server.proofs.Rows.{choice, found-row, find-none, same-number, number-same}
-use Rattle.walk_server.proofs.ServerMoves.{server-moves}
-use Rattle.walk_server.proofs.Tests.{is-not-below, is-other}
+use Rattle.walk_steps.proofs.Rows.{choice, found-row, find-none, same-number, number-same}
+use Rattle.walk_steps.proofs.ServerMoves.{server-moves}
+use Rattle.walk_steps.proofs.Tests.{is-not-below, is-other}
 use Rattle.law_calm.specs.SharingRows.{HasSharingRow, WhoAsksHasRow, WhoIsPutOffShares}
 use Rattle.law_calm.specs.SharedFiles.{HasRow, HasCachingRow, SharedFilesStayShared}
 

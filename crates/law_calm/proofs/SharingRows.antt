@@ -22,17 +22,17 @@ use Rattle.nq_model.specs.Server.{Server, Phase, standing_in, serving, recoverin
 use Rattle.nq_model.specs.ServerStep.{access_of, to_read, attaches, vacates, vacated_rows, tells_later, serves, leases, receive}
 use Rattle.nq_model.specs.Table.{Table, caches, is_writing, same_tag, find_row, is_row_of, drop_host, drop_rows_of, drop_row, put_row, with_rows, after_draw}
 use Rattle.nq_model.specs.World.{World, from_host, after_server, after_client, after_hearing, sending_host, deliver, deliver_to, deliver_to_client, run}
-use Rattle.law_leases.proofs.LeaseIntervals.{run-runs}
-use Rattle.walk_client.proofs.ClientMoves.{some-same, none-some}
-use Rattle.walk_leases.proofs.Runs.{none-served}
-use Rattle.walk_tables.proofs.ServerTables.{NoneRecovering}
-use Rattle.walk_run.proofs.Packets.{in-get}
-use Rattle.walk_run.proofs.Worlds.{IsSent, by_host, by_server, run-holds}
-use Rattle.walk_server.proofs.AskCases.{IsGranted, shares_again, begins_sharing, begins_caching, renews_row}
-use Rattle.walk_server.proofs.RowChanges.{mark, mark-is, find-marked, find-put, of-key, find-other-dropped, find-other-host-dropped, find-other-file-dropped}
-use Rattle.walk_server.proofs.Rows.{choice, found-row, same-number, number-same}
-use Rattle.walk_server.proofs.ServerCases.{server-hears}
-use Rattle.walk_server.proofs.TableFits.{TableFits}
+use Rattle.law_bounds.proofs.LeaseIntervals.{run-runs}
+use Rattle.walk_steps.proofs.ClientMoves.{some-same, none-some}
+use Rattle.walk_steps.proofs.Runs.{none-served}
+use Rattle.walk_steps.proofs.ServerTables.{NoneRecovering}
+use Rattle.walk_steps.proofs.Packets.{in-get}
+use Rattle.walk_steps.proofs.Worlds.{IsSent, by_host, by_server, run-holds}
+use Rattle.walk_steps.proofs.AskCases.{IsGranted, shares_again, begins_sharing, begins_caching, renews_row}
+use Rattle.walk_steps.proofs.RowChanges.{mark, mark-is, find-marked, find-put, of-key, find-other-dropped, find-other-host-dropped, find-other-file-dropped}
+use Rattle.walk_steps.proofs.Rows.{choice, found-row, same-number, number-same}
+use Rattle.walk_steps.proofs.ServerCases.{server-hears}
+use Rattle.walk_steps.proofs.TableFits.{TableFits}
 use Rattle.law_calm.specs.NamedRows.{by_vacated}
 use Rattle.law_calm.specs.SharingRows.{HasSharingRow, takes_row, SharingRowsStay, RowsToGoCache}
 use Rattle.law_calm.proofs.NamedRows.{named-rows}

@@ -19,10 +19,10 @@ use Rattle.nq_promises.specs.ChainedLeasesKnow.{HeldKnow, TakeableKnow, ChainedL
 use Rattle.walk_chains.proofs.ChainClients.{Before, fits-sends, call-fits, tick-fits, heard-fits}
 use Rattle.walk_chains.proofs.ChainFacts.{line_for, ChainFits, PushFits, PushesFit}
 use Rattle.nq_promises.specs.Chained.{has_done_write, KnowsFile}
-use Rattle.walk_client.proofs.ClientMoves.{some-same, none-some}
-use Rattle.walk_leases.proofs.Runs.{Runs, none-served}
-use Rattle.law_leases.proofs.LeaseIntervals.{run-runs, tick-sends, crash-sends}
-use Rattle.walk_leases.proofs.ServerEffects.{standing-serving}
+use Rattle.walk_steps.proofs.ClientMoves.{some-same, none-some}
+use Rattle.walk_steps.proofs.Runs.{Runs, none-served}
+use Rattle.law_bounds.proofs.LeaseIntervals.{run-runs, tick-sends, crash-sends}
+use Rattle.walk_steps.proofs.ServerEffects.{standing-serving}
 use Rattle.nq_promises.specs.Bounds.{KeepsBounds}
 use Rattle.nq_model.specs.Client.{Client, ClientStep, revision_of, revision_or_zero}
 use Rattle.nq_model.specs.ClientStep.{client_call, client_tick, restart, starts, fresh_client, attached_client, next_incarnation}
@@ -34,22 +34,22 @@ use Rattle.nq_model.specs.ServerStep.{receive, tick, crash}
 use Rattle.nq_model.specs.Skew.{IsWithinSkew}
 use Rattle.nq_model.specs.Table.{find_row}
 use Rattle.nq_model.specs.World.{Head, World, after_server, after_client, at_client, after_hearing, sending_host, deliver_to_client, deliver_to, deliver, start, run}
-use Rattle.walk_run.proofs.Sequences.{Drew, DrewIf, call-draws, tick-draws, restart-draws, hear-draws, asked-before-server}
-use Rattle.law_requests.proofs.WorldSequences.{run-draws}
-use Rattle.walk_run.proofs.RunCases.{During, client_at, Keeps, run-keeps, OfClients, clients-after}
-use Rattle.walk_run.proofs.ClientSteps.{KnowsOf}
-use Rattle.walk_leases.proofs.KnownWorlds.{takeable, first-there, first-line}
-use Rattle.walk_run.proofs.Mail.{packets_with, other-asked}
-use Rattle.walk_run.proofs.Packets.{In, in-append, in-get, Asked, Told}
-use Rattle.walk_run.proofs.TagFacts.{IsDrawn}
-use Rattle.walk_run.proofs.Worlds.{Holds, run-holds, received-said, to-told, to-server, first-client, set-there}
-use Rattle.walk_tables.proofs.ServerFacts.{IncsFit}
-use Rattle.walk_tables.proofs.ServerNumbers.{IdsFitOf, ids-receive, ids-tick, ids-crash}
-use Rattle.walk_tables.proofs.ServerTables.{standing-boot}
-use Rattle.walk_tables.proofs.LogFits.{fits-start}
-use Rattle.walk_server.proofs.Rows.{found-row, same-number, number-same}
-use Rattle.walk_server.proofs.TableFits.{tag-in-order}
-use Rattle.walk_server.proofs.Tests.{there-is}
+use Rattle.walk_steps.proofs.Sequences.{Drew, DrewIf, call-draws, tick-draws, restart-draws, hear-draws, asked-before-server}
+use Rattle.law_bounds.proofs.WorldSequences.{run-draws}
+use Rattle.walk_steps.proofs.RunCases.{During, client_at, Keeps, run-keeps, OfClients, clients-after}
+use Rattle.walk_steps.proofs.ClientSteps.{KnowsOf}
+use Rattle.walk_steps.proofs.KnownWorlds.{takeable, first-there, first-line}
+use Rattle.walk_steps.proofs.Mail.{packets_with, other-asked}
+use Rattle.walk_steps.proofs.Packets.{In, in-append, in-get, Asked, Told}
+use Rattle.walk_steps.proofs.TagFacts.{IsDrawn}
+use Rattle.walk_steps.proofs.Worlds.{Holds, run-holds, received-said, to-told, to-server, first-client, set-there}
+use Rattle.walk_steps.proofs.ServerFacts.{IncsFit}
+use Rattle.walk_steps.proofs.ServerNumbers.{IdsFitOf, ids-receive, ids-tick, ids-crash}
+use Rattle.walk_steps.proofs.ServerTables.{standing-boot}
+use Rattle.walk_steps.proofs.LogFits.{fits-start}
+use Rattle.walk_steps.proofs.Rows.{found-row, same-number, number-same}
+use Rattle.walk_steps.proofs.TableFits.{tag-in-order}
+use Rattle.walk_steps.proofs.Tests.{there-is}
 
 -- ---- the numbers of files
 

@@ -13,8 +13,8 @@ use Rattle.nq_base.specs.declared.Tag.{Tag}
 use Rattle.nq_base.specs.declared.Who.{Who}
 use Rattle.nq_promises.specs.Chained.{has_done_write}
 use Rattle.law_chains.specs.Met.{ChainsAreMet}
-use Rattle.walk_run.proofs.NoCrash.{no-crash-within}
-use Rattle.law_leases.proofs.SomeLease.{two-hosts}
+use Rattle.walk_steps.proofs.NoCrash.{no-crash-within}
+use Rattle.law_bounds.proofs.SomeLease.{two-hosts}
 use Rattle.nq_promises.specs.Bounds.{BootsWithin}
 use Rattle.nq_model.proofs.SkewTest.{skew-test-is-sound}
 use Rattle.nq_model.specs.Client.{Client, Lease, Ticket, for_call, lease_on}
@@ -27,8 +27,8 @@ use Rattle.nq_model.specs.ServerStep.{leases, boot}
 use Rattle.nq_model.specs.Kept.{host_row}
 use Rattle.nq_model.specs.Table.{find_row}
 use Rattle.nq_model.specs.World.{run}
-use Rattle.walk_server.proofs.Tests.{some-is}
-use Rattle.walk_run.proofs.GivenRuns.{given-run}
+use Rattle.walk_steps.proofs.Tests.{some-is}
+use Rattle.walk_steps.proofs.GivenRuns.{given-run}
 
 -- host 0 wants to write, and the server gives it the lease; the newest event first
 asked-for : List Event

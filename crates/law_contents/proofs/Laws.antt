@@ -20,12 +20,12 @@ use Rattle.nq_model.specs.Kept.{host_row}
 use Rattle.nq_model.specs.Message.{call, reply, sequence_of}
 use Rattle.nq_model.specs.Server.{to_host}
 use Rattle.nq_model.specs.World.{World, from_host, run}
-use Rattle.law_requests.proofs.WorldSequences.{Draws, run-draws}
-use Rattle.walk_run.proofs.Members.{find-in}
-use Rattle.walk_run.proofs.Packets.{Asked, Told, in-get}
-use Rattle.walk_run.proofs.Worlds.{Holds, run-holds}
-use Rattle.walk_server.proofs.Incarnations.{one-who}
-use Rattle.walk_server.proofs.Rows.{same-number, find-passes}
+use Rattle.law_bounds.proofs.WorldSequences.{Draws, run-draws}
+use Rattle.walk_steps.proofs.Members.{find-in}
+use Rattle.walk_steps.proofs.Packets.{Asked, Told, in-get}
+use Rattle.walk_steps.proofs.Worlds.{Holds, run-holds}
+use Rattle.walk_steps.proofs.Incarnations.{one-who}
+use Rattle.walk_steps.proofs.Rows.{same-number, find-passes}
 
 pub files-in-every-run : FilesAreTheirHistoryInEveryRun
 files-in-every-run most head events bounds within =

@@ -9,7 +9,7 @@ use Rattle.nq_base.specs.declared.Event.{Event}
 use Rattle.nq_base.specs.declared.Party.{Party}
 use Rattle.nq_base.specs.declared.Request.{Request}
 use Rattle.nq_base.specs.declared.Who.{Who}
-use Rattle.walk_client.proofs.ClientMoves.{some-same, none-some}
+use Rattle.walk_steps.proofs.ClientMoves.{some-same, none-some}
 use Rattle.walk_contents.proofs.ClientContents.{call-mid, tick-mid}
 use Rattle.walk_contents.proofs.ClientHears.{hear-mid}
 use Rattle.walk_contents.proofs.ClientParts.{part_of, IsOverKnown, IsFair, Mid}
@@ -20,9 +20,9 @@ use Rattle.walk_contents.proofs.ServerDelays.{receive-never, tick-never, crash-n
 use Rattle.walk_contents.proofs.ServerTimes.{Standing, ticks, crashes}
 use Rattle.law_contents.proofs.WorldFacts.{ClientFits, begun-mid, fits-follows, history_now, Fits, client-fits, server-fits}
 use Rattle.nq_promises.specs.RevisionsHaveOneContent.{length_of, first_length}
-use Rattle.walk_leases.proofs.Runs.{Runs}
-use Rattle.law_leases.proofs.LeaseIntervals.{run-runs}
-use Rattle.walk_run.proofs.NoCrash.{bounds-before}
+use Rattle.walk_steps.proofs.Runs.{Runs}
+use Rattle.law_bounds.proofs.LeaseIntervals.{run-runs}
+use Rattle.walk_steps.proofs.NoCrash.{bounds-before}
 use Rattle.nq_promises.specs.Bounds.{KeepsBounds}
 use Rattle.nq_model.specs.Client.{Client, ClientStep, attaching, Ticket, begun}
 use Rattle.nq_model.specs.ClientStep.{client_call, client_tick, restart, starts, fresh_client, attached_client, next_incarnation}
@@ -33,11 +33,11 @@ use Rattle.nq_model.specs.Profile.{most_hosts}
 use Rattle.nq_model.specs.ServerStep.{receive, tick, crash, boot}
 use Rattle.nq_model.specs.Skew.{IsWithinSkew}
 use Rattle.nq_model.specs.World.{Head, World, after_server, after_client, at_client, after_hearing, sending_host, deliver_to_client, deliver_to, deliver, step, first_files, first_row, start, run}
-use Rattle.law_requests.proofs.WorldSequences.{Draws, run-draws}
-use Rattle.walk_run.proofs.Clocks.{within-before}
-use Rattle.walk_run.proofs.Packets.{In, in-get, Asked, Told, call-same, Mail}
-use Rattle.walk_run.proofs.Worlds.{Holds, first-client, to-server, to-told, received-said, tick-said, crash-said, run-holds, set-there}
-use Rattle.walk_server.proofs.Rows.{same-number}
+use Rattle.law_bounds.proofs.WorldSequences.{Draws, run-draws}
+use Rattle.walk_steps.proofs.Clocks.{within-before}
+use Rattle.walk_steps.proofs.Packets.{In, in-get, Asked, Told, call-same, Mail}
+use Rattle.walk_steps.proofs.Worlds.{Holds, first-client, to-server, to-told, received-said, tick-said, crash-said, run-holds, set-there}
+use Rattle.walk_steps.proofs.Rows.{same-number}
 
 -- ---- first lengths
 

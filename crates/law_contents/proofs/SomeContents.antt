@@ -10,7 +10,7 @@ use Rattle.nq_base.specs.declared.Request.{Request}
 use Rattle.nq_base.specs.declared.Verdict.{Verdict}
 use Rattle.nq_base.specs.declared.Who.{Who}
 use Rattle.law_contents.specs.Met.{IsContentSometime}
-use Rattle.walk_run.proofs.NoCrash.{no-crash-within}
+use Rattle.walk_steps.proofs.NoCrash.{no-crash-within}
 use Rattle.nq_model.proofs.SkewTest.{skew-test-is-sound}
 use Rattle.nq_model.specs.Client.{Clean, Client, Job, Ticket, clean_at, revision_of}
 use Rattle.nq_model.specs.ClientStep.{fresh_client}
@@ -20,8 +20,8 @@ use Rattle.nq_model.specs.Server.{to_host}
 use Rattle.nq_model.specs.ServerStep.{boot}
 use Rattle.nq_model.specs.Skew.{is_within_skew}
 use Rattle.nq_model.specs.World.{Head, run}
-use Rattle.walk_server.proofs.Tests.{some-is}
-use Rattle.walk_run.proofs.GivenRuns.{given-run}
+use Rattle.walk_steps.proofs.Tests.{some-is}
+use Rattle.walk_steps.proofs.GivenRuns.{given-run}
 
 -- one host, one file of one block
 abbrev one-host : Head

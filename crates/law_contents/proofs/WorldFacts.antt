@@ -7,7 +7,7 @@ use Rattle.nq_base.specs.declared.Push.{Push}
 use Rattle.nq_base.specs.declared.Reply.{Reply}
 use Rattle.nq_base.specs.declared.Request.{Request}
 use Rattle.nq_base.specs.declared.Who.{Who}
-use Rattle.walk_client.proofs.ClientFacts.{changes_file, push_in}
+use Rattle.walk_steps.proofs.ClientFacts.{changes_file, push_in}
 use Rattle.walk_contents.proofs.ClientParts.{part_of, IsKnown, IsClean, IsOverKnown, IsPending, IsFair, fair-more, NoneFrom, only-delayed, Mid, known-follows, clean-follows}
 use Rattle.walk_contents.proofs.Facts.{History, Follows, follows, Tells, tells-follows, LineTells, line-follows, FilesFit, UnusedFit}
 use Rattle.walk_contents.proofs.FileMoves.{files-idle, unused-idle}
@@ -20,11 +20,11 @@ use Rattle.nq_model.specs.Kept.{host_row}
 use Rattle.nq_model.specs.Message.{Message, Packet, call, reply}
 use Rattle.nq_model.specs.Server.{ServerStep, to_host}
 use Rattle.nq_model.specs.World.{World, from_host, after_server, after_client}
-use Rattle.walk_run.proofs.RunCases.{clients-after}
-use Rattle.walk_run.proofs.Mail.{packets_with, old-told}
-use Rattle.walk_run.proofs.Packets.{In, in-left, in-append, Asked, Told, message-same, Mail}
-use Rattle.walk_run.proofs.ServerSays.{AllSaid}
-use Rattle.walk_run.proofs.Sequences.{asked-before-server}
+use Rattle.walk_steps.proofs.RunCases.{clients-after}
+use Rattle.walk_steps.proofs.Mail.{packets_with, old-told}
+use Rattle.walk_steps.proofs.Packets.{In, in-left, in-append, Asked, Told, message-same, Mail}
+use Rattle.walk_steps.proofs.ServerSays.{AllSaid}
+use Rattle.walk_steps.proofs.Sequences.{asked-before-server}
 
 -- what a client knows of contents
 pub record ClientFits (h : History) (c : Client) (ps : List Packet) : Type 0 where

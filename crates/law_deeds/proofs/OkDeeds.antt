@@ -20,10 +20,10 @@ use Rattle.nq_model.specs.Synchronized.{IsPutKept, IsSettledResize, IsKept}
 use Rattle.nq_model.specs.World.{run}
 use Rattle.nq_promises.specs.OksHaveTheirDeeds.{IsWriteOfCall, IsReadOfCall, IsResizeOfCall, HasDeed, HasDeedAt, OksHaveTheirDeeds, OksHaveTheirDeedsInEveryRun}
 use Rattle.walk_calls.proofs.Placed.{IsCachedBy, Placed, call-told}
-use Rattle.walk_client.proofs.ClientMoves.{some-same}
+use Rattle.walk_steps.proofs.ClientMoves.{some-same}
 use Rattle.walk_legal.proofs.Places.{IsPlaced, throughout-at, throughout-of}
-use Rattle.walk_run.proofs.Members.{in-exists, exists-in}
-use Rattle.walk_run.proofs.Packets.{In}
+use Rattle.walk_steps.proofs.Members.{in-exists, exists-in}
+use Rattle.walk_steps.proofs.Packets.{In}
 
 -- what a call asks at a place, if it is told there, is this
 abbrev AsksOnly : (who : Who) (q : ℕ) (told : Told) → List Entry → Type 0

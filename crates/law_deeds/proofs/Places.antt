@@ -9,8 +9,8 @@ use Rattle.nq_base.specs.declared.Who.{Who}
 use Rattle.nq_model.specs.Journal.{Exists, Throughout, IsAnswer, IsAnswerBy, call_of}
 use Rattle.walk_calls.proofs.Placed.{Placed, call-told}
 use Rattle.walk_legal.proofs.Places.{IsPlaced, placed-in, throughout-at}
-use Rattle.walk_run.proofs.Members.{in-exists, exists-in}
-use Rattle.walk_run.proofs.Packets.{In}
+use Rattle.walk_steps.proofs.Members.{in-exists, exists-in}
+use Rattle.walk_steps.proofs.Packets.{In}
 
 -- an entry of a journal has its place
 pub in-placed : (x : Entry) (j : List Entry) → In j x → (before : List Entry) × IsPlaced x before j

@@ -12,11 +12,11 @@ use Rattle.nq_base.specs.declared.Who.{Who}
 use Rattle.nq_model.proofs.Finding.{number-other}
 use Rattle.nq_model.specs.Ask.{Reply, ask, shares, term_of, marked, sharing_row, caching_row, shared_again, renewed_row, put_off_by_own, granted, no_lease, free}
 use Rattle.nq_model.specs.Table.{Table, caches, find_row, is_row_of, put_row, with_rows, after_draw}
-use Rattle.walk_client.proofs.ClientMoves.{some-same, none-some}
-use Rattle.walk_server.proofs.AskCases.{IsGranted, shares_again, begins_sharing, begins_caching, renews_row, own_in, clash_in, has_room, with_marked, asks}
-use Rattle.walk_server.proofs.Modes.{greater-caches}
-use Rattle.walk_server.proofs.RowChanges.{mark, find-marked, mark-is, of-key}
-use Rattle.walk_server.proofs.Rows.{found-row, find-none, number-same}
+use Rattle.walk_steps.proofs.ClientMoves.{some-same, none-some}
+use Rattle.walk_steps.proofs.AskCases.{IsGranted, shares_again, begins_sharing, begins_caching, renews_row, own_in, clash_in, has_room, with_marked, asks}
+use Rattle.walk_steps.proofs.Modes.{greater-caches}
+use Rattle.walk_steps.proofs.RowChanges.{mark, find-marked, mark-is, of-key}
+use Rattle.walk_steps.proofs.Rows.{found-row, find-none, number-same}
 use Rattle.law_deliveries.proofs.Asked.{is_taken}
 use Rattle.law_deliveries.proofs.Energy.{energy, wish, is_sharing, shares_file, KeepSharing, IsTame, tame-energy, share-begins}
 use Rattle.law_deliveries.proofs.GoodRows.{taken-marked}

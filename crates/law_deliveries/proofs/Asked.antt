@@ -18,10 +18,10 @@ use Rattle.nq_model.specs.Profile.{most_hosts}
 use Rattle.nq_model.specs.Server.{Phase, serving, recovering, Server, ServerStep, quiet, drops, says, refuses, with_table, after_notices}
 use Rattle.nq_model.specs.ServerStep.{access_of, to_read, tells_later, serves, leases, read_of, read_asked, read_block, read, lease_asked, lease_of, get_lease, look, perform, not_attached, admit, answer_request, receive, vacates, vacated_rows}
 use Rattle.nq_model.specs.Table.{is_writing, find_row, drop_row, same_tag, with_rows}
-use Rattle.walk_client.proofs.ClientMoves.{some-same}
-use Rattle.walk_server.proofs.Rows.{choice, same-number, number-same}
-use Rattle.walk_server.proofs.ServerCases.{found-file}
-use Rattle.walk_server.proofs.Tests.{is-below, is-not-below}
+use Rattle.walk_steps.proofs.ClientMoves.{some-same}
+use Rattle.walk_steps.proofs.Rows.{choice, same-number, number-same}
+use Rattle.walk_steps.proofs.ServerCases.{found-file}
+use Rattle.walk_steps.proofs.Tests.{is-below, is-not-below}
 
 -- ---- the question that a request puts to the lease table
 

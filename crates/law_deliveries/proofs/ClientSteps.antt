@@ -10,9 +10,9 @@ use Rattle.nq_model.specs.Hear.{hear, wants_of}
 use Rattle.nq_model.specs.Message.{Message, Packet, call}
 use Rattle.nq_model.specs.Server.{to_host}
 use Rattle.nq_model.specs.World.{World, from_host, after_client, after_hearing, deliver, deliver_to_client}
-use Rattle.walk_client.proofs.ClientMoves.{some-same, none-some}
-use Rattle.walk_run.proofs.Worlds.{get-set-same, get-set-other}
-use Rattle.walk_server.proofs.Rows.{same-number, number-same}
+use Rattle.walk_steps.proofs.ClientMoves.{some-same, none-some}
+use Rattle.walk_steps.proofs.Worlds.{get-set-same, get-set-other}
+use Rattle.walk_steps.proofs.Rows.{same-number, number-same}
 use Rattle.law_deliveries.proofs.Facts.{asked_for, wants_in, Takes, fewer, again, silent, Facts}
 use Rattle.law_deliveries.proofs.Forms.{Agree}
 use Rattle.law_deliveries.proofs.Items.{Item, one, pair, Adds, adds-none, adds-ones, adds-pair, ones}

@@ -18,8 +18,8 @@ use Rattle.nq_model.specs.Server.{Server, ServerStep, to_host}
 use Rattle.nq_model.specs.ServerStep.{receive}
 use Rattle.nq_model.specs.Table.{find_row}
 use Rattle.nq_model.specs.World.{World, from_host, after_server, deliver, deliver_to, step}
-use Rattle.walk_run.proofs.Packets.{in-get}
-use Rattle.walk_run.proofs.Worlds.{IsSent, by_host, by_server}
+use Rattle.walk_steps.proofs.Packets.{in-get}
+use Rattle.walk_steps.proofs.Worlds.{IsSent, by_host, by_server}
 use Rattle.law_deliveries.proofs.Asked.{is_taken, Vacates, vacated-request, request-hears}
 use Rattle.law_deliveries.proofs.AskSteps.{Outcome, falls, goes_on}
 use Rattle.law_deliveries.proofs.ClientSteps.{sum_of, CameOf, nothing, gives_up, asks_again, ClientOut, turned, went_on, client-delivered}

@@ -20,8 +20,8 @@ use Rattle.nq_model.specs.ServerStep.{receive}
 use Rattle.nq_model.specs.Table.{Table, caches, find_row}
 use Rattle.nq_model.specs.World.{World, from_host, sending_host, step}
 use Rattle.nq_promises.specs.RowsStandApart.{AreOfKeptIncarnations, WritesAlone}
-use Rattle.walk_run.proofs.Packets.{In}
-use Rattle.walk_run.proofs.Worlds.{Holds}
+use Rattle.walk_steps.proofs.Packets.{In}
+use Rattle.walk_steps.proofs.Worlds.{Holds}
 
 -- what a client asks for its call
 abbrev pub asked_by : Job → Request → Option Request

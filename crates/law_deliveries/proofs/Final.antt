@@ -13,7 +13,7 @@ use Rattle.nq_model.specs.Skew.{is_server_tick, server_ticks, ticks_of, IsWithin
 use Rattle.nq_model.specs.Stepped.{most_sends}
 use Rattle.nq_model.specs.World.{Head, step, run}
 use Rattle.nq_promises.specs.Bounds.{KeepsBounds}
-use Rattle.walk_run.proofs.NoCrash.{one-first}
+use Rattle.walk_steps.proofs.NoCrash.{one-first}
 use Rattle.law_calm.specs.Efforts.{writes_to, read_left, lease_left, sent_left, job_left, requests_left, put_delays, may_delay, delays_left}
 use Rattle.law_calm.specs.Turns.{asking_turns, turns_left}
 use Rattle.law_calm.proofs.ClientCount.{client-count}

@@ -13,8 +13,8 @@ use Rattle.nq_model.specs.Lines.{Play, play, play_flow, flow_first}
 use Rattle.nq_model.specs.Message.{Message, Packet}
 use Rattle.nq_model.specs.Server.{Server, to_host}
 use Rattle.nq_model.specs.World.{World, from_host}
-use Rattle.walk_run.proofs.Packets.{in-get}
-use Rattle.walk_run.proofs.Worlds.{IsSent, by_host, by_server}
+use Rattle.walk_steps.proofs.Packets.{in-get}
+use Rattle.walk_steps.proofs.Worlds.{IsSent, by_host, by_server}
 use Rattle.law_deliveries.specs.DeliveryEnds.{growth, most_growths}
 use Rattle.law_deliveries.proofs.ClientSteps.{sum_of}
 use Rattle.law_deliveries.proofs.Deliver.{Spends, less_energy, less_weight, GoesOn, Turns, to-client}

@@ -11,10 +11,10 @@ use Rattle.nq_base.specs.declared.Who.{Who}
 use Rattle.nq_model.specs.Ask.{Reply, ask, term_of, marked, sharing_row, caching_row, shared_again, renewed_row, put_off_by_own, granted, no_lease, free}
 use Rattle.nq_model.specs.Profile.{most_rows}
 use Rattle.nq_model.specs.Table.{Table, caches, is_writing, greater_mode, find_row, is_row_of, put_row, with_rows, after_draw}
-use Rattle.walk_client.proofs.ClientMoves.{some-same, none-some}
-use Rattle.walk_server.proofs.AskCases.{IsGranted, shares_again, begins_sharing, begins_caching, renews_row, own_in, has_room, asks}
-use Rattle.walk_server.proofs.RowChanges.{mark, find-marked, mark-is, find-put-same}
-use Rattle.walk_server.proofs.Rows.{found-row}
+use Rattle.walk_steps.proofs.ClientMoves.{some-same, none-some}
+use Rattle.walk_steps.proofs.AskCases.{IsGranted, shares_again, begins_sharing, begins_caching, renews_row, own_in, has_room, asks}
+use Rattle.walk_steps.proofs.RowChanges.{mark, find-marked, mark-is, find-put-same}
+use Rattle.walk_steps.proofs.Rows.{found-row}
 use Rattle.law_deliveries.proofs.Asked.{is_taken}
 
 pub data IsGood (rows : List Row) (file host : ℕ) (who : Who) (tag : Tag) (writes : Bool) : Type 0 where

@@ -9,8 +9,8 @@ use Rattle.nq_base.specs.declared.Who.{Who}
 use Rattle.nq_model.specs.Lines.{numbers_from, without, added}
 use Rattle.nq_model.specs.Message.{Packet, call}
 use Rattle.nq_model.specs.World.{World, from_host}
-use Rattle.walk_client.proofs.ClientMoves.{none-some}
-use Rattle.walk_server.proofs.Rows.{number-same}
+use Rattle.walk_steps.proofs.ClientMoves.{none-some}
+use Rattle.walk_steps.proofs.Rows.{number-same}
 use Rattle.law_deliveries.specs.DeliveryEnds.{AreUnderWay}
 
 -- a packet of this number; or two packets of a host, the first of this number: it gives a lease up, and asks

@@ -13,9 +13,9 @@ use Rattle.nq_model.specs.Message.{Message, Packet, call, reply, error}
 use Rattle.nq_model.specs.Server.{Server, ServerStep, to_host}
 use Rattle.nq_model.specs.Table.{find_row, drop_row}
 use Rattle.nq_model.specs.World.{World, from_host}
-use Rattle.walk_client.proofs.ClientMoves.{none-some}
-use Rattle.walk_run.proofs.Packets.{not-both}
-use Rattle.walk_server.proofs.Rows.{same-number, number-same}
+use Rattle.walk_steps.proofs.ClientMoves.{none-some}
+use Rattle.walk_steps.proofs.Packets.{not-both}
+use Rattle.walk_steps.proofs.Rows.{same-number, number-same}
 use Rattle.law_deliveries.proofs.Asked.{is_taken, rows_without, question_of, writes_for, IsSame, same-question, Vacates}
 use Rattle.law_deliveries.proofs.AskSteps.{StillTaken, Outcome, falls, goes_on}
 use Rattle.law_deliveries.proofs.ClientSteps.{CameOf, nothing, gives_up, asks_again}

@@ -13,8 +13,8 @@ use Rattle.nq_model.specs.Message.{Message, Packet, call, datagram_of}
 use Rattle.nq_model.specs.Server.{Server, ServerStep, to_host}
 use Rattle.nq_model.specs.ServerStep.{receive}
 use Rattle.nq_model.specs.World.{World, from_host, after_client, after_server, sending_host, deliver, deliver_to, step}
-use Rattle.walk_run.proofs.Packets.{in-get}
-use Rattle.walk_run.proofs.Steps.{Changes, nothing, by_client, by_server, step-changes}
+use Rattle.walk_steps.proofs.Packets.{in-get}
+use Rattle.walk_steps.proofs.Steps.{Changes, nothing, by_client, by_server, step-changes}
 use Rattle.law_deliveries.proofs.Facts.{Facts}
 use Rattle.law_deliveries.proofs.Forms.{Agree}
 use Rattle.law_deliveries.proofs.Items.{Item, one, pair, all_numbers, numbers_of, Each, IsSingle, IsSentAs, Rise, Queued, Adds, adds-ones, all-append, ones, delivered-queue, queue-of}

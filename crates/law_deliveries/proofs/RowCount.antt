@@ -16,12 +16,12 @@ use Rattle.nq_model.specs.Server.{Server, ServerStep}
 use Rattle.nq_model.specs.ServerStep.{access_of, to_read, is_over, end_reading, vacated_rows, receive, tick, crash, boot}
 use Rattle.nq_model.specs.Table.{is_row_of, find_row, drop_row, row_before, insert_row, put_row, same_tag, empty_table, with_rows, after_draw}
 use Rattle.nq_model.specs.World.{Head, World, sending_host, after_server, after_client, start, run}
-use Rattle.walk_run.proofs.Steps.{Changes, nothing, by_client, by_server, ServerActs, received, ticks, crashes, step-changes}
-use Rattle.walk_server.proofs.AskCases.{IsGranted, shares_again, begins_sharing, begins_caching, renews_row}
-use Rattle.walk_server.proofs.RowChanges.{mark}
-use Rattle.walk_server.proofs.Rows.{choice, found-row}
-use Rattle.walk_server.proofs.ServerMoves.{server-moves, tick-moves}
-use Rattle.walk_server.proofs.Tests.{is-below}
+use Rattle.walk_steps.proofs.Steps.{Changes, nothing, by_client, by_server, ServerActs, received, ticks, crashes, step-changes}
+use Rattle.walk_steps.proofs.AskCases.{IsGranted, shares_again, begins_sharing, begins_caching, renews_row}
+use Rattle.walk_steps.proofs.RowChanges.{mark}
+use Rattle.walk_steps.proofs.Rows.{choice, found-row}
+use Rattle.walk_steps.proofs.ServerMoves.{server-moves, tick-moves}
+use Rattle.walk_steps.proofs.Tests.{is-below}
 
 shorter : {A : Type 0} (p : A → Bool) (xs : List A) → length (filter p xs) ≤ length xs
 shorter p [] = omega arith

@@ -7,10 +7,10 @@ use Rattle.nq_base.specs.declared.Mode.{Mode}
 use Rattle.nq_base.specs.declared.Row.{Row}
 use Rattle.nq_model.specs.Ask.{conflicts, marked, mode_conflicts}
 use Rattle.nq_model.specs.Table.{caches, find_row, is_row_of, drop_row, put_row}
-use Rattle.walk_client.proofs.ClientMoves.{some-same, none-some}
-use Rattle.walk_server.proofs.RowChanges.{mark, mark-is, of-key, has-key, find-put, find-marked, find-row-dropped, find-other-dropped}
-use Rattle.walk_server.proofs.Rows.{found-row, same-number, number-same}
-use Rattle.walk_server.proofs.Tests.{is-other}
+use Rattle.walk_steps.proofs.ClientMoves.{some-same, none-some}
+use Rattle.walk_steps.proofs.RowChanges.{mark, mark-is, of-key, has-key, find-put, find-marked, find-row-dropped, find-other-dropped}
+use Rattle.walk_steps.proofs.Rows.{found-row, same-number, number-same}
+use Rattle.walk_steps.proofs.Tests.{is-other}
 use Rattle.law_deliveries.proofs.Energy.{any_below, any-more, any-here, any-none, is_sharing, shares_file, is_shared_in, is_doomed, doomed_at, KeepSharing, IsTame}
 
 -- ---- tests

@@ -24,14 +24,14 @@ use Rattle.nq_model.specs.Stepped.{most_sends}
 use Rattle.nq_model.specs.Table.{is_writing, find_row}
 use Rattle.nq_model.specs.World.{Head, World, from_host, sending_host, run}
 use Rattle.nq_promises.specs.Bounds.{KeepsBounds}
-use Rattle.law_packets.proofs.WorldSends.{events-send-few}
-use Rattle.walk_client.proofs.ClientMoves.{some-same, none-some}
-use Rattle.walk_client.proofs.StepCases.{heard-cases}
-use Rattle.walk_run.proofs.Packets.{In, in-get, told-same, Asked}
-use Rattle.walk_run.proofs.ServerSays.{IsSaid, said_reply, said_error, said_notice}
-use Rattle.walk_run.proofs.Worlds.{IsAt, run-holds, received-said}
-use Rattle.walk_server.proofs.RowChanges.{own-key}
-use Rattle.walk_server.proofs.Tests.{there-is}
+use Rattle.law_bounds.proofs.WorldSends.{events-send-few}
+use Rattle.walk_steps.proofs.ClientMoves.{some-same, none-some}
+use Rattle.walk_steps.proofs.StepCases.{heard-cases}
+use Rattle.walk_steps.proofs.Packets.{In, in-get, told-same, Asked}
+use Rattle.walk_steps.proofs.ServerSays.{IsSaid, said_reply, said_error, said_notice}
+use Rattle.walk_steps.proofs.Worlds.{IsAt, run-holds, received-said}
+use Rattle.walk_steps.proofs.RowChanges.{own-key}
+use Rattle.walk_steps.proofs.Tests.{there-is}
 use Rattle.law_calm.specs.Efforts.{is_idle}
 use Rattle.law_calm.specs.NamedRows.{by_notice, by_vacated}
 use Rattle.law_calm.specs.SendsAgain.{is_cancelled}

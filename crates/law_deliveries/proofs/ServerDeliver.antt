@@ -19,8 +19,8 @@ use Rattle.nq_model.specs.Server.{Server, ServerStep, to_host}
 use Rattle.nq_model.specs.ServerStep.{receive}
 use Rattle.nq_model.specs.Table.{find_row}
 use Rattle.nq_model.specs.World.{World, from_host, after_server, deliver, step}
-use Rattle.walk_run.proofs.Packets.{not-both, message-same}
-use Rattle.walk_server.proofs.Rows.{same-number}
+use Rattle.walk_steps.proofs.Packets.{not-both, message-same}
+use Rattle.walk_steps.proofs.Rows.{same-number}
 use Rattle.law_deliveries.proofs.Asked.{is_taken, Vacates, vacated-request, request-hears}
 use Rattle.law_deliveries.proofs.AskSteps.{Outcome, falls, goes_on}
 use Rattle.law_deliveries.proofs.ClientSteps.{sum_of}

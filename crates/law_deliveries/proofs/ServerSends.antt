@@ -14,10 +14,10 @@ use Rattle.nq_model.specs.Server.{Server, ServerStep, to_host}
 use Rattle.nq_model.specs.ServerStep.{receive}
 use Rattle.nq_model.specs.Table.{find_row, same_tag}
 use Rattle.nq_model.specs.World.{World, from_host, after_server, sending_host, deliver, deliver_to, step}
-use Rattle.walk_run.proofs.Packets.{In, in-get}
-use Rattle.walk_run.proofs.ServerSays.{IsSaid, said_reply, said_error, said_notice}
-use Rattle.walk_run.proofs.Worlds.{received-said}
-use Rattle.walk_server.proofs.Rows.{number-same}
+use Rattle.walk_steps.proofs.Packets.{In, in-get}
+use Rattle.walk_steps.proofs.ServerSays.{IsSaid, said_reply, said_error, said_notice}
+use Rattle.walk_steps.proofs.Worlds.{received-said}
+use Rattle.walk_steps.proofs.Rows.{number-same}
 use Rattle.law_deliveries.proofs.Asked.{is_taken, writes_for}
 use Rattle.law_deliveries.proofs.Facts.{wants_in, IsNamed, Facts}
 use Rattle.law_deliveries.proofs.Forms.{IsFormed, to_client, NoticeIsGood, PairIsGood, notice_weight, message_weight, item_weight, weight_of}

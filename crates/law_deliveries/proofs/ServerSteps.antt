@@ -20,10 +20,10 @@ use Rattle.nq_model.specs.Server.{Server, ServerStep}
 use Rattle.nq_model.specs.ServerStep.{access_of, access_of_mode}
 use Rattle.nq_model.specs.Table.{Table, caches, is_writing, find_row, drop_row, put_row, with_rows, after_draw, same_tag}
 use Rattle.nq_model.specs.World.{World}
-use Rattle.walk_client.proofs.ClientMoves.{some-same, none-some}
-use Rattle.walk_server.proofs.AskCases.{IsGranted, shares_again, begins_sharing, begins_caching, renews_row, own_in, clash_in, has_room, asks}
-use Rattle.walk_server.proofs.RowChanges.{find-row-dropped, find-other-dropped, is-clash}
-use Rattle.walk_server.proofs.Rows.{found-row, same-number, number-same, find-passes}
+use Rattle.walk_steps.proofs.ClientMoves.{some-same, none-some}
+use Rattle.walk_steps.proofs.AskCases.{IsGranted, shares_again, begins_sharing, begins_caching, renews_row, own_in, clash_in, has_room, asks}
+use Rattle.walk_steps.proofs.RowChanges.{find-row-dropped, find-other-dropped, is-clash}
+use Rattle.walk_steps.proofs.Rows.{found-row, same-number, number-same, find-passes}
 use Rattle.law_deliveries.proofs.Asked.{is_taken, rows_without, question_of, writes_for, IsOf, question-is, IsSame, same-question, same-after, Hears, mute, asked, Vacates}
 use Rattle.law_deliveries.proofs.AskSteps.{StillTaken, Outcome, falls, goes_on, outcome-self, OwnRow, caching, sharing, own-asks, new-asks}
 use Rattle.law_deliveries.proofs.Energy.{energy, wish, tame-energy, doomed-goes}

@@ -20,13 +20,13 @@ use Rattle.nq_model.specs.Message.{Message, Packet, reply, asker, Datagram, requ
 use Rattle.nq_model.specs.Server.{Server, to_host, says, quiet, drops, notices}
 use Rattle.nq_model.specs.ServerStep.{to_read, attaches, vacates, tells_later, serves, leases, receive}
 use Rattle.nq_model.specs.Table.{Table, caches, is_writing, greater_mode}
-use Rattle.walk_client.proofs.ClientMoves.{none-some}
-use Rattle.walk_run.proofs.Packets.{In, in-append, told-same, reply-same}
-use Rattle.walk_run.proofs.ServerSays.{notices-no-reply, verdict-inc, plain-inc}
-use Rattle.walk_server.proofs.AskCases.{IsGranted, shares_again, begins_sharing, begins_caching, renews_row}
-use Rattle.walk_server.proofs.ServerCases.{server-hears}
+use Rattle.walk_steps.proofs.ClientMoves.{none-some}
+use Rattle.walk_steps.proofs.Packets.{In, in-append, told-same, reply-same}
+use Rattle.walk_steps.proofs.ServerSays.{notices-no-reply, verdict-inc, plain-inc}
+use Rattle.walk_steps.proofs.AskCases.{IsGranted, shares_again, begins_sharing, begins_caching, renews_row}
+use Rattle.walk_steps.proofs.ServerCases.{server-hears}
 use Rattle.law_calm.specs.Efforts.{is_idle}
-use Rattle.walk_server.proofs.ServerOutcomes.{error-no-reply, IsPlain, unattached, attached_again, not_yet, no_entry, entry, no_attributes, attributes, no_file, no_block, decided_again, is_old}
+use Rattle.walk_steps.proofs.ServerOutcomes.{error-no-reply, IsPlain, unattached, attached_again, not_yet, no_entry, entry, no_attributes, attributes, no_file, no_block, decided_again, is_old}
 
 -- no request for a lease to write
 abbrev pub NoWriter : Request → Type 0

@@ -14,10 +14,10 @@ use Rattle.nq_model.specs.Message.{Message, Packet, call, reply, error, asker, d
 use Rattle.nq_model.specs.Server.{ServerStep, to_host, quiet}
 use Rattle.nq_model.specs.ServerStep.{receive, tick, crash, opens, ends_writing}
 use Rattle.nq_model.specs.World.{Head, World, from_host, after_server, after_client, at_client, after_hearing, sending_host, deliver_to_client, deliver_to, deliver, step, start, run}
-use Rattle.walk_run.proofs.Mail.{none-to-host}
-use Rattle.walk_run.proofs.Packets.{In, in-left, in-append, in-get, Asked, Told}
-use Rattle.walk_run.proofs.Worlds.{IsAt, Holds, to-server, to-told, run-holds}
-use Rattle.walk_server.proofs.ServerCases.{server-ticks}
+use Rattle.walk_steps.proofs.Mail.{none-to-host}
+use Rattle.walk_steps.proofs.Packets.{In, in-left, in-append, in-get, Asked, Told}
+use Rattle.walk_steps.proofs.Worlds.{IsAt, Holds, to-server, to-told, run-holds}
+use Rattle.walk_steps.proofs.ServerCases.{server-ticks}
 use Rattle.law_deliveries.proofs.UsefulReplies.{IsReplyOf, receive-tells}
 
 -- a reply to a host answers a request that the host sent

@@ -10,9 +10,9 @@ use Rattle.nq_promises.specs.EndingsComeLate.{boot_opened, was_caching, IsLate, 
 use Rattle.walk_endings.proofs.LateEndings.{late-end, long-wait, all-over}
 use Rattle.walk_endings.proofs.LogRuns.{Alone as ServerAlone, LogRuns, IsShortGrant, runs-start, runs-receive, runs-tick, runs-crash}
 use Rattle.walk_endings.proofs.UntimedSteps.{call-untimed, tick-untimed, hear-untimed, restart-untimed}
-use Rattle.walk_leases.proofs.Runs.{Served}
-use Rattle.law_leases.proofs.LeaseIntervals.{run-runs}
-use Rattle.walk_leases.proofs.ServerLives.{HasServed}
+use Rattle.walk_steps.proofs.Runs.{Served}
+use Rattle.law_bounds.proofs.LeaseIntervals.{run-runs}
+use Rattle.walk_steps.proofs.ServerLives.{HasServed}
 use Rattle.nq_promises.specs.Bounds.{KeepsBounds}
 use Rattle.nq_model.specs.Client.{ClientStep}
 use Rattle.nq_model.specs.ClientStep.{client_call, client_tick, restart}
@@ -27,21 +27,21 @@ use Rattle.nq_model.specs.ServerStep.{boot, is_over, attaches, vacates, tells_la
 use Rattle.nq_model.specs.Skew.{IsWithinSkew}
 use Rattle.nq_model.specs.Table.{Table, caches, is_writing, find_row, with_rows, same_who}
 use Rattle.nq_model.specs.World.{Head, World, after_server, after_client, sending_host, start, run}
-use Rattle.walk_run.proofs.RunCases.{Keeps, run-keeps}
-use Rattle.walk_run.proofs.Worlds.{run-holds}
-use Rattle.walk_tables.proofs.LogFits.{timed-append}
-use Rattle.walk_tables.proofs.LogGrants.{fence-opened}
-use Rattle.walk_tables.proofs.LogMoves.{timed}
-use Rattle.walk_tables.proofs.LogRows.{RowsGranted, RowsHear}
-use Rattle.walk_tables.proofs.LogTimes.{HeardAll, IsHeard, ToldBoot, is_boot}
-use Rattle.walk_tables.proofs.ServerNumbers.{Waits, PhaseWaits}
-use Rattle.walk_tables.proofs.ServerTables.{StandingFits}
-use Rattle.walk_server.proofs.Modes.{writing-caches}
-use Rattle.walk_server.proofs.RowChanges.{HasUniqueKeys, found-any, found-kept, unique-filtered}
-use Rattle.walk_server.proofs.Rows.{find-passes, same-number}
-use Rattle.walk_server.proofs.ServerCases.{server-hears, server-ticks}
-use Rattle.walk_server.proofs.ServerOutcomes.{ServerCases}
-use Rattle.walk_server.proofs.TableFits.{TableFits}
+use Rattle.walk_steps.proofs.RunCases.{Keeps, run-keeps}
+use Rattle.walk_steps.proofs.Worlds.{run-holds}
+use Rattle.walk_steps.proofs.LogFits.{timed-append}
+use Rattle.walk_steps.proofs.LogGrants.{fence-opened}
+use Rattle.walk_steps.proofs.LogMoves.{timed}
+use Rattle.walk_steps.proofs.LogRows.{RowsGranted, RowsHear}
+use Rattle.walk_steps.proofs.LogTimes.{HeardAll, IsHeard, ToldBoot, is_boot}
+use Rattle.walk_steps.proofs.ServerNumbers.{Waits, PhaseWaits}
+use Rattle.walk_steps.proofs.ServerTables.{StandingFits}
+use Rattle.walk_steps.proofs.Modes.{writing-caches}
+use Rattle.walk_steps.proofs.RowChanges.{HasUniqueKeys, found-any, found-kept, unique-filtered}
+use Rattle.walk_steps.proofs.Rows.{find-passes, same-number}
+use Rattle.walk_steps.proofs.ServerCases.{server-hears, server-ticks}
+use Rattle.walk_steps.proofs.ServerOutcomes.{ServerCases}
+use Rattle.walk_steps.proofs.TableFits.{TableFits}
 
 -- what is kept
 pub record Late (w : World) : Type 0 where

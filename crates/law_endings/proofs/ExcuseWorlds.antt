@@ -6,7 +6,7 @@ use Rattle.nq_base.specs.declared.Party.{Party}
 use Rattle.nq_base.specs.declared.Push.{Push}
 use Rattle.nq_base.specs.declared.Who.{Who}
 use Rattle.walk_chains.proofs.ChainFacts.{ChainFits}
-use Rattle.walk_client.proofs.ClientMoves.{none-some}
+use Rattle.walk_steps.proofs.ClientMoves.{none-some}
 use Rattle.walk_endings.proofs.BoundOrExcused.{ClientExcused, begun-holding, ended-excused, other-excused}
 use Rattle.walk_endings.proofs.RunFacts.{live-bound, hears-fit}
 use Rattle.walk_endings.proofs.ServerExcuses.{receive-excused, tick-excused, crash-excused}
@@ -16,9 +16,9 @@ use Rattle.walk_endings.proofs.HoldingCalls.{call-keeps, tick-keeps, hear-keeps,
 use Rattle.walk_endings.proofs.HoldingSteps.{Between}
 use Rattle.walk_endings.proofs.LogRuns.{Alone as ServerAlone, LogRuns, runs-start, runs-receive, runs-tick, runs-crash}
 use Rattle.walk_endings.proofs.ServerPlain.{receive-plain, tick-plain, crash-plain}
-use Rattle.walk_leases.proofs.Runs.{Runs, Served}
-use Rattle.law_leases.proofs.LeaseIntervals.{run-runs, hearing}
-use Rattle.walk_leases.proofs.ServerHears.{hears-effect}
+use Rattle.walk_steps.proofs.Runs.{Runs, Served}
+use Rattle.law_bounds.proofs.LeaseIntervals.{run-runs, hearing}
+use Rattle.walk_steps.proofs.ServerHears.{hears-effect}
 use Rattle.nq_promises.specs.Bounds.{KeepsBounds}
 use Rattle.nq_model.specs.Client.{Client, ClientStep, begun}
 use Rattle.nq_model.specs.ClientStep.{client_call, client_tick, restart, starts, fresh_client, attached_client}
@@ -29,13 +29,13 @@ use Rattle.nq_model.specs.Server.{Server, ServerStep}
 use Rattle.nq_model.specs.ServerStep.{receive, tick, crash}
 use Rattle.nq_model.specs.Skew.{IsWithinSkew}
 use Rattle.nq_model.specs.World.{Head, World, after_server, after_client, sending_host, start, run}
-use Rattle.walk_run.proofs.RunCases.{Keeps, run-keeps, OfClients, clients-after}
-use Rattle.walk_run.proofs.ClientSteps.{KnowsOf}
-use Rattle.walk_run.proofs.Packets.{In, in-get, Told}
-use Rattle.walk_leases.proofs.WorldClocks.{StillIf, call-still, tick-still, hear-still}
-use Rattle.walk_run.proofs.Worlds.{IsAt, Holds, run-holds, to-told, first-client}
-use Rattle.walk_tables.proofs.LogFits.{timed-append}
-use Rattle.walk_tables.proofs.LogMoves.{timed}
+use Rattle.walk_steps.proofs.RunCases.{Keeps, run-keeps, OfClients, clients-after}
+use Rattle.walk_steps.proofs.ClientSteps.{KnowsOf}
+use Rattle.walk_steps.proofs.Packets.{In, in-get, Told}
+use Rattle.walk_steps.proofs.WorldClocks.{StillIf, call-still, tick-still, hear-still}
+use Rattle.walk_steps.proofs.Worlds.{IsAt, Holds, run-holds, to-told, first-client}
+use Rattle.walk_steps.proofs.LogFits.{timed-append}
+use Rattle.walk_steps.proofs.LogMoves.{timed}
 
 -- chained leases know their files in every run
 abbrev pub ChainsInEveryRun : Type 0

@@ -2,7 +2,7 @@
 use Rattle.std.proofs.Common.{◌≡◌, ◌⊎◌, ℕ, ◌==◌, Bool, true, false, List, [], ◌∷◌, Option, Some, None, refl, sym, subst, ap, ◌∙◌, inl, inr}
 use Rattle.nq_base.specs.declared.Mode.TheVariants.{Writing}
 use Rattle.nq_base.specs.declared.Push.{Push}
-use Rattle.walk_client.proofs.ClientMoves.{some-same, none-some}
+use Rattle.walk_steps.proofs.ClientMoves.{some-same, none-some}
 use Rattle.law_endings.proofs.ExcuseWorlds.{ChainsInEveryRun, run-excused}
 use Rattle.nq_promises.specs.LossesAreExcused.{LossesAreExcused, IsUnsaved, listed, under_way, IsBoundAt, IsExcusedLoss, UnsavedFilesAreBoundOrExcused}
 use Rattle.walk_endings.proofs.BoundRows.{bound-fitting}
@@ -15,9 +15,9 @@ use Rattle.nq_model.specs.Hear.{loss_entry}
 use Rattle.nq_model.specs.LeaseInterval.{claim_of, HasFitting}
 use Rattle.nq_model.specs.Server.{standing}
 use Rattle.nq_model.specs.World.{World, run}
-use Rattle.walk_run.proofs.Packets.{In, in-get}
-use Rattle.walk_server.proofs.Rows.{same-number}
-use Rattle.walk_server.proofs.Tests.{is-other}
+use Rattle.walk_steps.proofs.Packets.{In, in-get}
+use Rattle.walk_steps.proofs.Rows.{same-number}
+use Rattle.walk_steps.proofs.Tests.{is-other}
 
 pub losses-excused : ChainsInEveryRun → LossesAreExcused
 losses-excused chains most head events bounds within = cut-excused (run head events).journal (run-excused chains most head events bounds within).cut

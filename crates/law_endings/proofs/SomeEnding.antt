@@ -6,13 +6,13 @@ use Rattle.nq_base.specs.declared.Event.{Event}
 use Rattle.nq_promises.specs.EndingsComeLate.{was_caching}
 use Rattle.law_endings.proofs.SomeLost.{delayed, rounds}
 use Rattle.law_endings.specs.EndingsMet.{is_silent_end, ends_recovery, EndsSometime}
-use Rattle.walk_run.proofs.NoCrash.{one-first, no-crash-within, no-crash-after}
+use Rattle.walk_steps.proofs.NoCrash.{one-first, no-crash-within, no-crash-after}
 use Rattle.nq_promises.specs.Bounds.{BootsWithin}
 use Rattle.nq_model.proofs.SkewTest.{skew-test-is-sound}
 use Rattle.nq_model.specs.Skew.{is_within_skew}
 use Rattle.nq_model.specs.World.{Head, run}
 use Rattle.nq_model.specs.ServerStep.{opens}
-use Rattle.walk_run.proofs.GivenRuns.{given-run}
+use Rattle.walk_steps.proofs.GivenRuns.{given-run}
 
 -- one host that wants terms of five ticks, and one file of one block
 abbrev one-host : Head

@@ -6,15 +6,15 @@ use Rattle.nq_base.specs.Block.{zeros}
 use Rattle.nq_base.specs.declared.Call.{Call}
 use Rattle.nq_base.specs.declared.Event.{Event}
 use Rattle.law_endings.specs.ExcusesMet.{tells_loss, IsLostSometime}
-use Rattle.walk_run.proofs.NoCrash.{no-crash-within}
+use Rattle.walk_steps.proofs.NoCrash.{no-crash-within}
 use Rattle.nq_promises.specs.Bounds.{BootsWithin}
 use Rattle.nq_model.proofs.SkewTest.{skew-test-is-sound}
 use Rattle.nq_model.specs.Client.{Client, is_clean}
 use Rattle.nq_model.specs.Skew.{is_within_skew}
 use Rattle.nq_model.specs.World.{Head, run}
 use Rattle.nq_model.specs.ClientStep.{attached_client}
-use Rattle.walk_server.proofs.Tests.{some-is}
-use Rattle.walk_run.proofs.GivenRuns.{given-run}
+use Rattle.walk_steps.proofs.Tests.{some-is}
+use Rattle.walk_steps.proofs.GivenRuns.{given-run}
 
 -- one host that wants terms of five ticks, and one file of one block
 abbrev pub one-host : Head

@@ -9,9 +9,9 @@ use Rattle.nq_base.specs.declared.Reply.{Reply}
 use Rattle.nq_base.specs.declared.Request.{Request}
 use Rattle.nq_base.specs.declared.Tag.{Tag}
 use Rattle.nq_base.specs.declared.Who.{Who}
-use Rattle.walk_client.proofs.ClientCases.{Core, core_of, Closed, Both}
-use Rattle.walk_client.proofs.ClientMoves.{some-same, none-some}
-use Rattle.walk_client.proofs.ClientWalk.{Replying, reply-keeps, notice-keeps, call-keeps, tick-keeps}
+use Rattle.walk_steps.proofs.ClientCases.{Core, core_of, Closed, Both}
+use Rattle.walk_steps.proofs.ClientMoves.{some-same, none-some}
+use Rattle.walk_steps.proofs.ClientWalk.{Replying, reply-keeps, notice-keeps, call-keeps, tick-keeps}
 use Rattle.walk_fates.proofs.ServerTells.{Tells, later, decided, Moves, same_lines, attaches_one, decides_one, Decides, Attaches, ServerTells}
 use Rattle.nq_model.specs.Client.{Client, ClientStep, begun, Ticket, lease_on}
 use Rattle.nq_model.specs.ClientStep.{client_call, client_tick, at_time, restart, starts, fresh_client}
@@ -22,13 +22,13 @@ use Rattle.nq_model.specs.Message.{Message, Packet, call, reply, error, sequence
 use Rattle.nq_model.specs.Server.{Server, ServerStep, to_host}
 use Rattle.nq_model.specs.Table.{same_who}
 use Rattle.nq_model.specs.World.{from_host}
-use Rattle.walk_run.proofs.Sequences.{Seqs}
-use Rattle.walk_run.proofs.Mail.{packets_with, packets-last, spent-mail, cancelled-fewer, same-fewer}
-use Rattle.walk_run.proofs.Packets.{In, in-append, Asked, Told, not-both, Mail, IsFewer}
-use Rattle.walk_run.proofs.ServerKnows.{NoneHeard, NoneGiven}
-use Rattle.walk_run.proofs.TagFacts.{told-before}
-use Rattle.walk_run.proofs.Worlds.{Going, going-closed, IsAt, begun-going, timed-going, given-by}
-use Rattle.walk_server.proofs.Rows.{choice, same-number, number-same}
+use Rattle.walk_steps.proofs.Sequences.{Seqs}
+use Rattle.walk_steps.proofs.Mail.{packets_with, packets-last, spent-mail, cancelled-fewer, same-fewer}
+use Rattle.walk_steps.proofs.Packets.{In, in-append, Asked, Told, not-both, Mail, IsFewer}
+use Rattle.walk_steps.proofs.ServerKnows.{NoneHeard, NoneGiven}
+use Rattle.walk_steps.proofs.TagFacts.{told-before}
+use Rattle.walk_steps.proofs.Worlds.{Going, going-closed, IsAt, begun-going, timed-going, given-by}
+use Rattle.walk_steps.proofs.Rows.{choice, same-number, number-same}
 
 pub record Answered (line : HostRow) (who : Who) (seq : ℕ) (ticket : Option Ticket) (ps : List Packet) : Type 0 where
   -- some sequence was drawn, or the first one is next

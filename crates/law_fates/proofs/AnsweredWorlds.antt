@@ -4,11 +4,11 @@ use Rattle.nq_base.specs.declared.Event.{Event}
 use Rattle.nq_base.specs.declared.Party.{Party}
 use Rattle.nq_base.specs.declared.Request.{Request}
 use Rattle.nq_base.specs.declared.Row.{Row}
-use Rattle.walk_client.proofs.ClientMoves.{none-some}
+use Rattle.walk_steps.proofs.ClientMoves.{none-some}
 use Rattle.law_fates.proofs.Answered.{Answered, AnsweredOf, call-answers, tick-answers, restart-answers, hear-answers, other-answers, server-answers}
 use Rattle.walk_fates.proofs.ServerTells.{none-quiet, one-quiet, ServerTells, same_lines, hears-tells}
-use Rattle.walk_leases.proofs.Runs.{Runs}
-use Rattle.law_leases.proofs.LeaseIntervals.{run-runs}
+use Rattle.walk_steps.proofs.Runs.{Runs}
+use Rattle.law_bounds.proofs.LeaseIntervals.{run-runs}
 use Rattle.nq_promises.specs.Bounds.{KeepsBounds}
 use Rattle.nq_model.specs.Client.{Client, ClientStep}
 use Rattle.nq_model.specs.ClientStep.{client_call, client_tick, restart, attached_client, fresh_client}
@@ -19,14 +19,14 @@ use Rattle.nq_model.specs.ServerStep.{receive, tick, crash, boot, opens, ends_wr
 use Rattle.nq_model.specs.Skew.{IsWithinSkew}
 use Rattle.nq_model.specs.Table.{with_rows}
 use Rattle.nq_model.specs.World.{Head, World, after_server, after_client, sending_host, start, run}
-use Rattle.law_requests.proofs.WorldSequences.{Draws, run-draws}
-use Rattle.walk_run.proofs.RunCases.{Keeps, run-keeps, OfClients, clients-after}
-use Rattle.walk_leases.proofs.KnownWorlds.{first-there, first-line}
-use Rattle.walk_run.proofs.Packets.{In, in-get}
-use Rattle.walk_run.proofs.Worlds.{Holds, to-server, to-told, first-client, run-holds}
-use Rattle.walk_tables.proofs.ServerFacts.{fence-lines}
-use Rattle.walk_server.proofs.KeptChanges.{booted-line}
-use Rattle.walk_server.proofs.ServerCases.{server-ticks}
+use Rattle.law_bounds.proofs.WorldSequences.{Draws, run-draws}
+use Rattle.walk_steps.proofs.RunCases.{Keeps, run-keeps, OfClients, clients-after}
+use Rattle.walk_steps.proofs.KnownWorlds.{first-there, first-line}
+use Rattle.walk_steps.proofs.Packets.{In, in-get}
+use Rattle.walk_steps.proofs.Worlds.{Holds, to-server, to-told, first-client, run-holds}
+use Rattle.walk_steps.proofs.ServerFacts.{fence-lines}
+use Rattle.walk_steps.proofs.KeptChanges.{booted-line}
+use Rattle.walk_steps.proofs.ServerCases.{server-ticks}
 
 -- ---- the server's other steps
 

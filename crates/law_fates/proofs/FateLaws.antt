@@ -18,8 +18,8 @@ use Rattle.nq_model.specs.Client.{Client}
 use Rattle.nq_model.specs.Journal.{Exists, AtEachPlace, Covers, IsStored, IsLost}
 use Rattle.nq_model.specs.JournalTest.{exists, covers}
 use Rattle.nq_model.specs.World.{World, run}
-use Rattle.walk_run.proofs.Members.{in-exists, each-in}
-use Rattle.walk_run.proofs.Packets.{In}
+use Rattle.walk_steps.proofs.Members.{in-exists, each-in}
+use Rattle.walk_steps.proofs.Packets.{In}
 
 pub accounted : AccountedInEveryRun
 accounted most head events b within = accounts (run head events).journal (writes-fit most head events b within).journal

@@ -8,7 +8,7 @@ use Rattle.nq_base.specs.declared.Event.{Event}
 use Rattle.nq_base.specs.declared.Who.{Who}
 use Rattle.law_fates.proofs.AnsweredWorlds.{received-tells, tick-tells, crash-tells}
 use Rattle.law_fates.proofs.WorldWrites.{hear-same, replies-known, writes-fit}
-use Rattle.law_leases.proofs.LeaseIntervals.{run-runs}
+use Rattle.law_bounds.proofs.LeaseIntervals.{run-runs}
 use Rattle.nq_model.proofs.Lists.{exists-left, exists-right}
 use Rattle.nq_model.specs.Client.{Client, ClientStep, begun}
 use Rattle.nq_model.specs.ClientStep.{client_call, client_tick, restart, starts, fresh_client, next_incarnation}
@@ -23,12 +23,12 @@ use Rattle.nq_promises.specs.Bounds.{KeepsBounds}
 use Rattle.walk_fates.proofs.ClientFates.{IsOwn, Mid}
 use Rattle.walk_fates.proofs.ServerTells.{IsQuiet, Effects, without, goes_through, pushes, Moves, same_lines, attaches_one, decides_one, ServerTells}
 use Rattle.walk_fates.proofs.StepFates.{mid-begins, mid-hears, mid-call-step, mid-tick-step}
-use Rattle.walk_client.proofs.ClientMoves.{some-same, none-some}
-use Rattle.walk_leases.proofs.WorldClocks.{call-still, tick-still}
-use Rattle.walk_run.proofs.Packets.{In, Told, in-get}
-use Rattle.walk_run.proofs.RunCases.{client_at, Keeps, run-keeps}
-use Rattle.walk_run.proofs.Worlds.{get-set-other, run-holds, to-told}
-use Rattle.walk_server.proofs.Rows.{same-number, number-same}
+use Rattle.walk_steps.proofs.ClientMoves.{some-same, none-some}
+use Rattle.walk_steps.proofs.WorldClocks.{call-still, tick-still}
+use Rattle.walk_steps.proofs.Packets.{In, Told, in-get}
+use Rattle.walk_steps.proofs.RunCases.{client_at, Keeps, run-keeps}
+use Rattle.walk_steps.proofs.Worlds.{get-set-other, run-holds, to-told}
+use Rattle.walk_steps.proofs.Rows.{same-number, number-same}
 
 -- ---- what is so of each place of a journal
 

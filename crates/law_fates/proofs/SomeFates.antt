@@ -11,7 +11,7 @@ use Rattle.nq_base.specs.declared.Told.{Told}
 use Rattle.nq_base.specs.declared.Who.{Who}
 use Rattle.nq_promises.specs.WritesAreAccounted.{Encloses, UnderWayEncloses, IsAtItsClient, IsStillUnsaved}
 use Rattle.law_fates.specs.Met.{AtSomePlace, ShowsEachFate, HasEachFate}
-use Rattle.walk_run.proofs.NoCrash.{no-crash-within}
+use Rattle.walk_steps.proofs.NoCrash.{no-crash-within}
 use Rattle.nq_model.proofs.SkewTest.{skew-test-is-sound}
 use Rattle.nq_model.specs.Client.{Client}
 use Rattle.nq_model.specs.ClientStep.{fresh_client}
@@ -22,7 +22,7 @@ use Rattle.nq_model.proofs.JournalTests.{tells_exists, tells_covers, tells_store
 use Rattle.nq_model.proofs.Telling.{not_told}
 use Rattle.nq_model.specs.ServerStep.{boot, at_time as at_server_time}
 use Rattle.nq_model.specs.World.{Head, run}
-use Rattle.walk_run.proofs.GivenRuns.{given-run}
+use Rattle.walk_steps.proofs.GivenRuns.{given-run}
 
 -- one host, one file of one block, and short terms
 abbrev one-host : Head

@@ -11,8 +11,8 @@ use Rattle.nq_base.specs.declared.PushBase.{PushBase}
 use Rattle.nq_base.specs.declared.Reply.{Reply}
 use Rattle.nq_base.specs.declared.Request.{Request}
 use Rattle.nq_base.specs.declared.Who.{Who}
-use Rattle.walk_client.proofs.ClientFacts.{push_in}
-use Rattle.walk_client.proofs.ClientMoves.{some-same, none-some, attached-with-ticket}
+use Rattle.walk_steps.proofs.ClientFacts.{push_in}
+use Rattle.walk_steps.proofs.ClientMoves.{some-same, none-some, attached-with-ticket}
 use Rattle.law_fates.proofs.AnsweredWorlds.{AllAnswered, run-answered, server-step, received-tells, tick-tells, crash-tells}
 use Rattle.walk_fates.proofs.ClientFates.{IsOwn, Mid}
 use Rattle.walk_fates.proofs.FactMoves.{IsOfOther, behind-more, facts-others, facts-packets, facts-sends, journal-more, journal-quiets, journal-quiet}
@@ -21,7 +21,7 @@ use Rattle.walk_fates.proofs.JournalMoves.{covers-before}
 use Rattle.walk_fates.proofs.ServerTells.{Effects, without, goes_through, pushes, Decides, Moves, same_lines, attaches_one, decides_one, ServerTells}
 use Rattle.walk_fates.proofs.StepFates.{Replies, mid-begins, mid-hears, mid-call-step, mid-tick-step}
 use Rattle.walk_fates.proofs.WritesFit.{JournalFits, HaveWrites, IsOpenPush, Facts, CoversNumber, IsClear, WritesFit}
-use Rattle.law_leases.proofs.LeaseIntervals.{run-runs}
+use Rattle.law_bounds.proofs.LeaseIntervals.{run-runs}
 use Rattle.nq_promises.specs.Bounds.{KeepsBounds}
 use Rattle.nq_model.specs.Client.{Client, ClientStep, attaching, pushing, Ticket, begun}
 use Rattle.nq_model.specs.ClientStep.{client_call, client_tick, restart, starts, next_incarnation, attached_client, fresh_client}
@@ -31,18 +31,18 @@ use Rattle.nq_model.specs.Message.{Message, Packet, call, reply, sequence_of}
 use Rattle.nq_model.specs.Server.{ServerStep}
 use Rattle.nq_model.specs.Skew.{IsWithinSkew}
 use Rattle.nq_model.specs.World.{Head, World, from_host, after_server, after_client, start, run}
-use Rattle.walk_run.proofs.OpenAt.{OneOpenAt}
-use Rattle.law_requests.proofs.OpenRequests.{run-opens}
-use Rattle.law_requests.proofs.WorldSequences.{run-draws}
-use Rattle.walk_run.proofs.Sequences.{asked-before-server}
-use Rattle.walk_run.proofs.RunCases.{client_at, Keeps, run-keeps, OfClients, clients-after}
-use Rattle.walk_run.proofs.HostLine.{IsSettled}
-use Rattle.walk_leases.proofs.KnownWorlds.{Known, first-there, first-line}
-use Rattle.walk_run.proofs.Mail.{packets_with, other-asked}
-use Rattle.walk_run.proofs.Packets.{In, in-get, Asked, Told, Mail}
-use Rattle.walk_run.proofs.ServerSays.{AllSaid}
-use Rattle.walk_leases.proofs.WorldClocks.{StillIf, call-still, tick-still, hear-still}
-use Rattle.walk_run.proofs.Worlds.{IsAt, Holds, to-told, first-client, run-holds, received-said, tick-said, crash-said}
+use Rattle.walk_steps.proofs.OpenAt.{OneOpenAt}
+use Rattle.law_bounds.proofs.OpenRequests.{run-opens}
+use Rattle.law_bounds.proofs.WorldSequences.{run-draws}
+use Rattle.walk_steps.proofs.Sequences.{asked-before-server}
+use Rattle.walk_steps.proofs.RunCases.{client_at, Keeps, run-keeps, OfClients, clients-after}
+use Rattle.walk_steps.proofs.HostLine.{IsSettled}
+use Rattle.walk_steps.proofs.KnownWorlds.{Known, first-there, first-line}
+use Rattle.walk_steps.proofs.Mail.{packets_with, other-asked}
+use Rattle.walk_steps.proofs.Packets.{In, in-get, Asked, Told, Mail}
+use Rattle.walk_steps.proofs.ServerSays.{AllSaid}
+use Rattle.walk_steps.proofs.WorldClocks.{StillIf, call-still, tick-still, hear-still}
+use Rattle.walk_steps.proofs.Worlds.{IsAt, Holds, to-told, first-client, run-holds, received-said, tick-said, crash-said}
 
 -- of each client, and of the journal
 abbrev pub WritesAt : ℕ → Client → World → Type 0

@@ -4,8 +4,8 @@ use Rattle.std.specs.List.{find, filter}
 use Rattle.std.specs.Prelude.{slice_get, slice_set}
 use Rattle.nq_model.specs.Journal.{Each}
 use Rattle.nq_model.specs.Profile.{at_most}
-use Rattle.walk_run.proofs.Members.{each-in, in-filtered, find-in}
-use Rattle.walk_run.proofs.Packets.{In, in-get}
+use Rattle.walk_steps.proofs.Members.{each-in, in-filtered, find-in}
+use Rattle.walk_steps.proofs.Packets.{In, in-get}
 
 module _ {X : Type 0} (F : X → Type 0) where
   pub each-at : (xs : List X) (x : X) → In xs x → Each F xs → F x

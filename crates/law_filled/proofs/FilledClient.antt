@@ -19,13 +19,13 @@ use Rattle.nq_model.specs.Profile.{most_clean}
 use Rattle.nq_model.specs.Send.{sends_request, after_seq, after_number, takes_push, sends_write, gives_up, send_next}
 use Rattle.nq_model.specs.Settle.{answers, names_losses, reads_cached, after_read, looked_up, touched, reads_clean_in, clean_after_read, overwritten, overwritten_at, with_write, delays, after_write, marks_written, settle}
 use Rattle.nq_promises.specs.BodiesAreFilled.{IsFilled, BringsFilled, AsksFilled, TellsFilled, HasFilledBody, HasFilledBodies}
-use Rattle.walk_client.proofs.ClientFacts.{Alone, fits_job}
-use Rattle.walk_client.proofs.ClientMoves.{some-same, none-some, keeps-or-cancels}
-use Rattle.walk_client.proofs.PartCases.{answers-call-cases, vacates-noticed-cases, reports-cases, if-broken-cases, takes-optional-cases, lease-done-cases, then-caches-cases, caches-write-cases, caches-push-cases, vacates-if-clean-cases}
-use Rattle.walk_client.proofs.RepliedCases.{replied-cases}
-use Rattle.walk_client.proofs.SendCases.{pushed, send-cases}
-use Rattle.walk_client.proofs.SettleCases.{settle-cases}
-use Rattle.walk_client.proofs.StepCases.{call-cases, unless-cached-cases, tick-cases, heard-cases, evicted-cases}
+use Rattle.walk_steps.proofs.ClientFacts.{Alone, fits_job}
+use Rattle.walk_steps.proofs.ClientMoves.{some-same, none-some, keeps-or-cancels}
+use Rattle.walk_steps.proofs.PartCases.{answers-call-cases, vacates-noticed-cases, reports-cases, if-broken-cases, takes-optional-cases, lease-done-cases, then-caches-cases, caches-write-cases, caches-push-cases, vacates-if-clean-cases}
+use Rattle.walk_steps.proofs.RepliedCases.{replied-cases}
+use Rattle.walk_steps.proofs.SendCases.{pushed, send-cases}
+use Rattle.walk_steps.proofs.SettleCases.{settle-cases}
+use Rattle.walk_steps.proofs.StepCases.{call-cases, unless-cached-cases, tick-cases, heard-cases, evicted-cases}
 
 -- the bodies of a client in the middle of a step, and of what it sends
 pub record Fits (call : Option UnderWay) (ticket : Option Ticket) (dirty : List Push) (push : Option Push) (clean : List Clean)

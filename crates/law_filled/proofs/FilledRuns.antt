@@ -18,8 +18,8 @@ use Rattle.nq_model.specs.Server.{ServerStep}
 use Rattle.nq_model.specs.ServerStep.{boot}
 use Rattle.nq_model.specs.World.{Head, World, from_host, after_server, after_client, at_client, after_hearing, sending_host, deliver_to_client, deliver_to, deliver, first_files, first_clients, start, step, run}
 use Rattle.nq_promises.specs.BodiesAreFilled.{AsksFilled, HasFilledBody, HasFilledBodies, BringsFilledBody, BodiesAreFilled, BodiesAreFilledInEveryRun}
-use Rattle.walk_client.proofs.ClientMoves.{none-some}
-use Rattle.walk_run.proofs.Worlds.{Holds, run-holds}
+use Rattle.walk_steps.proofs.ClientMoves.{none-some}
+use Rattle.walk_steps.proofs.Worlds.{Holds, run-holds}
 
 -- ---- a step of the server
 

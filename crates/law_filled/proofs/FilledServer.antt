@@ -20,9 +20,9 @@ use Rattle.nq_model.specs.Server.{Server, ServerStep, says, quiet, drops, keepin
 use Rattle.nq_model.specs.ServerStep.{attaches, vacates, tells_later, serves, leases, receive, tick, crash, boot, booted, opens, ends_writing, fence, at_time}
 use Rattle.nq_model.specs.Table.{Table, with_rows}
 use Rattle.nq_promises.specs.BodiesAreFilled.{IsFilled, AsksFilled, TellsFilled, HasFilledBody}
-use Rattle.walk_client.proofs.ClientMoves.{some-same, none-some}
-use Rattle.walk_server.proofs.ServerCases.{server-hears, server-ticks}
-use Rattle.walk_server.proofs.ServerOutcomes.{error_for, IsPlain, unattached, attached_again, not_yet, no_entry, entry, no_attributes, attributes, no_file, no_block, decided_again, is_old}
+use Rattle.walk_steps.proofs.ClientMoves.{some-same, none-some}
+use Rattle.walk_steps.proofs.ServerCases.{server-hears, server-ticks}
+use Rattle.walk_steps.proofs.ServerOutcomes.{error_for, IsPlain, unattached, attached_again, not_yet, no_entry, entry, no_attributes, attributes, no_file, no_block, decided_again, is_old}
 
 -- the blocks of a file are filled
 abbrev pub FileFilled : File → Type 0

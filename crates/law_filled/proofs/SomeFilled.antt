@@ -7,7 +7,7 @@ use Rattle.nq_model.specs.ServerStep.{at_time as at_time_of_serverstep, boot, cr
 use Rattle.nq_model.specs.World.{Head, run}
 use Rattle.law_filled.specs.Met.{FilledBodiesAreMet}
 use Rattle.nq_promises.specs.BodiesAreFilled.{IsFilled}
-use Rattle.walk_run.proofs.GivenRuns.{given-run}
+use Rattle.walk_steps.proofs.GivenRuns.{given-run}
 
 -- one host, one file of one block
 abbrev one-host : Head

@@ -7,9 +7,9 @@ use Rattle.nq_base.specs.declared.Event.{Event}
 use Rattle.nq_base.specs.declared.Push.{Push}
 use Rattle.nq_base.specs.declared.Request.{Request}
 use Rattle.nq_base.specs.declared.Who.{Who}
-use Rattle.walk_client.proofs.ClientCases.{core_of}
-use Rattle.walk_client.proofs.ClientFacts.{push_in}
-use Rattle.walk_client.proofs.ClientMoves.{attached-with-ticket}
+use Rattle.walk_steps.proofs.ClientCases.{core_of}
+use Rattle.walk_steps.proofs.ClientFacts.{push_in}
+use Rattle.walk_steps.proofs.ClientMoves.{attached-with-ticket}
 use Rattle.law_contents.proofs.RunContents.{lengths-first, run-fits}
 use Rattle.nq_promises.specs.RevisionsHaveOneContent.{first_length}
 use Rattle.nq_promises.specs.Contents.{content_at}
@@ -22,7 +22,7 @@ use Rattle.walk_legal.proofs.EarlierServer.{Around, earlier-server}
 use Rattle.walk_legal.proofs.EarlierStores.{Earlier, Goes, goes_on, begins, earlier-own, earlier-other}
 use Rattle.walk_legal.proofs.Entries.{IsIdle, accesses-idle, rests-idle, IsInsideAt, inside-idle, inside-is, inside-later, throughout-weaker, throughout-idle}
 use Rattle.walk_legal.proofs.ServerMakes.{Makes, MakesStore, idle, writes, stored, receive-makes, tick-makes, crash-makes}
-use Rattle.walk_run.proofs.Steps.{ClientActs, called, ticked, restarted, heard, ServerActs, received, ticks, crashes, Changes, nothing, by_client, by_server, run-goes}
+use Rattle.walk_steps.proofs.Steps.{ClientActs, called, ticked, restarted, heard, ServerActs, received, ticks, crashes, Changes, nothing, by_client, by_server, run-goes}
 use Rattle.walk_legal.proofs.HeldContents.{content}
 use Rattle.walk_legal.proofs.HeldFiles.{RestsOn}
 use Rattle.walk_legal.proofs.Stores.{StoreFits, Rests}
@@ -36,16 +36,16 @@ use Rattle.nq_model.specs.Server.{Server, ServerStep, quiet, drops, says, keepin
 use Rattle.nq_model.specs.ServerStep.{attaches, vacates, tells_later, serves, leases, receive, tick, at_time, opens, ends_writing, fence, crash, boot, booted}
 use Rattle.nq_model.specs.Skew.{IsWithinSkew}
 use Rattle.nq_model.specs.World.{Head, World, from_host, after_server, after_client, sending_host, start, run}
-use Rattle.walk_run.proofs.OpenAt.{OneOpenAt}
-use Rattle.law_requests.proofs.OpenRequests.{run-opens}
-use Rattle.walk_run.proofs.Sequences.{asked-before-server}
-use Rattle.law_requests.proofs.WorldSequences.{run-draws}
-use Rattle.walk_run.proofs.RunCases.{During, clients-after}
-use Rattle.walk_run.proofs.Packets.{In, in-get, Asked, call-same}
-use Rattle.walk_run.proofs.ServerSays.{AllSaid}
-use Rattle.walk_run.proofs.HostLine.{LineFits}
-use Rattle.walk_run.proofs.Worlds.{IsAt, Holds, to-server, to-told, received-said, tick-said, crash-said, set-there}
-use Rattle.walk_server.proofs.ServerCases.{server-hears, server-ticks}
+use Rattle.walk_steps.proofs.OpenAt.{OneOpenAt}
+use Rattle.law_bounds.proofs.OpenRequests.{run-opens}
+use Rattle.walk_steps.proofs.Sequences.{asked-before-server}
+use Rattle.law_bounds.proofs.WorldSequences.{run-draws}
+use Rattle.walk_steps.proofs.RunCases.{During, clients-after}
+use Rattle.walk_steps.proofs.Packets.{In, in-get, Asked, call-same}
+use Rattle.walk_steps.proofs.ServerSays.{AllSaid}
+use Rattle.walk_steps.proofs.HostLine.{LineFits}
+use Rattle.walk_steps.proofs.Worlds.{IsAt, Holds, to-server, to-told, received-said, tick-said, crash-said, set-there}
+use Rattle.walk_steps.proofs.ServerCases.{server-hears, server-ticks}
 use Rattle.walk_undisturbed.proofs.Accesses.{call-accesses, tick-accesses, hear-accesses, restart-accesses}
 use Rattle.walk_undisturbed.proofs.Holders.{KnownOf}
 use Rattle.walk_undisturbed.proofs.OwnSends.{OwnSends, call-own, tick-own, hear-own}

@@ -1,7 +1,7 @@
 -- A client delays a write, stores it, and gives its file another length.
 use Rattle.std.proofs.Common.{◌≡◌, true, List, [], ◌∷◌, refl, arith}
 use Rattle.nq_base.specs.Block.{filled, zeros}
-use Rattle.walk_run.proofs.NoCrash.{no-crash-within}
+use Rattle.walk_steps.proofs.NoCrash.{no-crash-within}
 use Rattle.nq_model.specs.ServerStep.{at_time as at_time_of_serverstep, boot, crash}
 use Rattle.nq_model.specs.World.{Head, run}
 use Rattle.nq_base.specs.declared.Call.{Call}
@@ -10,7 +10,7 @@ use Rattle.nq_model.proofs.SkewTest.{skew-test-is-sound}
 use Rattle.nq_model.specs.Skew.{IsWithinSkew}
 use Rattle.nq_promises.specs.Bounds.{KeepsBounds}
 use Rattle.law_held.specs.Met.{HeldAreMet, has_held}
-use Rattle.walk_run.proofs.GivenRuns.{given-run}
+use Rattle.walk_steps.proofs.GivenRuns.{given-run}
 
 -- one host, one file of one block
 abbrev pub one-host : Head

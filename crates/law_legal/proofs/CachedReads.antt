@@ -18,8 +18,8 @@ use Rattle.nq_base.specs.declared.Tag.{Tag}
 use Rattle.nq_base.specs.declared.Verdict.{Verdict}
 use Rattle.nq_base.specs.declared.Who.{Who}
 use Rattle.nq_promises.specs.Chained.{IsChained, is_done, has_done, has_done_write, due, KnowsFile}
-use Rattle.walk_client.proofs.ClientFacts.{push_in, fits_job, IsPush}
-use Rattle.walk_client.proofs.ClientMoves.{none-some, some-same}
+use Rattle.walk_steps.proofs.ClientFacts.{push_in, fits_job, IsPush}
+use Rattle.walk_steps.proofs.ClientMoves.{none-some, some-same}
 use Rattle.law_contents.proofs.Laws.{clean-in-every-run, done-in-every-run}
 use Rattle.law_contents.proofs.RunContents.{run-fits}
 use Rattle.nq_promises.specs.RevisionsHaveOneContent.{first_length, IsOfRevision}
@@ -48,9 +48,9 @@ use Rattle.nq_model.specs.Skew.{IsWithinSkew}
 use Rattle.nq_model.specs.Stands.{IsStandingValue}
 use Rattle.nq_model.specs.Table.{caches}
 use Rattle.nq_model.specs.World.{Head, World, run}
-use Rattle.walk_run.proofs.Members.{find-in}
-use Rattle.walk_run.proofs.Packets.{In}
-use Rattle.walk_server.proofs.Rows.{same-number, number-same, find-passes}
+use Rattle.walk_steps.proofs.Members.{find-in}
+use Rattle.walk_steps.proofs.Packets.{In}
+use Rattle.walk_steps.proofs.Rows.{same-number, number-same, find-passes}
 use Rattle.walk_undisturbed.proofs.Holders.{KnownOf}
 use Rattle.law_undisturbed.proofs.UndisturbedRuns.{run-still}
 use Rattle.nq_promises.specs.Undisturbed.{IsUndisturbed}

@@ -20,7 +20,7 @@ use Rattle.nq_model.specs.OfTheirCall.{Reads, IsOfItsCall, AreOfTheirCall}
 use Rattle.nq_model.specs.Ordered.{IsReadInOrder, IsInOrder, IsOrdered}
 use Rattle.nq_model.specs.Skew.{IsWithinSkew}
 use Rattle.nq_model.specs.World.{Head, run}
-use Rattle.walk_run.proofs.Packets.{In}
+use Rattle.walk_steps.proofs.Packets.{In}
 use Rattle.walk_undisturbed.proofs.Holders.{KnownOf}
 
 -- ---- of an ordered journal

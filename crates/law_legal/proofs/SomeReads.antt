@@ -5,7 +5,7 @@ use Rattle.law_held.proofs.SomeHeld.{one-host, some-events, bounds, within}
 use Rattle.nq_model.specs.ServerStep.{at_time as at_time_of_serverstep, boot, crash}
 use Rattle.nq_model.specs.World.{run}
 use Rattle.law_legal.specs.Met.{ReadsAreMet, has_reads}
-use Rattle.walk_run.proofs.GivenRuns.{given-run}
+use Rattle.walk_steps.proofs.GivenRuns.{given-run}
 
 all-there : has_reads (run one-host some-events).journal ≡ true
 unfolding filled zeros given-run

@@ -18,7 +18,7 @@ use Rattle.law_calm.proofs.ClientCount.{client-count}
 use Rattle.law_deliveries.specs.DeliveryEnds.{calmed}
 use Rattle.law_progress.specs.CalmRoundsAreLawful.{IsLawful}
 use Rattle.law_rounds.specs.RoundsEndQuiet.{IsSmall}
-use Rattle.walk_server.proofs.Tests.{is-below, is-not-below}
+use Rattle.walk_steps.proofs.Tests.{is-below, is-not-below}
 use Rattle.law_open_calls.specs.WholeCallsAnswered.{served_rounds_for}
 use Rattle.law_open_calls.proofs.Counts.{none-open}
 use Rattle.law_open_calls.proofs.Queue.{there-is}

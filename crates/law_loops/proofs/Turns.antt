@@ -18,7 +18,7 @@ use Rattle.law_progress.specs.CalmRoundsAreLawful.{IsLawful}
 use Rattle.law_rounds.specs.RoundsEndQuiet.{IsSmall}
 use Rattle.law_rounds.proofs.Flows.{small-before}
 use Rattle.law_rounds.proofs.RecoveryRounds.{delivered-now, round-now}
-use Rattle.walk_server.proofs.Rows.{same-number}
+use Rattle.walk_steps.proofs.Rows.{same-number}
 use Rattle.law_open_calls.specs.WholeCallsAnswered.{served_rounds_for}
 use Rattle.law_loops.specs.InTime.{played, none_under_way, comes_in_time, all_in_time}
 use Rattle.law_loops.specs.LoopsAreAnswered.{most_due}

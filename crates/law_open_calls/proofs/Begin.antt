@@ -20,17 +20,17 @@ use Rattle.law_calm.specs.RequestsAreMeant.{wanted, IsMeant}
 use Rattle.law_calm.proofs.ClientCount.{client-count}
 use Rattle.law_calm.proofs.HostsBelow.{get-below}
 use Rattle.law_calm.proofs.Meant.{requests-are-meant}
-use Rattle.law_leases.proofs.LeaseIntervals.{run-runs}
+use Rattle.law_bounds.proofs.LeaseIntervals.{run-runs}
 use Rattle.law_progress.specs.CalmRoundsAreLawful.{IsLawful}
 use Rattle.law_progress.specs.QuietDeliveries.{recovers}
 use Rattle.law_progress.proofs.PacketsCome.{Comes}
 use Rattle.law_progress.proofs.CalmIsLawful.{round}
-use Rattle.walk_client.proofs.ClientFacts.{fits_job, Alone}
-use Rattle.walk_client.proofs.ClientMoves.{some-same, none-some}
-use Rattle.walk_run.proofs.Packets.{In, message-same, call-same}
-use Rattle.walk_run.proofs.Worlds.{get-set-other, set-there, run-holds}
-use Rattle.walk_sends.proofs.StepSends.{TickSends, rests, again, asks_now, tick-sends}
-use Rattle.walk_server.proofs.ServerCases.{server-ticks}
+use Rattle.walk_steps.proofs.ClientFacts.{fits_job, Alone}
+use Rattle.walk_steps.proofs.ClientMoves.{some-same, none-some}
+use Rattle.walk_steps.proofs.Packets.{In, message-same, call-same}
+use Rattle.walk_steps.proofs.Worlds.{get-set-other, set-there, run-holds}
+use Rattle.walk_steps.proofs.StepSends.{TickSends, rests, again, asks_now, tick-sends}
+use Rattle.walk_steps.proofs.ServerCases.{server-ticks}
 use Rattle.law_answered.proofs.Hosts.{ticked}
 use Rattle.law_answered.proofs.LookReplies.{comes-from}
 use Rattle.law_open_calls.proofs.CallRequests.{run-asks}

@@ -11,10 +11,10 @@ use Rattle.nq_model.specs.Message.{Message, Packet, call}
 use Rattle.nq_model.specs.Server.{to_host}
 use Rattle.nq_model.specs.Table.{find_row}
 use Rattle.nq_model.specs.World.{from_host}
-use Rattle.walk_client.proofs.ClientMoves.{some-same}
-use Rattle.walk_run.proofs.Packets.{In, in-left, in-right, told-same, not-both}
-use Rattle.walk_run.proofs.Worlds.{set-there, get-set-other}
-use Rattle.walk_server.proofs.Rows.{same-number, number-same}
+use Rattle.walk_steps.proofs.ClientMoves.{some-same}
+use Rattle.walk_steps.proofs.Packets.{In, in-left, in-right, told-same, not-both}
+use Rattle.walk_steps.proofs.Worlds.{set-there, get-set-other}
+use Rattle.walk_steps.proofs.Rows.{same-number, number-same}
 use Rattle.law_rounds.proofs.Coming.{in-map}
 use Rattle.law_open_calls.proofs.Hope.{file_of_call, access_of_call, Cancels, PutsOff, Safe, Hopeful, IsWished, by_read, by_write, Goes, told, waits, vacated, Passes, goes, hoped, InWay, Clear, safe-rest, safe-append, safe-none, safe-fewer}
 

@@ -10,8 +10,8 @@ use Rattle.law_progress.specs.CalmRoundsAreLawful.{IsLawful}
 use Rattle.law_progress.proofs.CalmIsLawful.{played-quiet}
 use Rattle.law_rounds.specs.WholeRounds.{play_order}
 use Rattle.law_rounds.proofs.Coming.{Delivery, no_packet, at_server, at_host, ignored, no_client, delivery}
-use Rattle.walk_client.proofs.ClientMoves.{some-same, none-some}
-use Rattle.walk_run.proofs.Worlds.{Holds, run-holds}
+use Rattle.walk_steps.proofs.ClientMoves.{some-same, none-some}
+use Rattle.walk_steps.proofs.Worlds.{Holds, run-holds}
 use Rattle.law_answered.proofs.Calling.{StillOpen, hear-keeps}
 use Rattle.law_answered.proofs.LookTickets.{tick-opens}
 pub use Rattle.law_open_calls.specs.CallsAnswered.{one_if_open, open_calls}

@@ -25,8 +25,8 @@ use Rattle.law_calm.specs.RequestsAreMeant.{wanted, IsMeant}
 use Rattle.law_calm.proofs.ClientCount.{client-count}
 use Rattle.law_calm.proofs.HostsBelow.{run-local, stands-apart}
 use Rattle.law_calm.proofs.Meant.{requests-are-meant}
-use Rattle.law_leases.proofs.LeaseIntervals.{run-runs}
-use Rattle.law_packets.proofs.NoticeCounts.{HostedBelow}
+use Rattle.law_bounds.proofs.LeaseIntervals.{run-runs}
+use Rattle.law_bounds.proofs.NoticeCounts.{HostedBelow}
 use Rattle.law_progress.specs.CalmRoundsAreLawful.{IsLawful}
 use Rattle.law_progress.specs.QuietDeliveries.{recovers}
 use Rattle.law_progress.proofs.PacketsCome.{Comes}
@@ -34,16 +34,16 @@ use Rattle.law_progress.proofs.Attaching.{hear-stays}
 use Rattle.law_progress.proofs.CalmEnds.{IsRising, played-rising}
 use Rattle.law_progress.proofs.CalmIsLawful.{played-quiet}
 use Rattle.law_progress.proofs.QuietFlows.{delivered-phase}
-use Rattle.law_requests.proofs.WorldSequences.{run-draws}
+use Rattle.law_bounds.proofs.WorldSequences.{run-draws}
 use Rattle.law_rounds.proofs.Next.{IsNext, next-in}
 use Rattle.law_rounds.proofs.Coming.{Delivery, no_packet, at_server, at_host, ignored, no_client, delivery}
-use Rattle.walk_client.proofs.ClientFacts.{fits_job}
-use Rattle.walk_client.proofs.ClientMoves.{some-same, none-some}
-use Rattle.walk_run.proofs.Packets.{In, in-append, in-left, in-right, in-get, Asked, Told, message-same, not-both}
-use Rattle.walk_run.proofs.Worlds.{IsAt, Holds, IsSent, by_host, by_server, get-set-same, get-set-other, set-there, to-told, run-holds}
-use Rattle.walk_sends.proofs.StepSends.{HearSends, hear-sends}
-use Rattle.walk_server.proofs.Rows.{same-number, number-same, found-row}
-use Rattle.walk_server.proofs.Tests.{is-at-most, is-not-at-most}
+use Rattle.walk_steps.proofs.ClientFacts.{fits_job}
+use Rattle.walk_steps.proofs.ClientMoves.{some-same, none-some}
+use Rattle.walk_steps.proofs.Packets.{In, in-append, in-left, in-right, in-get, Asked, Told, message-same, not-both}
+use Rattle.walk_steps.proofs.Worlds.{IsAt, Holds, IsSent, by_host, by_server, get-set-same, get-set-other, set-there, to-told, run-holds}
+use Rattle.walk_steps.proofs.StepSends.{HearSends, hear-sends}
+use Rattle.walk_steps.proofs.Rows.{same-number, number-same, found-row}
+use Rattle.walk_steps.proofs.Tests.{is-at-most, is-not-at-most}
 use Rattle.law_open_calls.proofs.CallRequests.{run-asks}
 use Rattle.law_open_calls.proofs.ClientHopes.{Hearer}
 use Rattle.law_open_calls.proofs.ClientHopes as client

@@ -12,16 +12,16 @@ use Rattle.nq_model.specs.ClientStep.{client_tick, at_time, starts, fresh_client
 use Rattle.nq_model.specs.Hear.{hear, granted_lease}
 use Rattle.nq_model.specs.Message.{Message, reply}
 use Rattle.nq_model.specs.World.{Head, World, after_client, after_server, start, run}
-use Rattle.walk_client.proofs.ClientCases.{Core, Closed}
-use Rattle.walk_client.proofs.ClientFacts.{Alone}
-use Rattle.walk_client.proofs.ClientWalk.{reply-keeps, notice-keeps, call-keeps, tick-keeps}
-use Rattle.walk_client.proofs.StepCases.{heard-cases}
-use Rattle.walk_run.proofs.Members.{in-filter}
-use Rattle.walk_run.proofs.Packets.{In, Told}
-use Rattle.walk_run.proofs.Steps.{Changes, nothing, by_client, by_server, ClientActs, called, ticked, restarted, heard, step-changes}
-use Rattle.walk_run.proofs.Worlds.{IsAt, Holds, given-by, run-holds, get-set-same, get-set-other, first-client, to-told}
-use Rattle.walk_run.proofs.Packets.{in-get}
-use Rattle.walk_server.proofs.Rows.{same-number, number-same}
+use Rattle.walk_steps.proofs.ClientCases.{Core, Closed}
+use Rattle.walk_steps.proofs.ClientFacts.{Alone}
+use Rattle.walk_steps.proofs.ClientWalk.{reply-keeps, notice-keeps, call-keeps, tick-keeps}
+use Rattle.walk_steps.proofs.StepCases.{heard-cases}
+use Rattle.walk_steps.proofs.Members.{in-filter}
+use Rattle.walk_steps.proofs.Packets.{In, Told}
+use Rattle.walk_steps.proofs.Steps.{Changes, nothing, by_client, by_server, ClientActs, called, ticked, restarted, heard, step-changes}
+use Rattle.walk_steps.proofs.Worlds.{IsAt, Holds, given-by, run-holds, get-set-same, get-set-other, first-client, to-told}
+use Rattle.walk_steps.proofs.Packets.{in-get}
+use Rattle.walk_steps.proofs.Rows.{same-number, number-same}
 use Rattle.law_open_calls.proofs.ClientHopes.{map-in}
 
 -- each lease is the one that is found for its file

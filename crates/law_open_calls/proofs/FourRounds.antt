@@ -10,9 +10,9 @@ use Rattle.law_progress.specs.QuietDeliveries.{recovers}
 use Rattle.law_progress.proofs.Attaching.{tick-stays}
 use Rattle.law_rounds.specs.WholeRounds.{play_order, whole_round, whole_rounds}
 use Rattle.law_rounds.proofs.Orders.{whole-lawful, wholes-lawful}
-use Rattle.walk_client.proofs.ClientMoves.{some-same, none-some}
-use Rattle.walk_run.proofs.Worlds.{run-holds}
-use Rattle.walk_server.proofs.Tests.{is-at-most, is-not-at-most}
+use Rattle.walk_steps.proofs.ClientMoves.{some-same, none-some}
+use Rattle.walk_steps.proofs.Worlds.{run-holds}
+use Rattle.walk_steps.proofs.Tests.{is-at-most, is-not-at-most}
 use Rattle.law_answered.proofs.LookTickets.{tick-opens}
 use Rattle.law_open_calls.proofs.Counts.{open_calls, order-less, ticks-less, some-open}
 use Rattle.law_open_calls.proofs.Frames.{NoWay, none-clear}

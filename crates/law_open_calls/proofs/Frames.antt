@@ -13,8 +13,8 @@ use Rattle.law_progress.proofs.CalmIsLawful.{played-quiet}
 use Rattle.law_rounds.specs.RoundsEndQuiet.{IsQuiet}
 use Rattle.law_rounds.specs.WholeRounds.{play_order, IsInOrder}
 use Rattle.law_rounds.proofs.Next.{next-among}
-use Rattle.walk_client.proofs.ClientMoves.{none-some}
-use Rattle.walk_server.proofs.Rows.{same-number, number-same}
+use Rattle.walk_steps.proofs.ClientMoves.{none-some}
+use Rattle.walk_steps.proofs.Rows.{same-number, number-same}
 use Rattle.law_open_calls.proofs.Counts.{open_calls, order-less}
 use Rattle.law_open_calls.proofs.Delivery.{State, Delivered, fewer, goes_on_so, delivers}
 use Rattle.law_open_calls.proofs.UnderWay.{Moves, all_move, all_but, Paused}

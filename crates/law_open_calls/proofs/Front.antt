@@ -5,7 +5,7 @@ use Rattle.nq_model.specs.Client.{Client, Ticket}
 use Rattle.nq_model.specs.Message.{Packet}
 use Rattle.nq_model.specs.World.{World}
 use Rattle.law_rounds.proofs.Next.{OneLink}
-use Rattle.walk_run.proofs.Packets.{In, in-append, in-left, in-right}
+use Rattle.walk_steps.proofs.Packets.{In, in-append, in-left, in-right}
 use Rattle.law_open_calls.proofs.Hope.{Cancels, PutsOff, Safe, Hopeful, Goes, told, waits, vacated, Passes, goes, hoped, Clear}
 use Rattle.law_open_calls.proofs.UnderWay.{Moves, all_move, all_but}
 

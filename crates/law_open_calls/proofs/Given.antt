@@ -19,7 +19,7 @@ use Rattle.law_calm.proofs.ClientCount.{client-count}
 use Rattle.law_calm.proofs.HostsBelow.{get-below}
 use Rattle.law_progress.specs.CalmRoundsAreLawful.{IsLawful}
 use Rattle.law_progress.proofs.CalmEnds.{IsRising}
-use Rattle.walk_server.proofs.RowChanges.{HasUniqueKeys}
+use Rattle.walk_steps.proofs.RowChanges.{HasUniqueKeys}
 use Rattle.law_rounds.proofs.Next.{IsNext}
 use Rattle.law_queues.proofs.InLine.{InLine, not-answered-yet}
 use Rattle.law_queues.proofs.QueueRounds.{delivered-queue, round-queue}

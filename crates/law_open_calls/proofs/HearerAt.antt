@@ -16,18 +16,18 @@ use Rattle.nq_model.specs.Send.{sends_request, after_seq, after_number, takes_pu
 use Rattle.nq_model.specs.Server.{to_host}
 use Rattle.nq_model.specs.Settle.{answers, after_read, reads_cached, after_write, marks_written, settle}
 use Rattle.nq_model.specs.Table.{tag_below, later_tag, find_row}
-use Rattle.walk_client.proofs.ClientCases.{Core, core_of, Closed}
-use Rattle.walk_client.proofs.ClientFacts.{Alone}
-use Rattle.walk_client.proofs.ClientMoves.{some-same, none-some, keeps-or-cancels}
-use Rattle.walk_client.proofs.ClientWalk.{reply-keeps, notice-keeps}
-use Rattle.walk_client.proofs.SendCases.{send-cases}
-use Rattle.walk_client.proofs.SettleCases.{settle-cases}
-use Rattle.walk_client.proofs.StepCases.{evicted-cases, heard-cases}
-use Rattle.walk_run.proofs.Packets.{In, in-left, in-right, Told, told-same, reply-same}
-use Rattle.walk_run.proofs.TagFacts.{used-from, dropped-from}
-use Rattle.walk_run.proofs.Worlds.{IsAt, given-by}
-use Rattle.walk_server.proofs.Rows.{same-number, number-same}
-use Rattle.walk_sends.proofs.StepSends.{StepSends, only_gives, then_asks, HearSends, told as told_sends, noticed as noticed_sends, hear-sends}
+use Rattle.walk_steps.proofs.ClientCases.{Core, core_of, Closed}
+use Rattle.walk_steps.proofs.ClientFacts.{Alone}
+use Rattle.walk_steps.proofs.ClientMoves.{some-same, none-some, keeps-or-cancels}
+use Rattle.walk_steps.proofs.ClientWalk.{reply-keeps, notice-keeps}
+use Rattle.walk_steps.proofs.SendCases.{send-cases}
+use Rattle.walk_steps.proofs.SettleCases.{settle-cases}
+use Rattle.walk_steps.proofs.StepCases.{evicted-cases, heard-cases}
+use Rattle.walk_steps.proofs.Packets.{In, in-left, in-right, Told, told-same, reply-same}
+use Rattle.walk_steps.proofs.TagFacts.{used-from, dropped-from}
+use Rattle.walk_steps.proofs.Worlds.{IsAt, given-by}
+use Rattle.walk_steps.proofs.Rows.{same-number, number-same}
+use Rattle.walk_steps.proofs.StepSends.{StepSends, only_gives, then_asks, HearSends, told as told_sends, noticed as noticed_sends, hear-sends}
 use Rattle.nq_model.proofs.ClientLists.{other-notice-dropped, other-notice-put, put-notice-found}
 use Rattle.law_answered.proofs.Calling.{Keeps, hear-keeps}
 use Rattle.law_open_calls.proofs.Hope.{PutsOff}

@@ -17,7 +17,7 @@ use Rattle.nq_model.specs.Message.{Packet, call, reply}
 use Rattle.nq_model.specs.Server.{to_host}
 use Rattle.nq_model.specs.Table.{caches, is_writing, find_row}
 use Rattle.nq_model.specs.World.{from_host}
-use Rattle.walk_run.proofs.Packets.{In}
+use Rattle.walk_steps.proofs.Packets.{In}
 
 -- ---- calls
 

@@ -10,8 +10,8 @@ use Rattle.law_deliveries.proofs.Items.{Rise, without-first}
 use Rattle.law_progress.proofs.CalmEnds.{IsRising}
 use Rattle.law_progress.proofs.PacketsCome.{Comes, get-kept}
 use Rattle.law_rounds.proofs.Next.{OneLink, IsNext, next-in, rise-behind}
-use Rattle.walk_run.proofs.Packets.{In, in-append, in-left, in-right}
-use Rattle.walk_server.proofs.Rows.{same-number}
+use Rattle.walk_steps.proofs.Packets.{In, in-append, in-left, in-right}
+use Rattle.walk_steps.proofs.Rows.{same-number}
 
 -- the packets of some numbers, in order
 abbrev pub with_packet : Option Packet → List Packet → List Packet

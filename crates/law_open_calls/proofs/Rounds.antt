@@ -19,11 +19,11 @@ use Rattle.law_rounds.specs.RoundsEndQuiet.{IsQuiet}
 use Rattle.law_rounds.specs.WholeRounds.{play_order, IsInOrder}
 use Rattle.law_rounds.proofs.Orders.{order-lawful, order-rising}
 use Rattle.law_rounds.proofs.RecoveryRounds.{order-phase}
-use Rattle.walk_client.proofs.ClientFacts.{Alone}
-use Rattle.walk_client.proofs.ClientMoves.{some-same, none-some}
-use Rattle.walk_run.proofs.Packets.{In, not-both}
-use Rattle.walk_run.proofs.Worlds.{run-holds}
-use Rattle.walk_server.proofs.Tests.{is-at-most, is-not-at-most}
+use Rattle.walk_steps.proofs.ClientFacts.{Alone}
+use Rattle.walk_steps.proofs.ClientMoves.{some-same, none-some}
+use Rattle.walk_steps.proofs.Packets.{In, not-both}
+use Rattle.walk_steps.proofs.Worlds.{run-holds}
+use Rattle.walk_steps.proofs.Tests.{is-at-most, is-not-at-most}
 use Rattle.law_answered.proofs.Hosts.{ticked}
 use Rattle.law_answered.proofs.LookTickets.{tick-opens}
 use Rattle.law_open_calls.proofs.Begin.{round-tickets, round-wants, none-renew}

@@ -14,7 +14,7 @@ use Rattle.nq_model.specs.Hear.{is_put_off, wants_of}
 use Rattle.nq_model.specs.Message.{Message, Packet, call, reply}
 use Rattle.nq_model.specs.Server.{to_host}
 use Rattle.nq_model.specs.Table.{caches, greater_mode, find_row}
-use Rattle.walk_run.proofs.Packets.{In}
+use Rattle.walk_steps.proofs.Packets.{In}
 use Rattle.law_answered.specs.PutOff.{file_of, access_by}
 use Rattle.law_open_calls.proofs.Hope.{InWay}
 

@@ -19,16 +19,16 @@ use Rattle.nq_model.specs.Profile.{most_hosts, xid_end}
 use Rattle.nq_model.specs.Server.{serving, recovering, Server, ServerStep, to_host, notices, after_notices, keeping, keeping_with, with_table, quiet as rests, drops, says}
 use Rattle.nq_model.specs.ServerStep.{access_of, to_read, attaches, vacates, tells_later, serves, leases, receive}
 use Rattle.nq_model.specs.Table.{caches, find_row, is_row_of, put_row, with_rows, after_draw}
-use Rattle.walk_client.proofs.ClientMoves.{some-same, none-some}
-use Rattle.walk_run.proofs.Packets.{In, in-left, in-last, told-same, reply-same}
-use Rattle.walk_server.proofs.AskCases.{shares_again, begins_sharing, begins_caching, renews_row}
-use Rattle.walk_server.proofs.RowChanges.{HasUniqueKeys, of-key, mark-is, found-marked, found-put, found-any, is-clash, no-clash}
-use Rattle.walk_server.proofs.Rows.{found-row, find-passes, number-same, same-number}
-use Rattle.walk_server.proofs.ServerCases.{server-hears}
-use Rattle.walk_server.proofs.ServerOutcomes.{error-no-reply, line_of, wanted_by, file_changed_by, IsRecovering, IsPlain, unattached, attached_again, not_yet, no_entry, entry, no_attributes, attributes, no_file, no_block, decided_again, is_old, IsDeclined, bad_length, name_taken, no_room, not_kept, outside, no_row, not_under, not_over, not_while_recovering, bad_size, no_room_to_grow}
-use Rattle.walk_sends.proofs.Replies.{replies-are}
-use Rattle.walk_sends.proofs.RowFacts.{vacated-takes, in-the-way, holder-told}
-use Rattle.walk_sends.proofs.RowsAfter.{GoesOn, RowIs, goes_on, waits, granted, rows-are, rows-go, RowGoes, stays as stands_on, vacated, attached, removed}
+use Rattle.walk_steps.proofs.ClientMoves.{some-same, none-some}
+use Rattle.walk_steps.proofs.Packets.{In, in-left, in-last, told-same, reply-same}
+use Rattle.walk_steps.proofs.AskCases.{shares_again, begins_sharing, begins_caching, renews_row}
+use Rattle.walk_steps.proofs.RowChanges.{HasUniqueKeys, of-key, mark-is, found-marked, found-put, found-any, is-clash, no-clash}
+use Rattle.walk_steps.proofs.Rows.{found-row, find-passes, number-same, same-number}
+use Rattle.walk_steps.proofs.ServerCases.{server-hears}
+use Rattle.walk_steps.proofs.ServerOutcomes.{error-no-reply, line_of, wanted_by, file_changed_by, IsRecovering, IsPlain, unattached, attached_again, not_yet, no_entry, entry, no_attributes, attributes, no_file, no_block, decided_again, is_old, IsDeclined, bad_length, name_taken, no_room, not_kept, outside, no_row, not_under, not_over, not_while_recovering, bad_size, no_room_to_grow}
+use Rattle.walk_steps.proofs.Replies.{replies-are}
+use Rattle.walk_steps.proofs.RowFacts.{vacated-takes, in-the-way, holder-told}
+use Rattle.walk_steps.proofs.RowsAfter.{GoesOn, RowIs, goes_on, waits, granted, rows-are, rows-go, RowGoes, stays as stands_on, vacated, attached, removed}
 use Rattle.law_queues.proofs.InLine.{came}
 use Rattle.law_answered.specs.PutOff.{file_of, access_by}
 use Rattle.law_open_calls.proofs.Hope.{InWay}

@@ -16,9 +16,9 @@ use Rattle.nq_model.specs.Message.{Packet, call, reply}
 use Rattle.nq_model.specs.Server.{to_host}
 use Rattle.nq_model.specs.Table.{caches, is_writing, greater_mode, find_row}
 use Rattle.nq_model.specs.World.{from_host}
-use Rattle.walk_client.proofs.ClientMoves.{some-same, none-some}
-use Rattle.walk_run.proofs.Packets.{In, in-left, in-right, message-same, not-both, call-same}
-use Rattle.walk_server.proofs.Rows.{same-number, number-same}
+use Rattle.walk_steps.proofs.ClientMoves.{some-same, none-some}
+use Rattle.walk_steps.proofs.Packets.{In, in-left, in-right, message-same, not-both, call-same}
+use Rattle.walk_steps.proofs.Rows.{same-number, number-same}
 use Rattle.law_answered.specs.PutOff.{file_of, access_by}
 use Rattle.law_open_calls.proofs.Hope.{file_of_call, access_of_call, conflict-caches, Safe, Hopeful, IsWished, by_read, by_write, Hoped, Goes, told, waits, vacated, Passes, goes, hoped, InWay, Clear, safe-rest, safe-append, safe-none}
 use Rattle.law_open_calls.proofs.Served.{IsStill, IsWant, RowFrom, stays, shares, begins, renews, OnlyStays, AreTold, Outcome, quiet, by_own, by_others, IsServed, Fits, read_fits, write_fits, Wanting, by_call, by_renewal}

@@ -8,8 +8,8 @@ use Rattle.law_deliveries.specs.DeliveryEnds.{calmed}
 use Rattle.law_progress.specs.SomeNeedHalf.{late_head, late_events}
 use Rattle.law_progress.proofs.SoonRounds.{soon_rounds, soon_ends, all-soon, late-lawful, late-rising, needs-half}
 use Rattle.law_rounds.specs.RoundsEndQuiet.{IsSmall}
-use Rattle.walk_run.proofs.GivenRuns.{given-run}
-use Rattle.walk_server.proofs.Tests.{is-at-most}
+use Rattle.walk_steps.proofs.GivenRuns.{given-run}
+use Rattle.walk_steps.proofs.Tests.{is-at-most}
 use Rattle.law_open_calls.specs.CallsAnswered.{open_calls}
 use Rattle.law_open_calls.specs.Met.{OpenCallsAreMet}
 

@@ -11,18 +11,18 @@ use Rattle.nq_model.specs.Send.{want_of, is_asking, is_to_renew, sends_request, 
 use Rattle.nq_model.specs.Settle.{answers, after_read, reads_cached, after_write, marks_written, settle}
 use Rattle.nq_model.specs.Table.{caches}
 use Rattle.law_calm.proofs.Busy.{asks-next}
-use Rattle.walk_client.proofs.ClientCases.{Both}
-use Rattle.walk_client.proofs.ClientFacts.{Alone}
-use Rattle.walk_client.proofs.ClientMoves as move
-use Rattle.walk_client.proofs.ClientMoves.{some-same, none-some}
-use Rattle.walk_client.proofs.SendCases.{send-cases, least-with-one}
-use Rattle.walk_client.proofs.SettleCases.{settle-cases, settle-settles, Settled}
-use Rattle.walk_client.proofs.SettleWalk.{settle-keeps}
-use Rattle.walk_client.proofs.StepCases.{tick-cases}
-use Rattle.walk_run.proofs.Packets.{In}
+use Rattle.walk_steps.proofs.ClientCases.{Both}
+use Rattle.walk_steps.proofs.ClientFacts.{Alone}
+use Rattle.walk_steps.proofs.ClientMoves as move
+use Rattle.walk_steps.proofs.ClientMoves.{some-same, none-some}
+use Rattle.walk_steps.proofs.SendCases.{send-cases, least-with-one}
+use Rattle.walk_steps.proofs.SettleCases.{settle-cases, settle-settles, Settled}
+use Rattle.walk_steps.proofs.SettleWalk.{settle-keeps}
+use Rattle.walk_steps.proofs.StepCases.{tick-cases}
+use Rattle.walk_steps.proofs.Packets.{In}
 use Rattle.law_open_calls.proofs.FoundLeases.{AreFound, FoundIn, found-closed}
-use Rattle.walk_sends.proofs.StepSends.{NextSends, nothing as nothing_sent, asks as then_asked, next-sends}
-use Rattle.walk_server.proofs.Tests.{is-at-most, is-not-at-most, is-below}
+use Rattle.walk_steps.proofs.StepSends.{NextSends, nothing as nothing_sent, asks as then_asked, next-sends}
+use Rattle.walk_steps.proofs.Tests.{is-at-most, is-not-at-most, is-below}
 
 -- ---- what a tick renews
 

@@ -18,11 +18,11 @@ use Rattle.law_calm.proofs.HostsBelow.{get-below}
 use Rattle.law_progress.specs.CalmRoundsAreLawful.{IsLawful}
 use Rattle.law_progress.specs.QuietDeliveries.{recovers}
 use Rattle.law_progress.proofs.CalmIsLawful.{round}
-use Rattle.law_leases.proofs.LeaseIntervals.{run-runs}
-use Rattle.walk_client.proofs.StepCases.{tick-cases}
-use Rattle.walk_server.proofs.RowChanges.{HasUniqueKeys, found-kept, unique-filtered}
-use Rattle.walk_server.proofs.ServerCases.{server-ticks}
-use Rattle.walk_tables.proofs.ServerTables.{StandingFits}
+use Rattle.law_bounds.proofs.LeaseIntervals.{run-runs}
+use Rattle.walk_steps.proofs.StepCases.{tick-cases}
+use Rattle.walk_steps.proofs.RowChanges.{HasUniqueKeys, found-kept, unique-filtered}
+use Rattle.walk_steps.proofs.ServerCases.{server-ticks}
+use Rattle.walk_steps.proofs.ServerTables.{StandingFits}
 use Rattle.law_answered.proofs.Calling.{Keeps, settles, sends}
 use Rattle.law_answered.proofs.Hosts.{ticked}
 use Rattle.law_answered.proofs.LookTickets.{tick-opens}

@@ -17,10 +17,10 @@ use Rattle.nq_model.specs.Table.{caches, greater_mode, tag_below, find_row}
 use Rattle.nq_model.specs.World.{World, from_host}
 use Rattle.law_progress.specs.QuietDeliveries.{recovers}
 use Rattle.law_progress.proofs.PacketsCome.{Comes}
-use Rattle.walk_client.proofs.ClientFacts.{fits_job}
-use Rattle.walk_client.proofs.ClientMoves.{some-same, none-some, keeps-or-cancels}
-use Rattle.walk_run.proofs.Packets.{In, in-append, Told, call-same}
-use Rattle.walk_sends.proofs.StepSends.{VacatedFrom, StepSends, only_gives, then_asks, HearSends, told as told_sends, noticed as noticed_sends}
+use Rattle.walk_steps.proofs.ClientFacts.{fits_job}
+use Rattle.walk_steps.proofs.ClientMoves.{some-same, none-some, keeps-or-cancels}
+use Rattle.walk_steps.proofs.Packets.{In, in-append, Told, call-same}
+use Rattle.walk_steps.proofs.StepSends.{VacatedFrom, StepSends, only_gives, then_asks, HearSends, told as told_sends, noticed as noticed_sends}
 use Rattle.law_open_calls.proofs.Hope.{Hopeful, Clear}
 use Rattle.law_open_calls.proofs.Served.{IsWant, by_read, by_lease, Fits}
 

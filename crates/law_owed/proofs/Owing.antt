@@ -21,10 +21,10 @@ use Rattle.nq_model.specs.Profile.{most_hosts}
 use Rattle.nq_model.specs.Server.{Phase, serving, recovering, Server, ServerStep, to_host, says, quiet, drops, notices}
 use Rattle.nq_model.specs.ServerStep.{row_of_attach, attaches, attach, look_up, get_attr, read_asked, read_block, read, lease_asked, get_lease, vacates, tells_later, serves, leases, look, perform, not_attached, is_attach, admit, answer_request, receive}
 use Rattle.nq_model.specs.Table.{Table}
-use Rattle.walk_client.proofs.ClientMoves.{some-same, none-some}
-use Rattle.walk_server.proofs.Rows.{choice}
-use Rattle.walk_server.proofs.ServerCases.{server-hears}
-use Rattle.walk_server.proofs.ServerOutcomes.{error_for}
+use Rattle.walk_steps.proofs.ClientMoves.{some-same, none-some}
+use Rattle.walk_steps.proofs.Rows.{choice}
+use Rattle.walk_steps.proofs.ServerCases.{server-hears}
+use Rattle.walk_steps.proofs.ServerOutcomes.{error_for}
 
 -- ---- what is sent is nothing, or notices and a reply
 

@@ -7,7 +7,7 @@ use Rattle.nq_model.specs.Profile.{patience, inc_end}
 use Rattle.nq_model.specs.Stepped.{most_events}
 use Rattle.law_bounds.proofs.WorldNumbers.{drawn-up-to}
 use Rattle.nq_model.specs.World.{Head, World, run}
-use Rattle.walk_run.proofs.Worlds.{run-holds}
+use Rattle.walk_steps.proofs.Worlds.{run-holds}
 use Rattle.law_progress.specs.AttachedSoon.{IsAttached, AttachedSoon}
 use Rattle.law_progress.specs.CalmRound.{calm_round, calm_rounds}
 use Rattle.law_deliveries.specs.DeliveryEnds.{calmed, IsDelivered}

@@ -18,14 +18,14 @@ use Rattle.nq_model.specs.Profile.{patience, inc_end}
 use Rattle.nq_model.specs.Server.{ServerStep, to_host}
 use Rattle.nq_model.specs.ServerStep.{receive}
 use Rattle.nq_model.specs.World.{Head, World, from_host, after_server, after_client, at_client, after_hearing, sending_host, deliver, deliver_to, deliver_to_client, step, run}
-use Rattle.law_leases.proofs.LeaseIntervals.{run-runs}
-use Rattle.walk_client.proofs.ClientFacts.{Alone}
-use Rattle.walk_client.proofs.ClientMoves.{some-same}
-use Rattle.walk_run.proofs.Members.{filter-in}
-use Rattle.walk_run.proofs.Packets.{In, in-get, Told}
-use Rattle.walk_run.proofs.Worlds.{Holds, run-holds, get-set-other, set-there, to-told}
-use Rattle.walk_server.proofs.Rows.{same-number, number-same}
-use Rattle.walk_server.proofs.Tests.{is-below, is-not-below}
+use Rattle.law_bounds.proofs.LeaseIntervals.{run-runs}
+use Rattle.walk_steps.proofs.ClientFacts.{Alone}
+use Rattle.walk_steps.proofs.ClientMoves.{some-same}
+use Rattle.walk_steps.proofs.Members.{filter-in}
+use Rattle.walk_steps.proofs.Packets.{In, in-get, Told}
+use Rattle.walk_steps.proofs.Worlds.{Holds, run-holds, get-set-other, set-there, to-told}
+use Rattle.walk_steps.proofs.Rows.{same-number, number-same}
+use Rattle.walk_steps.proofs.Tests.{is-below, is-not-below}
 use Rattle.law_progress.specs.CalmRound.{calm_round, calm_rounds}
 use Rattle.law_deliveries.specs.DeliveryEnds.{enough_deliveries, IsDelivered}
 use Rattle.law_progress.specs.CalmRoundsAreLawful.{IsLawful}

@@ -17,17 +17,17 @@ use Rattle.nq_model.specs.Send.{sends_request, after_seq, after_number, takes_pu
 use Rattle.nq_model.specs.Server.{Server, ServerStep, drops, says, replies, to_host}
 use Rattle.nq_model.specs.ServerStep.{row_of_attach, attaches, attach_later, admit, receive}
 use Rattle.nq_model.specs.Settle.{answers, after_read, reads_cached, after_write, marks_written, settle}
-use Rattle.walk_client.proofs.ClientCases.{Core, Closed}
-use Rattle.walk_client.proofs.ClientFacts.{Alone}
-use Rattle.walk_client.proofs.ClientMoves.{some-same, none-some}
-use Rattle.walk_client.proofs.ClientWalk.{reply-keeps, notice-keeps, tick-keeps}
-use Rattle.walk_client.proofs.RepliedCases.{replied-cases}
-use Rattle.walk_client.proofs.SendCases.{send-moves}
-use Rattle.walk_client.proofs.SettleCases.{settle-moves}
-use Rattle.walk_client.proofs.StepCases.{tick-cases, heard-cases}
-use Rattle.walk_run.proofs.Packets.{Told}
-use Rattle.walk_run.proofs.Worlds.{IsAt, given-by}
-use Rattle.walk_server.proofs.Rows.{choice, number-same}
+use Rattle.walk_steps.proofs.ClientCases.{Core, Closed}
+use Rattle.walk_steps.proofs.ClientFacts.{Alone}
+use Rattle.walk_steps.proofs.ClientMoves.{some-same, none-some}
+use Rattle.walk_steps.proofs.ClientWalk.{reply-keeps, notice-keeps, tick-keeps}
+use Rattle.walk_steps.proofs.RepliedCases.{replied-cases}
+use Rattle.walk_steps.proofs.SendCases.{send-moves}
+use Rattle.walk_steps.proofs.SettleCases.{settle-moves}
+use Rattle.walk_steps.proofs.StepCases.{tick-cases, heard-cases}
+use Rattle.walk_steps.proofs.Packets.{Told}
+use Rattle.walk_steps.proofs.Worlds.{IsAt, given-by}
+use Rattle.walk_steps.proofs.Rows.{choice, number-same}
 
 -- ---- who is attached stays so
 

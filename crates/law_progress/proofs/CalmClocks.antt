@@ -6,7 +6,7 @@ use Rattle.nq_base.specs.declared.Event.{Event}
 use Rattle.nq_model.specs.Lines.{Play, play, play_flow, flow_first, play_hosts}
 use Rattle.nq_model.specs.Skew.{server_ticks, ticks_of, is_tick_of}
 use Rattle.nq_model.specs.World.{Head, run}
-use Rattle.walk_leases.proofs.WorldClocks.{Clocked, run-clocked}
+use Rattle.walk_steps.proofs.WorldClocks.{Clocked, run-clocked}
 use Rattle.law_progress.specs.CalmRound.{calm_round, calm_rounds}
 use Rattle.law_deliveries.specs.DeliveryEnds.{calmed, enough_deliveries}
 use Rattle.law_progress.specs.CalmRoundsAreLawful.{IsLawful}

@@ -6,8 +6,8 @@ use Rattle.nq_base.specs.declared.Event.{Event}
 use Rattle.nq_model.specs.Lines.{Play, play, play_flow, flow_first, play_hosts, delivered, numbers_from, added}
 use Rattle.nq_model.specs.Message.{Packet}
 use Rattle.nq_model.specs.World.{Head, step, run}
-use Rattle.walk_run.proofs.Steps.{step-changes}
-use Rattle.walk_server.proofs.Rows.{choice}
+use Rattle.walk_steps.proofs.Steps.{step-changes}
+use Rattle.walk_steps.proofs.Rows.{choice}
 use Rattle.law_deliveries.specs.DeliveryEnds.{AreUnderWay, calmed, enough_deliveries, IsDelivered}
 use Rattle.law_deliveries.proofs.Final.{delivered as all-delivered}
 use Rattle.law_deliveries.proofs.Items.{Rise, from-under-way}

@@ -6,8 +6,8 @@ use Rattle.nq_promises.specs.Bounds.{KeepsBounds, BootsWithin}
 use Rattle.nq_model.specs.Lines.{Play, play, play_flow, flow_first, play_hosts, play_rounds}
 use Rattle.nq_model.specs.Skew.{is_server_tick, IsWithinSkew}
 use Rattle.nq_model.specs.World.{Head, step}
-use Rattle.walk_run.proofs.NoCrash.{one-first}
-use Rattle.walk_server.proofs.Rows.{same-number}
+use Rattle.walk_steps.proofs.NoCrash.{one-first}
+use Rattle.walk_steps.proofs.Rows.{same-number}
 use Rattle.law_progress.specs.CalmRound.{calm_round, calm_rounds}
 use Rattle.law_deliveries.specs.DeliveryEnds.{calmed, enough_deliveries}
 use Rattle.law_progress.specs.CalmRoundsAreLawful.{IsLawful, CalmRoundsAreLawful}

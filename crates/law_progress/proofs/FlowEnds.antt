@@ -11,9 +11,9 @@ use Rattle.nq_model.specs.Message.{Message, Packet, datagram_of}
 use Rattle.nq_model.specs.Server.{ServerStep}
 use Rattle.nq_model.specs.ServerStep.{receive}
 use Rattle.nq_model.specs.World.{World, from_host, after_server, after_client, after_hearing, sending_host, deliver, deliver_to, deliver_to_client, step}
-use Rattle.walk_client.proofs.ClientFacts.{Alone}
-use Rattle.walk_client.proofs.ClientMoves.{some-same, none-some}
-use Rattle.walk_server.proofs.Rows.{choice, number-same}
+use Rattle.walk_steps.proofs.ClientFacts.{Alone}
+use Rattle.walk_steps.proofs.ClientMoves.{some-same, none-some}
+use Rattle.walk_steps.proofs.Rows.{choice, number-same}
 use Rattle.law_calm.specs.Efforts.{effort}
 use Rattle.law_calm.proofs.Efforts.{total, total-append, weight, cost}
 use Rattle.law_calm.proofs.EffortReplies.{CancelCosts, hear-pays}

@@ -15,11 +15,11 @@ use Rattle.nq_model.specs.Hear.{hear, waits_for, breaks, grant_caches, holds_cac
 use Rattle.nq_model.specs.Message.{Message}
 use Rattle.nq_model.specs.Send.{sends_request, after_seq, after_number, takes_push, gives_up, send_next}
 use Rattle.nq_model.specs.Settle.{answers, names_losses, settle}
-use Rattle.walk_client.proofs.ClientMoves.{none-some}
-use Rattle.walk_client.proofs.SendCases.{send-cases}
-use Rattle.walk_client.proofs.SettleCases.{settle-cases}
-use Rattle.walk_client.proofs.StepCases.{tick-cases, evicted-cases, heard-cases}
-use Rattle.walk_server.proofs.Rows.{choice}
+use Rattle.walk_steps.proofs.ClientMoves.{none-some}
+use Rattle.walk_steps.proofs.SendCases.{send-cases}
+use Rattle.walk_steps.proofs.SettleCases.{settle-cases}
+use Rattle.walk_steps.proofs.StepCases.{tick-cases, evicted-cases, heard-cases}
+use Rattle.walk_steps.proofs.Rows.{choice}
 
 -- a client is attached and has no open call, and under a premise no delayed writes
 pub record Rests (Premise : Type 0) (c : Client) : Type 0 where

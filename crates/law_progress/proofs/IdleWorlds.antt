@@ -11,7 +11,7 @@ use Rattle.nq_model.specs.Hear.{hear}
 use Rattle.nq_model.specs.Lines.{Play, play, play_flow, flow_first, play_hosts}
 use Rattle.nq_model.specs.Message.{Message, Packet}
 use Rattle.nq_model.specs.World.{World, after_client, after_server, after_hearing, at_client, deliver, deliver_to, deliver_to_client, step}
-use Rattle.walk_client.proofs.ClientMoves.{some-same, none-some}
+use Rattle.walk_steps.proofs.ClientMoves.{some-same, none-some}
 use Rattle.law_progress.specs.AnswersStay.{AnswersStay, StoresStay}
 use Rattle.law_progress.specs.CallsAreAnswered.{IsAnswered}
 use Rattle.law_progress.specs.EverythingIsStored.{HasStored}

@@ -8,7 +8,7 @@ use Rattle.nq_model.specs.Message.{call, request}
 use Rattle.nq_model.specs.Server.{Server}
 use Rattle.nq_model.specs.ServerStep.{receive}
 use Rattle.nq_model.specs.Table.{is_writing}
-use Rattle.walk_client.proofs.ClientMoves.{some-same, none-some}
+use Rattle.walk_steps.proofs.ClientMoves.{some-same, none-some}
 use Rattle.law_calm.proofs.EffortParts.{filter-shorter}
 use Rattle.law_calm.proofs.Efforts.{total, lease_weight, want_weight, weight}
 use Rattle.law_calm.specs.Efforts.{is_idle}

@@ -6,9 +6,9 @@ use Rattle.nq_base.specs.declared.Event.{Event}
 use Rattle.nq_model.specs.Lines.{Play, play, delivered, numbers_from, added}
 use Rattle.nq_model.specs.Message.{Packet}
 use Rattle.nq_model.specs.World.{World, from_host, after_server, after_client, step}
-use Rattle.walk_client.proofs.ClientMoves.{none-some}
-use Rattle.walk_run.proofs.Packets.{In, in-left, in-right}
-use Rattle.walk_run.proofs.Steps.{Changes, nothing, by_client, by_server, step-changes}
+use Rattle.walk_steps.proofs.ClientMoves.{none-some}
+use Rattle.walk_steps.proofs.Packets.{In, in-left, in-right}
+use Rattle.walk_steps.proofs.Steps.{Changes, nothing, by_client, by_server, step-changes}
 
 -- ---- lists
 

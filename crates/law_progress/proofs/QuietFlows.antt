@@ -11,9 +11,9 @@ use Rattle.nq_model.specs.Message.{Message, Packet, Datagram, datagram_of}
 use Rattle.nq_model.specs.Server.{serving, Server}
 use Rattle.nq_model.specs.ServerStep.{receive}
 use Rattle.nq_model.specs.World.{Head, World, from_host, after_server, after_client, after_hearing, sending_host, deliver, deliver_to, deliver_to_client, step, run}
-use Rattle.walk_run.proofs.Steps.{Changes, nothing, by_client, by_server, step-changes}
-use Rattle.walk_run.proofs.Worlds.{run-holds}
-use Rattle.walk_server.proofs.ServerMoves.{server-moves, phase-moves}
+use Rattle.walk_steps.proofs.Steps.{Changes, nothing, by_client, by_server, step-changes}
+use Rattle.walk_steps.proofs.Worlds.{run-holds}
+use Rattle.walk_steps.proofs.ServerMoves.{server-moves, phase-moves}
 use Rattle.std.specs.Prelude.{All}
 use Rattle.nq_base.specs.declared.Access.{Access}
 use Rattle.nq_base.specs.declared.Row.{Row}
@@ -22,11 +22,11 @@ use Rattle.nq_model.specs.Profile.{most_hosts, xid_end}
 use Rattle.nq_model.specs.Server.{notices}
 use Rattle.nq_model.specs.Table.{find_row}
 use Rattle.nq_promises.specs.RowsStandApart.{HasOneRowEach}
-use Rattle.law_packets.proofs.NoticeCounts.{HostedBelow, fewer-than-hosts}
-use Rattle.walk_client.proofs.ClientFacts.{Alone}
-use Rattle.walk_client.proofs.ClientMoves.{none-some}
-use Rattle.walk_run.proofs.Packets.{in-get}
-use Rattle.walk_server.proofs.Tests.{is-below, is-not-below}
+use Rattle.law_bounds.proofs.NoticeCounts.{HostedBelow, fewer-than-hosts}
+use Rattle.walk_steps.proofs.ClientFacts.{Alone}
+use Rattle.walk_steps.proofs.ClientMoves.{none-some}
+use Rattle.walk_steps.proofs.Packets.{in-get}
+use Rattle.walk_steps.proofs.Tests.{is-below, is-not-below}
 use Rattle.law_calm.proofs.ClientCount.{client-count}
 use Rattle.law_calm.proofs.HostsBelow.{IsLocal, run-local, one-row-each}
 use Rattle.law_progress.proofs.ServerWeights.{packets_weight, Dear}

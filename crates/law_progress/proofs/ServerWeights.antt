@@ -22,11 +22,11 @@ use Rattle.nq_model.specs.Profile.{most_hosts, granted_term}
 use Rattle.nq_model.specs.Server.{Server, ServerStep, serving, notices, quiet, drops, says, to_host}
 use Rattle.nq_model.specs.ServerStep.{attaches, vacates, tells_later, serves, leases, receive, to_read, admit, not_attached, perform, access_of}
 use Rattle.nq_model.specs.Table.{Table, caches, is_writing, greater_mode, find_row}
-use Rattle.walk_client.proofs.ClientMoves.{some-same}
-use Rattle.walk_server.proofs.AskCases.{IsGranted, shares_again, begins_sharing, begins_caching, renews_row}
-use Rattle.walk_server.proofs.Rows.{choice}
-use Rattle.walk_server.proofs.ServerCases.{server-hears}
-use Rattle.walk_server.proofs.ServerOutcomes.{error_for, file_changed_by, wanted_by, base_in, IsPlain, unattached, attached_again, not_yet, no_entry, entry, no_attributes, attributes, no_file, no_block, decided_again, is_old}
+use Rattle.walk_steps.proofs.ClientMoves.{some-same}
+use Rattle.walk_steps.proofs.AskCases.{IsGranted, shares_again, begins_sharing, begins_caching, renews_row}
+use Rattle.walk_steps.proofs.Rows.{choice}
+use Rattle.walk_steps.proofs.ServerCases.{server-hears}
+use Rattle.walk_steps.proofs.ServerOutcomes.{error_for, file_changed_by, wanted_by, base_in, IsPlain, unattached, attached_again, not_yet, no_entry, entry, no_attributes, attributes, no_file, no_block, decided_again, is_old}
 use Rattle.law_calm.specs.Efforts.{is_idle}
 use Rattle.law_calm.proofs.Requests.{message-of}
 use Rattle.law_calm.proofs.Efforts.{total, total-more, lease_weight, reply_weight, want_weight, request_weight, weight}

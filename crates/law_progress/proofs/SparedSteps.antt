@@ -12,13 +12,13 @@ use Rattle.nq_model.specs.Message.{Message, Packet}
 use Rattle.nq_model.specs.Send.{sends_request, after_seq, after_number, takes_push, gives_up, send_next}
 use Rattle.nq_model.specs.Settle.{answers, after_read, reads_cached, after_write, marks_written, settle}
 use Rattle.nq_model.specs.World.{World, after_client, after_server, after_hearing, deliver, deliver_to, deliver_to_client}
-use Rattle.walk_client.proofs.ClientFacts.{Alone}
-use Rattle.walk_client.proofs.ClientMoves.{some-same, none-some}
-use Rattle.walk_client.proofs.PartCases.{answers-call-cases, lease-done-cases}
-use Rattle.walk_client.proofs.RepliedCases.{replied-cases}
-use Rattle.walk_client.proofs.SendCases.{send-moves}
-use Rattle.walk_client.proofs.SettleCases.{settle-cases}
-use Rattle.walk_client.proofs.StepCases.{heard-cases}
+use Rattle.walk_steps.proofs.ClientFacts.{Alone}
+use Rattle.walk_steps.proofs.ClientMoves.{some-same, none-some}
+use Rattle.walk_steps.proofs.PartCases.{answers-call-cases, lease-done-cases}
+use Rattle.walk_steps.proofs.RepliedCases.{replied-cases}
+use Rattle.walk_steps.proofs.SendCases.{send-moves}
+use Rattle.walk_steps.proofs.SettleCases.{settle-cases}
+use Rattle.walk_steps.proofs.StepCases.{heard-cases}
 use Rattle.law_calm.specs.Spared.{wants_lease, IsSpared, pausing, wants_none}
 use Rattle.law_calm.proofs.EffortReplies.{Goes, start, start-same, known-goes, optional-goes, pushed-goes, refused-goes, read-goes, write-goes, attached-goes, evicted-goes}
 

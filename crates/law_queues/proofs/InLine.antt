@@ -20,11 +20,11 @@ use Rattle.law_progress.proofs.CalmEnds.{IsRising}
 use Rattle.law_progress.proofs.PacketsCome.{Comes}
 use Rattle.law_rounds.proofs.LineSteps.{LineGoes, line_same, line_attached, line_decided}
 use Rattle.law_rounds.proofs.Next.{IsNext, next-in}
-use Rattle.walk_run.proofs.Packets.{In, in-get, Asked, Told, message-same, not-both}
-use Rattle.walk_run.proofs.Sequences.{Seqs}
-use Rattle.walk_run.proofs.ServerSays.{AllSaid, IsSaid, said_reply, said_error, said_notice}
-use Rattle.walk_run.proofs.Worlds.{IsAt, IsSent, by_host, by_server, get-set-same}
-use Rattle.walk_sends.proofs.Replies.{replies-are}
+use Rattle.walk_steps.proofs.Packets.{In, in-get, Asked, Told, message-same, not-both}
+use Rattle.walk_steps.proofs.Sequences.{Seqs}
+use Rattle.walk_steps.proofs.ServerSays.{AllSaid, IsSaid, said_reply, said_error, said_notice}
+use Rattle.walk_steps.proofs.Worlds.{IsAt, IsSent, by_host, by_server, get-set-same}
+use Rattle.walk_steps.proofs.Replies.{replies-are}
 use Rattle.law_queues.proofs.NewPackets.{get-mapped, WasOrNew, was, new, was-or-new, lower, behind-next}
 use Rattle.law_queues.proofs.StepNumbers.{NoVacated, Sent}
 

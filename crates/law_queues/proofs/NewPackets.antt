@@ -8,10 +8,10 @@ use Rattle.nq_model.specs.World.{step}
 use Rattle.law_deliveries.proofs.Items.{Rise}
 use Rattle.law_progress.proofs.CalmEnds.{IsRising}
 use Rattle.law_progress.proofs.PacketsCome.{Comes}
-use Rattle.walk_client.proofs.ClientMoves.{some-same, none-some}
-use Rattle.walk_run.proofs.Members.{in-filter}
-use Rattle.walk_run.proofs.Packets.{In, in-append}
-use Rattle.walk_server.proofs.Rows.{number-same}
+use Rattle.walk_steps.proofs.ClientMoves.{some-same, none-some}
+use Rattle.walk_steps.proofs.Members.{in-filter}
+use Rattle.walk_steps.proofs.Packets.{In, in-append}
+use Rattle.walk_steps.proofs.Rows.{number-same}
 use Rattle.law_rounds.proofs.Next.{OneLink, IsNext, sent-later}
 
 -- ---- lists by place

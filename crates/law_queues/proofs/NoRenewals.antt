@@ -7,15 +7,15 @@ use Rattle.nq_model.specs.Message.{Message}
 use Rattle.nq_model.specs.Send.{is_asking, sends_request, after_seq, after_number, takes_push, gives_up, send_next}
 use Rattle.nq_model.specs.Settle.{answers, reads_cached, after_read, after_write, marks_written, settle}
 use Rattle.law_calm.proofs.Busy.{asks-next}
-use Rattle.walk_client.proofs.ClientCases.{Core, Closed}
-use Rattle.walk_client.proofs.ClientFacts.{Alone}
-use Rattle.walk_client.proofs.ClientMoves.{some-same, none-some, keeps-or-cancels, passes}
-use Rattle.walk_client.proofs.SendCases.{send-cases}
-use Rattle.walk_client.proofs.SettleCases.{settle-cases, settle-settles}
-use Rattle.walk_client.proofs.SettleWalk.{settle-keeps}
-use Rattle.walk_client.proofs.StepCases.{tick-cases, evicted-cases, heard-cases}
-use Rattle.walk_server.proofs.Tests.{is-at-most, is-not-at-most}
-use Rattle.walk_sends.proofs.StepSends.{NextSends, nothing, asks, next-sends, replied-gives}
+use Rattle.walk_steps.proofs.ClientCases.{Core, Closed}
+use Rattle.walk_steps.proofs.ClientFacts.{Alone}
+use Rattle.walk_steps.proofs.ClientMoves.{some-same, none-some, keeps-or-cancels, passes}
+use Rattle.walk_steps.proofs.SendCases.{send-cases}
+use Rattle.walk_steps.proofs.SettleCases.{settle-cases, settle-settles}
+use Rattle.walk_steps.proofs.SettleWalk.{settle-keeps}
+use Rattle.walk_steps.proofs.StepCases.{tick-cases, evicted-cases, heard-cases}
+use Rattle.walk_steps.proofs.Tests.{is-at-most, is-not-at-most}
+use Rattle.walk_steps.proofs.StepSends.{NextSends, nothing, asks, next-sends, replied-gives}
 
 -- a client with an open call renews no lease
 pub record CallsFirst (c : Client) : Type 0 where

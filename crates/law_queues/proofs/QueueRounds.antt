@@ -15,23 +15,23 @@ use Rattle.nq_model.specs.Server.{Server, ServerStep, quiet, keeping_with, with_
 use Rattle.nq_model.specs.ServerStep.{receive, tick, at_time, opens, ends_writing}
 use Rattle.nq_model.specs.World.{Head, World, from_host, after_client, after_server, at_client, sending_host, step, run}
 use Rattle.law_calm.proofs.ClientCount.{client-count}
-use Rattle.law_leases.proofs.LeaseIntervals.{run-runs}
+use Rattle.law_bounds.proofs.LeaseIntervals.{run-runs}
 use Rattle.law_progress.specs.CalmRoundsAreLawful.{IsLawful}
 use Rattle.law_progress.proofs.Attaching.{hear-stays, tick-stays}
 use Rattle.law_progress.proofs.CalmEnds.{IsRising, played-rising, hosts-rising}
 use Rattle.law_progress.proofs.CalmIsLawful.{played-quiet, round}
-use Rattle.law_requests.proofs.WorldSequences.{run-draws}
+use Rattle.law_bounds.proofs.WorldSequences.{run-draws}
 use Rattle.law_rounds.proofs.Coming.{Delivery, no_packet, at_server, at_host, ignored, no_client, delivery}
 use Rattle.law_rounds.proofs.Lines.{run-lined}
 use Rattle.law_rounds.proofs.LineSteps.{line-goes}
 use Rattle.law_rounds.proofs.Next.{IsNext}
-use Rattle.walk_client.proofs.ClientMoves.{none-some}
-use Rattle.walk_leases.proofs.TickLines.{tick-line}
-use Rattle.walk_run.proofs.Packets.{in-get, Told, not-both, message-same}
-use Rattle.walk_run.proofs.Sequences.{Seqs}
-use Rattle.walk_run.proofs.Worlds.{Holds, run-holds, to-told, received-said, get-set-same, get-set-other}
-use Rattle.walk_server.proofs.Rows.{same-number, number-same}
-use Rattle.walk_server.proofs.ServerCases.{server-ticks}
+use Rattle.walk_steps.proofs.ClientMoves.{none-some}
+use Rattle.walk_steps.proofs.TickLines.{tick-line}
+use Rattle.walk_steps.proofs.Packets.{in-get, Told, not-both, message-same}
+use Rattle.walk_steps.proofs.Sequences.{Seqs}
+use Rattle.walk_steps.proofs.Worlds.{Holds, run-holds, to-told, received-said, get-set-same, get-set-other}
+use Rattle.walk_steps.proofs.Rows.{same-number, number-same}
+use Rattle.walk_steps.proofs.ServerCases.{server-ticks}
 use Rattle.law_queues.proofs.InLine.{InLine, empty-line, other-line, client-line, server-line}
 use Rattle.law_queues.proofs.NewPackets.{get-mapped}
 use Rattle.law_queues.proofs.StepNumbers.{hear-sent, tick-sent}

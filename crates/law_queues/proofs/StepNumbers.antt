@@ -8,12 +8,12 @@ use Rattle.nq_model.specs.Client.{Client, ClientStep, Ticket}
 use Rattle.nq_model.specs.ClientStep.{client_tick}
 use Rattle.nq_model.specs.Hear.{hear, cancelled}
 use Rattle.nq_model.specs.Message.{Message, Packet, call, asker, sequence_of}
-use Rattle.walk_client.proofs.ClientFacts.{Alone}
-use Rattle.walk_client.proofs.ClientMoves.{some-same, none-some, keeps-or-cancels}
-use Rattle.walk_run.proofs.Packets.{Told, call-same}
-use Rattle.walk_run.proofs.Worlds.{IsAt}
+use Rattle.walk_steps.proofs.ClientFacts.{Alone}
+use Rattle.walk_steps.proofs.ClientMoves.{some-same, none-some, keeps-or-cancels}
+use Rattle.walk_steps.proofs.Packets.{Told, call-same}
+use Rattle.walk_steps.proofs.Worlds.{IsAt}
 use Rattle.law_rounds.proofs.ClientTickets.{TicketIs, kept, resent, fresh, LastDrawn, Renewed, hear-renews, tick-renews}
-use Rattle.walk_sends.proofs.StepSends.{VacatedFrom, Gives, StepSends, only_gives, then_asks, HearSends, told, noticed, hear-sends, TickSends, rests, again, asks_now, tick-sends}
+use Rattle.walk_steps.proofs.StepSends.{VacatedFrom, Gives, StepSends, only_gives, then_asks, HearSends, told, noticed, hear-sends, TickSends, rests, again, asks_now, tick-sends}
 use Rattle.law_queues.proofs.NewPackets.{get-last}
 
 -- a request is no VACATED

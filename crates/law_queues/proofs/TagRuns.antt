@@ -24,24 +24,24 @@ use Rattle.nq_model.specs.World.{Head, World, from_host, after_server, after_cli
 use Rattle.nq_promises.specs.Bounds.{KeepsBounds}
 use Rattle.law_calm.proofs.HostsBelow.{one-row-each}
 use Rattle.law_calm.proofs.NoticeRows.{notices-mark}
-use Rattle.law_leases.proofs.LeaseIntervals.{run-runs}
-use Rattle.walk_client.proofs.ClientMoves.{some-same, none-some}
-use Rattle.walk_leases.proofs.Runs.{Runs, none-served}
-use Rattle.walk_run.proofs.Mail.{old-told, sent-calls, other-asked}
-use Rattle.walk_run.proofs.Packets.{In, in-append, in-get, Asked, Told, told-same, call-same}
-use Rattle.walk_run.proofs.ServerSays.{IsSaid, said_reply, said_error, said_notice}
-use Rattle.walk_run.proofs.Steps.{Changes, nothing, by_client, by_server, ClientActs, called, ticked, restarted, heard, ServerActs, received, ticks, crashes, run-goes}
-use Rattle.walk_run.proofs.TagFacts.{IsDrawn, TagsFit}
-use Rattle.walk_run.proofs.Worlds.{IsAt, run-holds, get-set-same, get-set-other, first-client, received-said, to-server, to-told}
-use Rattle.walk_sends.proofs.Replies.{replies-are}
-use Rattle.walk_sends.proofs.RowFacts.{there-or-comes, WasThere, Comes}
-use Rattle.walk_sends.proofs.RowsAfter.{rows-are}
-use Rattle.walk_server.proofs.Incarnations.{who-same}
-use Rattle.walk_server.proofs.RowChanges.{HasUniqueKeys, found-kept, unique-filtered}
-use Rattle.walk_server.proofs.Rows.{found-row, same-number, number-same}
-use Rattle.walk_tables.proofs.ServerFacts.{IncsFit, AreCurrent}
-use Rattle.walk_server.proofs.ServerMoves.{tick-moves}
-use Rattle.walk_tables.proofs.ServerTables.{StandingFits, NoneRecovering}
+use Rattle.law_bounds.proofs.LeaseIntervals.{run-runs}
+use Rattle.walk_steps.proofs.ClientMoves.{some-same, none-some}
+use Rattle.walk_steps.proofs.Runs.{Runs, none-served}
+use Rattle.walk_steps.proofs.Mail.{old-told, sent-calls, other-asked}
+use Rattle.walk_steps.proofs.Packets.{In, in-append, in-get, Asked, Told, told-same, call-same}
+use Rattle.walk_steps.proofs.ServerSays.{IsSaid, said_reply, said_error, said_notice}
+use Rattle.walk_steps.proofs.Steps.{Changes, nothing, by_client, by_server, ClientActs, called, ticked, restarted, heard, ServerActs, received, ticks, crashes, run-goes}
+use Rattle.walk_steps.proofs.TagFacts.{IsDrawn, TagsFit}
+use Rattle.walk_steps.proofs.Worlds.{IsAt, run-holds, get-set-same, get-set-other, first-client, received-said, to-server, to-told}
+use Rattle.walk_steps.proofs.Replies.{replies-are}
+use Rattle.walk_steps.proofs.RowFacts.{there-or-comes, WasThere, Comes}
+use Rattle.walk_steps.proofs.RowsAfter.{rows-are}
+use Rattle.walk_steps.proofs.Incarnations.{who-same}
+use Rattle.walk_steps.proofs.RowChanges.{HasUniqueKeys, found-kept, unique-filtered}
+use Rattle.walk_steps.proofs.Rows.{found-row, same-number, number-same}
+use Rattle.walk_steps.proofs.ServerFacts.{IncsFit, AreCurrent}
+use Rattle.walk_steps.proofs.ServerMoves.{tick-moves}
+use Rattle.walk_steps.proofs.ServerTables.{StandingFits, NoneRecovering}
 use Rattle.law_queues.specs.NoTagIsLater.{NoTagIsLater, RowNoticesAreHeard}
 use Rattle.law_queues.proofs.InLine.{said-no-call}
 use Rattle.law_queues.proofs.QueueRounds.{silent}

@@ -13,14 +13,14 @@ use Rattle.nq_model.specs.Hear.{hear, inc_of, noticed_tag, granted_lease}
 use Rattle.nq_model.specs.LeaseInterval.{grant_in, requested_file}
 use Rattle.nq_model.specs.Message.{Message, Packet, call, reply}
 use Rattle.nq_model.specs.Table.{tag_below, later_tag}
-use Rattle.walk_client.proofs.ClientCases.{Core, Closed, core_of}
-use Rattle.walk_client.proofs.ClientFacts.{fits_job}
-use Rattle.walk_client.proofs.ClientMoves.{some-same, none-some, keeps-or-cancels}
-use Rattle.walk_client.proofs.ClientWalk.{reply-keeps, notice-keeps, call-keeps, tick-keeps}
-use Rattle.walk_client.proofs.StepCases.{heard-cases}
-use Rattle.walk_run.proofs.Packets.{In, in-last, Told, call-same}
-use Rattle.walk_run.proofs.TagFacts.{used-from, dropped-from}
-use Rattle.walk_run.proofs.Worlds.{IsAt}
+use Rattle.walk_steps.proofs.ClientCases.{Core, Closed, core_of}
+use Rattle.walk_steps.proofs.ClientFacts.{fits_job}
+use Rattle.walk_steps.proofs.ClientMoves.{some-same, none-some, keeps-or-cancels}
+use Rattle.walk_steps.proofs.ClientWalk.{reply-keeps, notice-keeps, call-keeps, tick-keeps}
+use Rattle.walk_steps.proofs.StepCases.{heard-cases}
+use Rattle.walk_steps.proofs.Packets.{In, in-last, Told, call-same}
+use Rattle.walk_steps.proofs.TagFacts.{used-from, dropped-from}
+use Rattle.walk_steps.proofs.Worlds.{IsAt}
 
 -- the tags of a client: of leases, of notices that wait, and of grants that it can still take
 pub record Knows (T : ℕ → Tag → Type 0) (who : Who) (ticket : Option Ticket) (leases : List Lease) (notices : List Notice) (ps : List Packet) : Type 0 where

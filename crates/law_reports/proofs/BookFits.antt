@@ -9,8 +9,8 @@ use Rattle.nq_base.specs.declared.Said.{Said}
 use Rattle.nq_base.specs.declared.Told.{Told}
 use Rattle.nq_base.specs.declared.Value.{Value}
 use Rattle.nq_base.specs.declared.Who.{Who}
-use Rattle.walk_client.proofs.ClientMoves.{some-same, none-some}
-use Rattle.walk_server.proofs.Rows.{choice, same-number, number-same}
+use Rattle.walk_steps.proofs.ClientMoves.{some-same, none-some}
+use Rattle.walk_steps.proofs.Rows.{choice, same-number, number-same}
 use Rattle.law_reports.proofs.Books.{Book, unsaved_on, after_loss, after_names, after_report, tells_losses, Closed}
 use Rattle.law_reports.proofs.Tallies.{IsOne, tally, tally-nil, tally-cons, tally-append, tally-reverse, tally-map, tally-split, tally-one, tally-taken, tally-added, one-added, added-one, one-found}
 use Rattle.law_reports.proofs.Told.{Grows, grows}

@@ -8,9 +8,9 @@ use Rattle.nq_base.specs.declared.Loss.{Loss}
 use Rattle.nq_base.specs.declared.Push.{Push}
 use Rattle.nq_base.specs.declared.Said.{Said}
 use Rattle.nq_base.specs.declared.Who.{Who}
-use Rattle.walk_client.proofs.ClientMoves.{some-same, none-some}
+use Rattle.walk_steps.proofs.ClientMoves.{some-same, none-some}
 use Rattle.nq_model.proofs.Lists.{exists-append, each-append}
-use Rattle.walk_server.proofs.Rows.{choice, same-number}
+use Rattle.walk_steps.proofs.Rows.{choice, same-number}
 use Rattle.nq_promises.specs.LossesAreReported.{cleans}
 use Rattle.law_reports.proofs.Books.{Book, unsaved_on, after_loss, after_names, after_report, after_call, Closed}
 use Rattle.law_reports.proofs.Tallies.{IsOne, one-passed, one-mapped, each-mapped, each-reverse}

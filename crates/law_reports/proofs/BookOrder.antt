@@ -6,7 +6,7 @@ use Rattle.nq_base.specs.declared.Entry.TheVariants.{L}
 use Rattle.nq_base.specs.declared.Loss.{Loss}
 use Rattle.nq_base.specs.declared.Push.{Push}
 use Rattle.nq_base.specs.declared.Who.{Who}
-use Rattle.walk_server.proofs.Rows.{choice}
+use Rattle.walk_steps.proofs.Rows.{choice}
 use Rattle.nq_promises.specs.LossesAreReported.{losses_told, IsPartOf}
 use Rattle.law_reports.proofs.Books.{Book, unsaved_on, after_loss, after_names, after_report, Closed}
 use Rattle.law_reports.proofs.BookNone.{IsBy, unsaved-one}

@@ -12,12 +12,12 @@ use Rattle.nq_base.specs.declared.Reply.{Reply}
 use Rattle.nq_base.specs.declared.Request.{Request}
 use Rattle.nq_base.specs.declared.Tag.{Tag}
 use Rattle.nq_base.specs.declared.Value.{Value}
-use Rattle.walk_client.proofs.ClientFacts.{fits_job}
-use Rattle.walk_client.proofs.PartCases.{answers-call-cases, if-broken-cases, takes-optional-cases, lease-done-cases, then-caches-cases, caches-write-cases, caches-push-cases, vacates-if-clean-cases}
-use Rattle.walk_client.proofs.RepliedCases.{IsNamed, looked_up, created, attributes, replied-cases}
-use Rattle.walk_client.proofs.SendCases.{send-moves, pushed}
-use Rattle.walk_client.proofs.SettleCases.{settle-cases}
-use Rattle.walk_client.proofs.StepCases.{call-cases, unless-cached-cases, tick-cases, evicted-cases, heard-cases}
+use Rattle.walk_steps.proofs.ClientFacts.{fits_job}
+use Rattle.walk_steps.proofs.PartCases.{answers-call-cases, if-broken-cases, takes-optional-cases, lease-done-cases, then-caches-cases, caches-write-cases, caches-push-cases, vacates-if-clean-cases}
+use Rattle.walk_steps.proofs.RepliedCases.{IsNamed, looked_up, created, attributes, replied-cases}
+use Rattle.walk_steps.proofs.SendCases.{send-moves, pushed}
+use Rattle.walk_steps.proofs.SettleCases.{settle-cases}
+use Rattle.walk_steps.proofs.StepCases.{call-cases, unless-cached-cases, tick-cases, evicted-cases, heard-cases}
 use Rattle.law_reports.proofs.Books.{Book, book_of, book_at, unsaved_on, after_loss, after_names, after_report, tells_losses, Closed}
 use Rattle.nq_model.specs.Client.{Client, ClientStep, Job, begun, Notice, Ticket, UnderWay, notice_on, first_dirty}
 use Rattle.nq_model.specs.ClientStep.{begins_call, is_called, losses_for, changed_file, says_busy, client_call, at_time, sends_again, client_tick}

@@ -7,8 +7,8 @@ use Rattle.nq_base.specs.declared.Loss.{Loss}
 use Rattle.nq_base.specs.declared.Told.{Told}
 use Rattle.nq_base.specs.declared.Who.{Who}
 use Rattle.nq_model.proofs.Lists.{exists-left, exists-right, exists-append, each-map, each-append}
-use Rattle.walk_server.proofs.Incarnations.{who-same}
-use Rattle.walk_server.proofs.Rows.{same-number, number-same}
+use Rattle.walk_steps.proofs.Incarnations.{who-same}
+use Rattle.walk_steps.proofs.Rows.{same-number, number-same}
 use Rattle.nq_promises.specs.LossesAreReported.{IsLossOf}
 use Rattle.law_reports.proofs.Tallies.{IsOne}
 use Rattle.law_reports.proofs.Told.{IsToldAt, IsCalled, Grows, grows, called-more, some-names-back, GoesOn, told-more}

@@ -8,10 +8,10 @@ use Rattle.nq_base.specs.declared.Event.{Event}
 use Rattle.nq_base.specs.declared.Loss.{Loss}
 use Rattle.nq_base.specs.declared.Party.{Party}
 use Rattle.nq_base.specs.declared.Who.{Who}
-use Rattle.walk_client.proofs.ClientFacts.{fits_job}
-use Rattle.walk_client.proofs.ClientMoves.{none-some}
-use Rattle.walk_server.proofs.Rows.{same-number, number-same}
-use Rattle.walk_run.proofs.Worlds.{get-set-same, get-set-other, Holds, run-holds, first-client}
+use Rattle.walk_steps.proofs.ClientFacts.{fits_job}
+use Rattle.walk_steps.proofs.ClientMoves.{none-some}
+use Rattle.walk_steps.proofs.Rows.{same-number, number-same}
+use Rattle.walk_steps.proofs.Worlds.{get-set-same, get-set-other, Holds, run-holds, first-client}
 use Rattle.nq_promises.specs.LossesAreReported.{IsLossOf, IsOneOf, LossesFitInEveryRun, ReportedInEveryRun}
 use Rattle.law_reports.proofs.Books.{book_of, book_at}
 use Rattle.law_reports.proofs.BookFits.{Fits, fits-closed}

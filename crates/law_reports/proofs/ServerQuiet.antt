@@ -6,7 +6,7 @@ use Rattle.nq_model.specs.Journal.{Each}
 use Rattle.nq_model.specs.Message.{Datagram}
 use Rattle.nq_model.specs.Server.{Server}
 use Rattle.nq_model.specs.ServerStep.{receive, tick, crash}
-use Rattle.walk_entries.proofs.ServerEntries.{OfServer, receive-each, tick-each}
+use Rattle.walk_steps.proofs.ServerEntries.{OfServer, receive-each, tick-each}
 
 abbrev pub AllQuiet : List Entry → Type 0
 AllQuiet entries = Each IsQuiet entries

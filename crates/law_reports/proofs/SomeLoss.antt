@@ -5,7 +5,7 @@ use Rattle.nq_base.specs.Block.{filled, zeros}
 use Rattle.nq_base.specs.declared.Call.{Call}
 use Rattle.nq_base.specs.declared.Event.{Event}
 use Rattle.nq_base.specs.declared.Loss.{Loss}
-use Rattle.walk_run.proofs.NoCrash.{no-crash-within}
+use Rattle.walk_steps.proofs.NoCrash.{no-crash-within}
 use Rattle.nq_promises.specs.LossesAreReported.{IsLossOf}
 use Rattle.law_reports.specs.Met.{untold, IsLostAndNamed}
 use Rattle.nq_model.proofs.SkewTest.{skew-test-is-sound}
@@ -13,7 +13,7 @@ use Rattle.nq_model.specs.Journal.{Exists}
 use Rattle.nq_model.specs.Reported.{Names}
 use Rattle.nq_model.specs.ServerStep.{at_time as at_server_time}
 use Rattle.nq_model.specs.World.{Head, run}
-use Rattle.walk_run.proofs.GivenRuns.{given-run}
+use Rattle.walk_steps.proofs.GivenRuns.{given-run}
 
 -- one host that wants short leases, one file of one block
 abbrev pub one-host : Head

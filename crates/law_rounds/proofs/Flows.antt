@@ -26,12 +26,12 @@ use Rattle.law_progress.proofs.PacketsCome.{Comes}
 use Rattle.law_progress.proofs.AllAttached.{rounds-more}
 use Rattle.law_progress.proofs.CalmIsLawful.{played-quiet}
 use Rattle.law_progress.proofs.QuietFlows.{grown}
-use Rattle.walk_client.proofs.ClientMoves.{some-same, none-some}
-use Rattle.walk_client.proofs.StepCases.{heard-cases}
-use Rattle.walk_run.proofs.Packets.{In, in-get, Told}
-use Rattle.walk_run.proofs.Steps.{step-changes}
-use Rattle.walk_run.proofs.Worlds.{IsAt, Holds, get-set-other, set-there, to-told, run-holds}
-use Rattle.walk_server.proofs.Rows.{same-number, number-same}
+use Rattle.walk_steps.proofs.ClientMoves.{some-same, none-some}
+use Rattle.walk_steps.proofs.StepCases.{heard-cases}
+use Rattle.walk_steps.proofs.Packets.{In, in-get, Told}
+use Rattle.walk_steps.proofs.Steps.{step-changes}
+use Rattle.walk_steps.proofs.Worlds.{IsAt, Holds, get-set-other, set-there, to-told, run-holds}
+use Rattle.walk_steps.proofs.Rows.{same-number, number-same}
 use Rattle.law_rounds.specs.RoundsEndQuiet.{IsSmall}
 use Rattle.law_rounds.specs.WholeRounds.{play_order, whole_round, whole_rounds}
 use Rattle.law_rounds.proofs.Asking.{AnswersTicket, asks-answered}

@@ -21,8 +21,8 @@ use Rattle.nq_model.specs.Stepped.{most_events, most_sent}
 use Rattle.nq_model.specs.Table.{Table, find_row}
 use Rattle.nq_model.proofs.FreshFits.{found-has}
 use Rattle.nq_promises.specs.RepliesAreOwed.{goes_out, is_out_of_bounds}
-use Rattle.walk_server.proofs.Rows.{choice}
-use Rattle.walk_server.proofs.Tests.{is-not-at-most}
+use Rattle.walk_steps.proofs.Rows.{choice}
+use Rattle.walk_steps.proofs.Tests.{is-not-at-most}
 use Rattle.law_rounds.proofs.Revisions.{UpTo}
 
 -- ---- the value of a decision

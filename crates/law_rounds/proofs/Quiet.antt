@@ -17,9 +17,9 @@ use Rattle.law_progress.specs.CalmRoundsAreLawful.{IsLawful}
 use Rattle.law_progress.proofs.AllAttached.{rounds-more}
 use Rattle.law_progress.proofs.CalmEnds.{IsRising, rounds-rising, calmed-rising}
 use Rattle.law_progress.proofs.CalmIsLawful.{rounds}
-use Rattle.walk_client.proofs.ClientMoves.{none-some}
-use Rattle.walk_client.proofs.SettleCases.{IsSync, of_sync, of_put}
-use Rattle.walk_run.proofs.Worlds.{run-holds}
+use Rattle.walk_steps.proofs.ClientMoves.{none-some}
+use Rattle.walk_steps.proofs.SettleCases.{IsSync, of_sync, of_put}
+use Rattle.walk_steps.proofs.Worlds.{run-holds}
 use Rattle.law_rounds.specs.RoundsEndQuiet.{IsSmall, all_delivered, waits_to_store, IsQuiet, RoundsEndQuiet}
 use Rattle.law_rounds.proofs.Dues.{NoneDue, run-due}
 use Rattle.law_rounds.specs.WholeRounds.{play_order, whole_rounds, WholeRoundsEndQuiet}

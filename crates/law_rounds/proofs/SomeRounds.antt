@@ -4,8 +4,8 @@ use Rattle.nq_base.specs.Block.{filled, zeros}
 use Rattle.nq_model.specs.Lines.{Play}
 use Rattle.nq_model.specs.Stepped.{most_events, most_sent}
 use Rattle.nq_model.specs.World.{run}
-use Rattle.walk_run.proofs.GivenRuns.{given-run}
-use Rattle.walk_server.proofs.Tests.{is-at-most}
+use Rattle.walk_steps.proofs.GivenRuns.{given-run}
+use Rattle.walk_steps.proofs.Tests.{is-at-most}
 use Rattle.law_deliveries.specs.DeliveryEnds.{calmed}
 use Rattle.law_progress.specs.QuietDeliveries.{recovers}
 use Rattle.law_progress.specs.SomeNeedHalf.{late_head, late_events}

@@ -12,9 +12,9 @@ use Rattle.nq_model.specs.Message.{Packet, call, reply}
 use Rattle.nq_model.specs.Server.{to_host}
 use Rattle.nq_model.specs.Table.{find_row}
 use Rattle.nq_model.specs.World.{from_host}
-use Rattle.walk_client.proofs.ClientMoves.{some-same, none-some}
-use Rattle.walk_run.proofs.Packets.{In, in-left, message-same, not-both, call-same}
-use Rattle.walk_server.proofs.Rows.{same-number, number-same}
+use Rattle.walk_steps.proofs.ClientMoves.{some-same, none-some}
+use Rattle.walk_steps.proofs.Packets.{In, in-left, message-same, not-both, call-same}
+use Rattle.walk_steps.proofs.Rows.{same-number, number-same}
 use Rattle.law_answered.specs.PutOff.{file_of, access_by}
 use Rattle.law_open_calls.proofs.Hope.{file_of_call, access_of_call, Safe, Hopeful, Goes, told, waits, vacated, InWay, safe-rest, safe-append, safe-none}
 use Rattle.law_open_calls.proofs.Served.{IsStill, OnlyStays, AreTold, Outcome, quiet, by_own, by_others, IsServed}

@@ -25,20 +25,20 @@ use Rattle.nq_model.specs.ServerStep.{access_of, to_read, attaches, vacates, vac
 use Rattle.nq_model.specs.Skew.{IsWithinSkew}
 use Rattle.nq_model.specs.Table.{Table, caches, is_writing, same_tag, find_row, is_row_of, drop_host, drop_rows_of, drop_row, put_row, with_rows, after_draw}
 use Rattle.nq_model.specs.World.{Head, after_server, after_client, sending_host, run}
-use Rattle.law_leases.proofs.LeaseIntervals.{run-runs}
-use Rattle.walk_client.proofs.ClientMoves.{some-same, none-some}
-use Rattle.walk_leases.proofs.Runs.{none-served}
-use Rattle.walk_run.proofs.RunCases.{Keeps, run-keeps}
-use Rattle.walk_server.proofs.AskCases.{with_marked, IsGranted, shares_again, begins_sharing, begins_caching, renews_row}
-use Rattle.walk_server.proofs.KeptChanges.{found-replaced, found-added, find-removed, find-not-removed}
-use Rattle.walk_server.proofs.RowChanges.{HasUniqueKeys, kept_if, mark, mark-is, find-marked, find-put, of-key, find-kept, find-other-dropped, find-other-host-dropped, find-other-file-dropped, found-any, unique-filtered}
-use Rattle.walk_server.proofs.Rows.{choice, found-row, find-passes, same-number, number-same}
-use Rattle.walk_server.proofs.ServerCases.{server-hears}
-use Rattle.walk_server.proofs.ServerMoves.{server-moves, tick-moves}
-use Rattle.walk_server.proofs.ServerOutcomes.{line_of}
-use Rattle.walk_tables.proofs.LogFits.{fits-start}
-use Rattle.walk_tables.proofs.ServerNumbers.{IdsFitOf, ids-receive, ids-tick, ids-crash}
-use Rattle.walk_tables.proofs.ServerTables.{NoneRecovering, StandingFits}
+use Rattle.law_bounds.proofs.LeaseIntervals.{run-runs}
+use Rattle.walk_steps.proofs.ClientMoves.{some-same, none-some}
+use Rattle.walk_steps.proofs.Runs.{none-served}
+use Rattle.walk_steps.proofs.RunCases.{Keeps, run-keeps}
+use Rattle.walk_steps.proofs.AskCases.{with_marked, IsGranted, shares_again, begins_sharing, begins_caching, renews_row}
+use Rattle.walk_steps.proofs.KeptChanges.{found-replaced, found-added, find-removed, find-not-removed}
+use Rattle.walk_steps.proofs.RowChanges.{HasUniqueKeys, kept_if, mark, mark-is, find-marked, find-put, of-key, find-kept, find-other-dropped, find-other-host-dropped, find-other-file-dropped, found-any, unique-filtered}
+use Rattle.walk_steps.proofs.Rows.{choice, found-row, find-passes, same-number, number-same}
+use Rattle.walk_steps.proofs.ServerCases.{server-hears}
+use Rattle.walk_steps.proofs.ServerMoves.{server-moves, tick-moves}
+use Rattle.walk_steps.proofs.ServerOutcomes.{line_of}
+use Rattle.walk_steps.proofs.LogFits.{fits-start}
+use Rattle.walk_steps.proofs.ServerNumbers.{IdsFitOf, ids-receive, ids-tick, ids-crash}
+use Rattle.walk_steps.proofs.ServerTables.{NoneRecovering, StandingFits}
 use Rattle.law_calm.proofs.Requests.{message-of}
 
 -- ---- what is kept

@@ -25,13 +25,13 @@ use Rattle.law_progress.proofs.CalmIsLawful.{flows, round, calm-round}
 use Rattle.law_progress.proofs.SoonRounds.{same-end}
 use Rattle.law_queues.proofs.NoRenewals.{CallsFirst, tick-first}
 use Rattle.law_queues.proofs.TagRuns.{keys-unique}
-use Rattle.walk_client.proofs.ClientFacts.{Alone}
-use Rattle.walk_client.proofs.ClientMoves.{some-same, none-some}
-use Rattle.walk_run.proofs.Worlds.{run-holds}
-use Rattle.walk_server.proofs.RowChanges.{HasUniqueKeys, found-kept, unique-filtered}
-use Rattle.walk_server.proofs.ServerCases.{server-ticks}
-use Rattle.walk_server.proofs.ServerMoves.{tick-keeps}
-use Rattle.walk_server.proofs.Tests.{is-at-most, is-not-at-most}
+use Rattle.walk_steps.proofs.ClientFacts.{Alone}
+use Rattle.walk_steps.proofs.ClientMoves.{some-same, none-some}
+use Rattle.walk_steps.proofs.Worlds.{run-holds}
+use Rattle.walk_steps.proofs.RowChanges.{HasUniqueKeys, found-kept, unique-filtered}
+use Rattle.walk_steps.proofs.ServerCases.{server-ticks}
+use Rattle.walk_steps.proofs.ServerMoves.{tick-keeps}
+use Rattle.walk_steps.proofs.Tests.{is-at-most, is-not-at-most}
 use Rattle.law_answered.proofs.Calling.{hear-keeps}
 use Rattle.law_answered.proofs.Hosts.{flow-keeps, ticked}
 use Rattle.law_answered.proofs.LookTickets.{tick-opens}

@@ -22,7 +22,7 @@ use Rattle.law_rounds.proofs.Flows.{round-small, rounds-small}
 use Rattle.law_rounds.proofs.RecoveryRounds.{recoveries-end}
 use Rattle.law_answered.proofs.EndRounds.{fresh-quiet}
 use Rattle.law_answered.proofs.Hosts.{all-found, all-get}
-use Rattle.walk_client.proofs.ClientMoves.{some-same, none-some}
+use Rattle.walk_steps.proofs.ClientMoves.{some-same, none-some}
 use Rattle.law_open_calls.proofs.Hope.{file_of_call}
 use Rattle.law_open_calls.proofs.Served.{Fits, read_fits, write_fits}
 use Rattle.law_shared.specs.LeaselessAnswered.{WantsNoLease, LeaselessAnswered, LeaselessInTime}

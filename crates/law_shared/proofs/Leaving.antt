@@ -14,16 +14,16 @@ use Rattle.nq_model.specs.Send.{sends_request, after_seq, after_number, takes_pu
 use Rattle.nq_model.specs.Server.{to_host}
 use Rattle.nq_model.specs.Settle.{answers, after_read, reads_cached, after_write, marks_written, settle}
 use Rattle.nq_model.specs.Table.{tag_below, find_row}
-use Rattle.walk_client.proofs.ClientCases.{Core, core_of, Closed}
-use Rattle.walk_client.proofs.ClientFacts.{Alone}
-use Rattle.walk_client.proofs.ClientMoves.{some-same}
-use Rattle.walk_client.proofs.ClientWalk.{reply-keeps}
-use Rattle.walk_client.proofs.SendCases.{send-cases}
-use Rattle.walk_client.proofs.SettleCases.{settle-cases}
-use Rattle.walk_client.proofs.StepCases.{evicted-cases, heard-cases}
-use Rattle.walk_run.proofs.Packets.{In, in-left, in-right, Told, told-same}
-use Rattle.walk_run.proofs.Worlds.{IsAt, given-by}
-use Rattle.walk_server.proofs.Rows.{same-number, number-same}
+use Rattle.walk_steps.proofs.ClientCases.{Core, core_of, Closed}
+use Rattle.walk_steps.proofs.ClientFacts.{Alone}
+use Rattle.walk_steps.proofs.ClientMoves.{some-same}
+use Rattle.walk_steps.proofs.ClientWalk.{reply-keeps}
+use Rattle.walk_steps.proofs.SendCases.{send-cases}
+use Rattle.walk_steps.proofs.SettleCases.{settle-cases}
+use Rattle.walk_steps.proofs.StepCases.{evicted-cases, heard-cases}
+use Rattle.walk_steps.proofs.Packets.{In, in-left, in-right, Told, told-same}
+use Rattle.walk_steps.proofs.Worlds.{IsAt, given-by}
+use Rattle.walk_steps.proofs.Rows.{same-number, number-same}
 use Rattle.nq_model.proofs.ClientLists.{other-notice-dropped, other-notice-put, put-notice-found}
 use Rattle.law_open_calls.proofs.ClientHopes.{Leaves, gives_up as leaves_gives_up, notes as leaves_notes}
 use Rattle.law_open_calls.proofs.HearerAt.{later-of-two, later-of-old}

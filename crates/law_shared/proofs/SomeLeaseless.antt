@@ -21,10 +21,10 @@ use Rattle.law_progress.proofs.CalmEnds.{IsRising, calmed-rising}
 use Rattle.law_progress.proofs.SoonRounds.{soon_rounds, soon_ends, all-soon}
 use Rattle.law_rounds.specs.RoundsEndQuiet.{IsSmall}
 use Rattle.law_answered.proofs.Hosts.{all-found}
-use Rattle.walk_client.proofs.ClientMoves.{some-same, none-some}
-use Rattle.walk_run.proofs.GivenRuns.{given-run}
-use Rattle.walk_run.proofs.NoCrash.{one-first}
-use Rattle.walk_server.proofs.Tests.{is-at-most}
+use Rattle.walk_steps.proofs.ClientMoves.{some-same, none-some}
+use Rattle.walk_steps.proofs.GivenRuns.{given-run}
+use Rattle.walk_steps.proofs.NoCrash.{one-first}
+use Rattle.walk_steps.proofs.Tests.{is-at-most}
 use Rattle.law_shared.specs.LeaselessAnswered.{WantsNoLease}
 use Rattle.law_shared.specs.Met.{pair_head, put_events, LeaselessIsMet}
 

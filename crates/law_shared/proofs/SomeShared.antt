@@ -21,9 +21,9 @@ use Rattle.law_progress.specs.SomeNeedHalf.{is_open}
 use Rattle.law_progress.proofs.CalmEnds.{IsRising, calmed-rising}
 use Rattle.law_progress.proofs.SoonRounds.{soon_rounds, soon_ends, all-soon}
 use Rattle.law_rounds.specs.RoundsEndQuiet.{IsSmall}
-use Rattle.walk_run.proofs.GivenRuns.{given-run}
-use Rattle.walk_run.proofs.NoCrash.{one-first}
-use Rattle.walk_server.proofs.Tests.{is-at-most}
+use Rattle.walk_steps.proofs.GivenRuns.{given-run}
+use Rattle.walk_steps.proofs.NoCrash.{one-first}
+use Rattle.walk_steps.proofs.Tests.{is-at-most}
 use Rattle.law_shared.specs.SharedFilesAnswered.{IsSharedNow}
 use Rattle.law_shared.specs.Met.{pair_head, pair_events, SharedFilesAreMet}
 

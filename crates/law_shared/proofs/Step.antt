@@ -33,8 +33,8 @@ use Rattle.law_calm.proofs.Meant.{requests-are-meant}
 use Rattle.law_calm.proofs.NamedRows.{named-rows}
 use Rattle.law_calm.proofs.SharedRows.{shared-stay}
 use Rattle.law_calm.proofs.SharingRows.{rows-to-go}
-use Rattle.law_leases.proofs.LeaseIntervals.{run-runs}
-use Rattle.law_packets.proofs.NoticeCounts.{HostedBelow}
+use Rattle.law_bounds.proofs.LeaseIntervals.{run-runs}
+use Rattle.law_bounds.proofs.NoticeCounts.{HostedBelow}
 use Rattle.law_progress.specs.CalmRoundsAreLawful.{IsLawful}
 use Rattle.law_progress.specs.QuietDeliveries.{recovers}
 use Rattle.law_progress.proofs.PacketsCome.{Comes}
@@ -43,19 +43,19 @@ use Rattle.law_progress.proofs.CalmEnds.{IsRising, played-rising}
 use Rattle.law_progress.proofs.CalmIsLawful.{played-quiet}
 use Rattle.law_progress.proofs.QuietFlows.{delivered-phase}
 use Rattle.law_queues.proofs.NoRenewals.{CallsFirst, hear-first}
-use Rattle.law_requests.proofs.WorldSequences.{run-draws}
+use Rattle.law_bounds.proofs.WorldSequences.{run-draws}
 use Rattle.law_rounds.proofs.Next.{OneLink, IsNext}
 use Rattle.law_rounds.proofs.Coming.{in-map, Delivery, no_packet, at_server, at_host, ignored, no_client, delivery}
-use Rattle.walk_client.proofs.ClientFacts.{fits_job}
-use Rattle.walk_client.proofs.ClientMoves.{some-same, none-some}
-use Rattle.walk_run.proofs.Packets.{In, in-left, in-right, in-append, in-get, Asked, Told, message-same, told-same, call-same, not-both}
-use Rattle.walk_run.proofs.Worlds.{IsAt, Holds, IsSent, by_host, by_server, get-set-same, get-set-other, set-there, to-told, run-holds}
-use Rattle.walk_sends.proofs.StepSends.{HearSends, hear-sends}
-use Rattle.walk_server.proofs.Rows.{same-number, number-same, found-row}
-use Rattle.walk_server.proofs.ServerMoves.{receive-keeps}
-use Rattle.walk_server.proofs.ServerOutcomes.{line_of}
-use Rattle.walk_server.proofs.Tests.{is-at-most, is-not-at-most}
-use Rattle.walk_tables.proofs.ServerNumbers.{IdsFitOf}
+use Rattle.walk_steps.proofs.ClientFacts.{fits_job}
+use Rattle.walk_steps.proofs.ClientMoves.{some-same, none-some}
+use Rattle.walk_steps.proofs.Packets.{In, in-left, in-right, in-append, in-get, Asked, Told, message-same, told-same, call-same, not-both}
+use Rattle.walk_steps.proofs.Worlds.{IsAt, Holds, IsSent, by_host, by_server, get-set-same, get-set-other, set-there, to-told, run-holds}
+use Rattle.walk_steps.proofs.StepSends.{HearSends, hear-sends}
+use Rattle.walk_steps.proofs.Rows.{same-number, number-same, found-row}
+use Rattle.walk_steps.proofs.ServerMoves.{receive-keeps}
+use Rattle.walk_steps.proofs.ServerOutcomes.{line_of}
+use Rattle.walk_steps.proofs.Tests.{is-at-most, is-not-at-most}
+use Rattle.walk_steps.proofs.ServerNumbers.{IdsFitOf}
 use Rattle.law_answered.proofs.Calling.{hear-keeps}
 use Rattle.law_open_calls.proofs.CallRequests.{run-asks}
 use Rattle.law_open_calls.proofs.ClientHopes.{map-in, Leaves, gives_up, notes, Hearer}

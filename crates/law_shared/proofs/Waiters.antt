@@ -12,9 +12,9 @@ use Rattle.nq_base.specs.declared.Want.{Want}
 use Rattle.nq_model.specs.Ask.{Reply, ask_past, ask_freely, begin, shares, conflicts, sharing_row, caching_row, marked, with_waiting, put_off, granted, no_lease, term_of}
 use Rattle.nq_model.specs.Profile.{shortest_term, most_rows}
 use Rattle.nq_model.specs.Table.{Table, find_row, with_rows, after_draw}
-use Rattle.walk_server.proofs.AskCases.{with_marked, with_waiter}
-use Rattle.walk_server.proofs.RowChanges.{mark, find-put-same}
-use Rattle.walk_server.proofs.Rows.{choice}
+use Rattle.walk_steps.proofs.AskCases.{with_marked, with_waiter}
+use Rattle.walk_steps.proofs.RowChanges.{mark, find-put-same}
+use Rattle.walk_steps.proofs.Rows.{choice}
 use Rattle.law_shared.specs.SharedFilesAnswered.{IsSharedFor}
 use Rattle.law_shared.specs.WaitersShare.{WaitersShare}
 

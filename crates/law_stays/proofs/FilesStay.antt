@@ -16,9 +16,9 @@ use Rattle.nq_model.specs.Message.{Datagram, Message, Packet, datagram_of}
 use Rattle.nq_model.specs.Server.{Server, ServerStep, quiet, drops, says, keeping, keeping_with, with_table, after_notices}
 use Rattle.nq_model.specs.ServerStep.{receive, tick, crash, boot, booted, fence, at_time, opens, ends_writing, attaches, vacates, tells_later, serves, leases}
 use Rattle.nq_model.specs.World.{Head, World, after_server, after_client, at_client, after_hearing, sending_host, deliver_to_client, deliver_to, deliver, step, run}
-use Rattle.walk_server.proofs.KeptChanges.{find-own-replaced, find-other-replaced, find-not-removed, find-added}
-use Rattle.walk_server.proofs.Rows.{same-number, number-same}
-use Rattle.walk_server.proofs.ServerCases.{found-file, server-hears, server-ticks}
+use Rattle.walk_steps.proofs.KeptChanges.{find-own-replaced, find-other-replaced, find-not-removed, find-added}
+use Rattle.walk_steps.proofs.Rows.{same-number, number-same}
+use Rattle.walk_steps.proofs.ServerCases.{found-file, server-hears, server-ticks}
 use Rattle.law_stays.specs.Staying.{KeepsUnder, IsRemoval, WasRemoved, FilesStayUntilRemoved}
 
 -- ---- the files of a server

@@ -6,7 +6,7 @@ use Rattle.nq_base.specs.declared.Event.{Event}
 use Rattle.nq_model.specs.Journal.{Exists}
 use Rattle.nq_model.specs.Kept.{find_file}
 use Rattle.nq_model.specs.World.{Head, run}
-use Rattle.walk_run.proofs.GivenRuns.{given-run}
+use Rattle.walk_steps.proofs.GivenRuns.{given-run}
 use Rattle.law_stays.specs.Staying.{FilesStayIsMet, IsRemoval, KeepsUnder}
 
 -- one host, and no file

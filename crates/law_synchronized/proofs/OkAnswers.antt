@@ -18,9 +18,9 @@ use Rattle.nq_model.specs.Reported.{Names, loss_told}
 use Rattle.nq_model.specs.Synchronized.{IsDelayedOn, IsNamedLoss, IsStoredOrTold, AreStoredOrTold, IsPutKept, IsKept}
 use Rattle.nq_promises.specs.AnswersAreOfTheirCalls.{IsFormOf}
 use Rattle.nq_promises.specs.LossesAreReported.{IsLossOf, IsOneOf}
-use Rattle.walk_run.proofs.Members.{each-in, in-exists}
-use Rattle.walk_run.proofs.Packets.{In}
-use Rattle.walk_server.proofs.Rows.{number-same}
+use Rattle.walk_steps.proofs.Members.{each-in, in-exists}
+use Rattle.walk_steps.proofs.Packets.{In}
+use Rattle.walk_steps.proofs.Rows.{number-same}
 use Rattle.law_synchronized.proofs.KeptPlaces.{IsMadeOpen, HasWritten, OkAt, AnswersOpen, somewhere-more}
 use Rattle.law_synchronized.proofs.OkFacts.{CoversNumber, by_store, by_loss, LiesWithin, in_list, under_way, PutWaits, IsPutWrite, IsOpenAs}
 

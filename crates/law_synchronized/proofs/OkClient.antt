@@ -11,9 +11,9 @@ use Rattle.nq_base.specs.declared.Reply.{Reply}
 use Rattle.nq_base.specs.declared.Said.{Said}
 use Rattle.nq_base.specs.declared.Who.{Who}
 use Rattle.walk_calls.proofs.CallsFit.{entry_who, entry_call}
-use Rattle.walk_client.proofs.StepCases.{call-cases, unless-cached-cases, tick-cases, heard-cases}
-use Rattle.walk_client.proofs.ClientFacts.{Alone}
-use Rattle.walk_client.proofs.ClientMoves.{some-same, none-some}
+use Rattle.walk_steps.proofs.StepCases.{call-cases, unless-cached-cases, tick-cases, heard-cases}
+use Rattle.walk_steps.proofs.ClientFacts.{Alone}
+use Rattle.walk_steps.proofs.ClientMoves.{some-same, none-some}
 use Rattle.walk_fates.proofs.ServerTells.{Tells}
 use Rattle.nq_model.specs.Client.{Client, ClientStep, for_call, Ticket, UnderWay, begun, losses_of}
 use Rattle.nq_model.specs.ClientStep.{begins_call, is_called, sends_unless_cached, says_busy, losses_for, changed_file, client_call, at_time, sends_again, client_tick, fresh_client, starts, next_incarnation, restart}
@@ -28,9 +28,9 @@ use Rattle.nq_model.specs.Send.{send_next}
 use Rattle.nq_model.specs.Settle.{names_losses, settle}
 use Rattle.nq_promises.specs.AnswersAreOfTheirCalls.{IsChanging}
 use Rattle.nq_promises.specs.LossesAreReported.{cleans}
-use Rattle.walk_run.proofs.Packets.{In}
-use Rattle.walk_server.proofs.Incarnations.{who-same}
-use Rattle.walk_server.proofs.Rows.{same-number, number-same}
+use Rattle.walk_steps.proofs.Packets.{In}
+use Rattle.walk_steps.proofs.Incarnations.{who-same}
+use Rattle.walk_steps.proofs.Rows.{same-number, number-same}
 use Rattle.law_synchronized.proofs.KeptPlaces.{KeptHere}
 use Rattle.law_synchronized.proofs.OkFacts.{Made, IsOpenAs, IsFor, KeepsOf, All, book_of, Mid, After, ended}
 use Rattle.law_synchronized.proofs.OkMoves.{open-more, put-more, made-more, numbered-more}

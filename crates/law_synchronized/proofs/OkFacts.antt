@@ -11,8 +11,8 @@ use Rattle.nq_base.specs.declared.Request.{Request}
 use Rattle.nq_base.specs.declared.Verdict.{Verdict}
 use Rattle.nq_base.specs.declared.Who.{Who}
 use Rattle.walk_calls.proofs.CallsFit.{entry_who}
-use Rattle.walk_client.proofs.SettleCases.{IsRead}
-use Rattle.walk_client.proofs.ClientMoves.{none-some}
+use Rattle.walk_steps.proofs.SettleCases.{IsRead}
+use Rattle.walk_steps.proofs.ClientMoves.{none-some}
 use Rattle.nq_model.specs.Client.{Client, ClientStep, for_call, Ticket, UnderWay, losses_of, is_clean_in}
 use Rattle.nq_base.specs.Calls.{told}
 use Rattle.nq_model.specs.Journal.{Exists, Throughout, Somewhere, IsOpen, call_of, IsWriteBy, IsThrough}
@@ -21,7 +21,7 @@ use Rattle.nq_model.specs.Reported.{Names}
 use Rattle.nq_model.specs.Settle.{ticket_is_for_call, is_for_call}
 use Rattle.nq_model.specs.Synchronized.{IsSettledResize}
 use Rattle.nq_promises.specs.LossesAreReported.{IsLossOf, IsOneOf, cleans}
-use Rattle.walk_run.proofs.Packets.{In}
+use Rattle.walk_steps.proofs.Packets.{In}
 use Rattle.law_synchronized.proofs.KeptPlaces.{KeptHere}
 
 -- ---- the journal

@@ -9,15 +9,15 @@ use Rattle.nq_base.specs.declared.Loss.{Loss}
 use Rattle.nq_base.specs.declared.Push.{Push}
 use Rattle.nq_base.specs.declared.Who.{Who}
 use Rattle.walk_calls.proofs.CallsFit.{entry_who}
-use Rattle.walk_client.proofs.ClientMoves.{some-same, none-some}
+use Rattle.walk_steps.proofs.ClientMoves.{some-same, none-some}
 use Rattle.nq_model.proofs.ByFile.{of-added}
 use Rattle.nq_model.specs.Client.{Client, ClientStep, Ticket, UnderWay, losses_of, is_push_of, other_dirty, file_of_loss, add_losses}
 use Rattle.nq_model.specs.Hear.{loss_of, loss_entry, all_dirty, other_push, loses, waits_for, with_through, marks_through}
 use Rattle.nq_model.specs.Journal.{Throughout, Each}
 use Rattle.nq_promises.specs.LossesAreReported.{cleans}
-use Rattle.walk_run.proofs.Members.{in-filtered}
-use Rattle.walk_run.proofs.Packets.{In, in-append}
-use Rattle.walk_server.proofs.Rows.{same-number, number-same}
+use Rattle.walk_steps.proofs.Members.{in-filtered}
+use Rattle.walk_steps.proofs.Packets.{In, in-append}
+use Rattle.walk_steps.proofs.Rows.{same-number, number-same}
 use Rattle.law_synchronized.proofs.KeptPlaces.{KeptHere}
 use Rattle.law_synchronized.proofs.OkFacts.{PutWaits, IsOpenAs, KeepsOk, All, Book, book_of, Mid}
 use Rattle.law_synchronized.proofs.OkMoves.{open-more, put-more, writes-there, loss-there}

@@ -9,7 +9,7 @@ use Rattle.nq_base.specs.declared.Request.{Request}
 use Rattle.nq_base.specs.declared.Who.{Who}
 use Rattle.walk_calls.proofs.Placed.{call-later}
 use Rattle.walk_calls.proofs.CallsFit.{entry_who}
-use Rattle.walk_client.proofs.ClientMoves.{some-same, none-some}
+use Rattle.walk_steps.proofs.ClientMoves.{some-same, none-some}
 use Rattle.nq_model.proofs.Lists.{each-map}
 use Rattle.nq_model.specs.Client.{UnderWay, is_push_of, is_push_at, first_dirty, drop_dirty, dirty_at}
 use Rattle.nq_base.specs.Calls.{told}
@@ -18,8 +18,8 @@ use Rattle.nq_model.specs.Journal.{Exists, Somewhere, IsAnswer}
 use Rattle.nq_model.specs.Settle.{overwritten, overwritten_at, with_write}
 use Rattle.nq_model.specs.Synchronized.{IsSettledResize, IsDelayedOn}
 use Rattle.law_reports.proofs.Books.{unsaved_on}
-use Rattle.walk_run.proofs.Members.{in-filtered, in-filter, in-map, find-in, in-reverse}
-use Rattle.walk_run.proofs.Packets.{In, in-append, in-last}
+use Rattle.walk_steps.proofs.Members.{in-filtered, in-filter, in-map, find-in, in-reverse}
+use Rattle.walk_steps.proofs.Packets.{In, in-append, in-last}
 use Rattle.law_synchronized.proofs.KeptPlaces.{somewhere-more, settled-later, settled-answered}
 use Rattle.law_synchronized.proofs.OkFacts.{PutWaits, Made, IsOpenAs, Numbered}
 

@@ -6,9 +6,9 @@ use Rattle.nq_base.specs.declared.Event.{Event}
 use Rattle.nq_base.specs.declared.Party.{Party}
 use Rattle.nq_base.specs.declared.Who.{Who}
 use Rattle.walk_calls.proofs.CallsFit.{entry_who, entry_call}
-use Rattle.walk_client.proofs.ClientMoves.{none-some}
+use Rattle.walk_steps.proofs.ClientMoves.{none-some}
 use Rattle.law_fates.proofs.AnsweredWorlds.{run-answered}
-use Rattle.law_leases.proofs.LeaseIntervals.{run-runs}
+use Rattle.law_bounds.proofs.LeaseIntervals.{run-runs}
 use Rattle.nq_promises.specs.Bounds.{KeepsBounds, InEveryRun}
 use Rattle.nq_model.specs.Client.{Client, ClientStep, UnderWay}
 use Rattle.nq_model.specs.ClientStep.{client_call, client_tick, restart, starts as starts_client, attached_client, fresh_client}
@@ -21,10 +21,10 @@ use Rattle.nq_model.specs.Skew.{IsWithinSkew}
 use Rattle.nq_model.specs.World.{Head, World, after_server, after_client, at_client, after_hearing, sending_host, deliver_to_client, deliver_to, deliver, start, run}
 use Rattle.nq_model.proofs.Lists.{exists-right}
 use Rattle.nq_promises.specs.BusyIsSaidAtOnce.{IsStartOf}
-use Rattle.walk_leases.proofs.WorldClocks.{StillOf, StillIf, call-still, tick-still, hear-still}
-use Rattle.walk_run.proofs.RunCases.{During, client_at, Keeps, run-keeps, OfClients, clients-after}
-use Rattle.walk_run.proofs.Packets.{In, in-get, Told}
-use Rattle.walk_run.proofs.Worlds.{to-server, to-told, first-client, run-holds, set-there}
+use Rattle.walk_steps.proofs.WorldClocks.{StillOf, StillIf, call-still, tick-still, hear-still}
+use Rattle.walk_steps.proofs.RunCases.{During, client_at, Keeps, run-keeps, OfClients, clients-after}
+use Rattle.walk_steps.proofs.Packets.{In, in-get, Told}
+use Rattle.walk_steps.proofs.Worlds.{to-server, to-told, first-client, run-holds, set-there}
 use Rattle.law_synchronized.proofs.KeptPlaces.{KeptHere, synchronized}
 use Rattle.law_synchronized.proofs.OkClient.{Ready, call-end, tick-end, hear-end, restart-end}
 use Rattle.law_synchronized.proofs.OkFacts.{KeepsOf, book_of, After, ended}

@@ -6,8 +6,8 @@ use Rattle.nq_base.specs.declared.HostRow.{HostRow}
 use Rattle.nq_base.specs.declared.Loss.{Loss}
 use Rattle.nq_base.specs.declared.Request.{Request}
 use Rattle.nq_base.specs.declared.Who.{Who}
-use Rattle.walk_client.proofs.ClientFacts.{Alone}
-use Rattle.walk_client.proofs.ClientMoves.{some-same}
+use Rattle.walk_steps.proofs.ClientFacts.{Alone}
+use Rattle.walk_steps.proofs.ClientMoves.{some-same}
 use Rattle.nq_model.proofs.Lists.{exists-map}
 use Rattle.nq_model.specs.Client.{Client, for_call, attaching, Ticket, UnderWay, is_clean_in}
 use Rattle.nq_model.specs.Journal.{Exists, Throughout, Somewhere}
@@ -15,9 +15,9 @@ use Rattle.nq_model.specs.Message.{Packet, sequence_of}
 use Rattle.nq_model.specs.Reported.{Names}
 use Rattle.nq_model.specs.Synchronized.{IsSettledResize}
 use Rattle.nq_promises.specs.LossesAreReported.{IsLossOf, IsOneOf, cleans}
-use Rattle.walk_run.proofs.HostLine.{LineFits, IsSettled}
-use Rattle.walk_run.proofs.Packets.{In, Mail}
-use Rattle.walk_server.proofs.Rows.{number-same}
+use Rattle.walk_steps.proofs.HostLine.{LineFits, IsSettled}
+use Rattle.walk_steps.proofs.Packets.{In, Mail}
+use Rattle.walk_steps.proofs.Rows.{number-same}
 use Rattle.law_synchronized.proofs.KeptPlaces.{KeptHere, names-later}
 use Rattle.law_synchronized.proofs.OkAnswers.{clean-none, all-settled}
 use Rattle.law_synchronized.proofs.OkFacts.{CoversNumber, LiesWithin, Made, IsFor, IsDone, KeepsOf, IsThroughWrite}

@@ -13,9 +13,9 @@ use Rattle.nq_base.specs.declared.Said.{Said}
 use Rattle.nq_base.specs.declared.Value.{Value}
 use Rattle.nq_base.specs.declared.Who.{Who}
 use Rattle.walk_calls.proofs.CallsFit.{entry_who}
-use Rattle.walk_client.proofs.SendCases.{pushed, send-cases}
-use Rattle.walk_client.proofs.SettleCases.{IsSettling, IsRead, IsWrite, IsSync, of_sync, of_put, settle-cases}
-use Rattle.walk_client.proofs.ClientMoves.{some-same, none-some}
+use Rattle.walk_steps.proofs.SendCases.{pushed, send-cases}
+use Rattle.walk_steps.proofs.SettleCases.{IsSettling, IsRead, IsWrite, IsSync, of_sync, of_put, settle-cases}
+use Rattle.walk_steps.proofs.ClientMoves.{some-same, none-some}
 use Rattle.nq_model.specs.Client.{ClientStep, Job, for_call, renewing, Ticket, UnderWay, first_dirty, drop_dirty, is_clean, is_push_of}
 use Rattle.nq_base.specs.Calls.{told}
 use Rattle.nq_model.specs.Journal.{Throughout, Somewhere, IsOpen, call_of}
@@ -25,9 +25,9 @@ use Rattle.nq_model.specs.Send.{sends_request, after_seq, after_number, takes_pu
 use Rattle.nq_model.specs.Settle.{said, answers, names_losses, reads_cached, after_read, delays, after_write, marks_written, settle, ticket_is_for_call}
 use Rattle.nq_promises.specs.AnswersAreOfTheirCalls.{IsChanging, IsWriting}
 use Rattle.nq_promises.specs.LossesAreReported.{cleans}
-use Rattle.walk_run.proofs.Members.{in-filtered, find-in}
-use Rattle.walk_run.proofs.Packets.{In}
-use Rattle.walk_server.proofs.Rows.{number-same}
+use Rattle.walk_steps.proofs.Members.{in-filtered, find-in}
+use Rattle.walk_steps.proofs.Packets.{In}
+use Rattle.walk_steps.proofs.Rows.{number-same}
 use Rattle.law_synchronized.proofs.KeptPlaces.{KeptHere, IsMadeOpen, OkAt}
 use Rattle.law_synchronized.proofs.OkAnswers.{is_plain, plain-ok, write-ok, answers-open, sync-ok, put-ok}
 use Rattle.law_synchronized.proofs.OkFacts.{CoversNumber, LiesWithin, in_list, under_way, PutWaits, IsOpenAs, IsFor, IsDone, Numbered, KeepsOk, All, Book, book_of, Mid, After, ended, not-for-call}

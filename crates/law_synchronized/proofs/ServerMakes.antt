@@ -19,13 +19,13 @@ use Rattle.nq_model.specs.Profile.{most_hosts}
 use Rattle.nq_model.specs.Server.{Server, ServerStep, quiet, drops, says, after_notices, keeping, keeping_with, with_table}
 use Rattle.nq_model.specs.ServerStep.{attaches, vacates, tells_later, serves, leases, grants, receive, tick, crash, boot, opens, ends_writing, at_time}
 use Rattle.nq_model.specs.Table.{Table, with_rows}
-use Rattle.walk_run.proofs.Packets.{In, Asked}
-use Rattle.walk_tables.proofs.ServerFacts.{fence-lines}
-use Rattle.walk_tables.proofs.ServerNumbers.{LinesFitOf}
-use Rattle.walk_server.proofs.KeptChanges.{other-line, own-line, same-lines, booted-line}
-use Rattle.walk_server.proofs.Rows.{same-number, number-same}
-use Rattle.walk_server.proofs.ServerCases.{server-hears, server-ticks}
-use Rattle.walk_server.proofs.ServerOutcomes.{line_of, IsFrom, IsFresh, IsDeclined, declined-not}
+use Rattle.walk_steps.proofs.Packets.{In, Asked}
+use Rattle.walk_steps.proofs.ServerFacts.{fence-lines}
+use Rattle.walk_steps.proofs.ServerNumbers.{LinesFitOf}
+use Rattle.walk_steps.proofs.KeptChanges.{other-line, own-line, same-lines, booted-line}
+use Rattle.walk_steps.proofs.Rows.{same-number, number-same}
+use Rattle.walk_steps.proofs.ServerCases.{server-hears, server-ticks}
+use Rattle.walk_steps.proofs.ServerOutcomes.{line_of, IsFrom, IsFresh, IsDeclined, declined-not}
 use Rattle.law_synchronized.proofs.OkMoves.{IsMild}
 
 -- no entry is an answer, a loss or a delayed write

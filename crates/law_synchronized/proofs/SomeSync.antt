@@ -4,13 +4,13 @@ use Rattle.nq_base.specs.Block.{filled, zeros}
 use Rattle.nq_base.specs.declared.Call.{Call}
 use Rattle.nq_base.specs.declared.Event.{Event}
 use Rattle.nq_base.specs.declared.Told.{Told}
-use Rattle.walk_run.proofs.NoCrash.{no-crash-within}
+use Rattle.walk_steps.proofs.NoCrash.{no-crash-within}
 use Rattle.nq_model.proofs.SkewTest.{skew-test-is-sound}
 use Rattle.nq_model.specs.Journal.{Exists, call_of}
 use Rattle.nq_model.specs.ServerStep.{at_time as at_server_time}
 use Rattle.nq_model.specs.World.{Head, run}
 use Rattle.law_synchronized.specs.Met.{IsOk, IsDelayedAndStored, IsSyncedOnce}
-use Rattle.walk_run.proofs.GivenRuns.{given-run}
+use Rattle.walk_steps.proofs.GivenRuns.{given-run}
 
 -- one host, one file of one block
 abbrev one-host : Head

@@ -8,11 +8,11 @@ use Rattle.nq_base.specs.declared.Row.{Row}
 use Rattle.nq_base.specs.declared.Tag.{Tag}
 use Rattle.nq_base.specs.declared.Want.{Want}
 use Rattle.nq_base.specs.declared.Who.{Who}
-use Rattle.walk_run.proofs.Members.{in-filtered, find-in}
-use Rattle.walk_server.proofs.AskCases.{IsGranted, shares_again, begins_sharing, begins_caching, renews_row}
-use Rattle.walk_run.proofs.Packets.{In}
-use Rattle.walk_server.proofs.Rows.{choice}
-use Rattle.walk_server.proofs.ServerMoves.{server-moves, tick-moves}
+use Rattle.walk_steps.proofs.Members.{in-filtered, find-in}
+use Rattle.walk_steps.proofs.AskCases.{IsGranted, shares_again, begins_sharing, begins_caching, renews_row}
+use Rattle.walk_steps.proofs.Packets.{In}
+use Rattle.walk_steps.proofs.Rows.{choice}
+use Rattle.walk_steps.proofs.ServerMoves.{server-moves, tick-moves}
 use Rattle.law_tags.proofs.TagOrder.{steps-server}
 use Rattle.nq_model.specs.Ask.{conflicts, marked, sharing_row, caching_row, shared_again, renewed_row, term_of}
 use Rattle.nq_model.specs.Kept.{Kept}

@@ -10,10 +10,10 @@ use Rattle.nq_base.specs.declared.Reply.{Reply}
 use Rattle.nq_base.specs.declared.Request.{Request}
 use Rattle.nq_base.specs.declared.Tag.{Tag}
 use Rattle.nq_base.specs.declared.Who.{Who}
-use Rattle.walk_run.proofs.NoCrash.{no-crash-within}
-use Rattle.law_leases.proofs.SomeLease.{two-hosts}
+use Rattle.walk_steps.proofs.NoCrash.{no-crash-within}
+use Rattle.law_bounds.proofs.SomeLease.{two-hosts}
 use Rattle.nq_promises.specs.Bounds.{BootsWithin}
-use Rattle.walk_server.proofs.Tests.{some-is}
+use Rattle.walk_steps.proofs.Tests.{some-is}
 use Rattle.law_tags.specs.Met.{IsPastSometime}
 use Rattle.nq_model.proofs.SkewTest.{skew-test-is-sound}
 use Rattle.nq_model.specs.Client.{Client, Lease, Ticket, for_call, lease_on}
@@ -24,7 +24,7 @@ use Rattle.nq_model.specs.World.{from_host, run}
 use Rattle.nq_model.specs.ClientStep.{attached_client}
 use Rattle.nq_model.specs.Hear.{is_reply_to}
 use Rattle.nq_model.specs.ServerStep.{leases, boot}
-use Rattle.walk_run.proofs.GivenRuns.{given-run}
+use Rattle.walk_steps.proofs.GivenRuns.{given-run}
 
 -- host 0 reads; host 1 wants to cut the file, so host 0 is told to give its lease up, and does; it reads again, and then
 -- wants to write; the newest event first

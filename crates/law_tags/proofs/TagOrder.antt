@@ -5,8 +5,8 @@ use Rattle.std.proofs.lemmas.Bool.Decides.{nat_tests}
 use Rattle.nq_base.specs.declared.Event.{Event}
 use Rattle.nq_base.specs.declared.Party.{Party}
 use Rattle.nq_base.specs.declared.Tag.{Tag}
-use Rattle.walk_server.proofs.ServerMoves.{server-moves, tick-moves}
-use Rattle.walk_tables.proofs.ServerTables.{BootsFit, BootsFitOf, RecoversBoot, boots-receive, boots-tick, boots-crash, boots-boot, standing-boot, opened-before}
+use Rattle.walk_steps.proofs.ServerMoves.{server-moves, tick-moves}
+use Rattle.walk_steps.proofs.ServerTables.{BootsFit, BootsFitOf, RecoversBoot, boots-receive, boots-tick, boots-crash, boots-boot, standing-boot, opened-before}
 use Rattle.nq_promises.specs.TagsAreInOrder.{IsUpTo, IsNoEarlier, StandingTableGrows}
 use Rattle.nq_model.specs.Client.{Client, ClientStep}
 use Rattle.nq_model.specs.ClientStep.{client_call, client_tick, restart}

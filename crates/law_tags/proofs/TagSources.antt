@@ -7,15 +7,15 @@ use Rattle.nq_base.specs.declared.Reply.{Reply}
 use Rattle.nq_base.specs.declared.Request.{Request}
 use Rattle.nq_base.specs.declared.Tag.{Tag}
 use Rattle.nq_base.specs.declared.Who.{Who}
-use Rattle.walk_client.proofs.ClientCases.{Core, core_of, Closed, CanSend, Both}
-use Rattle.walk_client.proofs.ClientFacts.{Alone, fits_job}
+use Rattle.walk_steps.proofs.ClientCases.{Core, core_of, Closed, CanSend, Both}
+use Rattle.walk_steps.proofs.ClientFacts.{Alone, fits_job}
 use Rattle.nq_model.proofs.ClientLists.{lease-after-put, notice-before-drop, notice-after-put}
-use Rattle.walk_client.proofs.ClientMoves.{some-same, none-some, keeps-or-cancels}
-use Rattle.walk_client.proofs.ClientWalk.{Replying, reply-keeps, notice-keeps, call-keeps, tick-keeps}
-use Rattle.walk_run.proofs.Packets.{In, in-last, Told}
-use Rattle.walk_server.proofs.Rows.{choice, same-number}
-use Rattle.walk_run.proofs.TagFacts.{used-from, dropped-from}
-use Rattle.walk_run.proofs.Worlds.{IsAt}
+use Rattle.walk_steps.proofs.ClientMoves.{some-same, none-some, keeps-or-cancels}
+use Rattle.walk_steps.proofs.ClientWalk.{Replying, reply-keeps, notice-keeps, call-keeps, tick-keeps}
+use Rattle.walk_steps.proofs.Packets.{In, in-last, Told}
+use Rattle.walk_steps.proofs.Rows.{choice, same-number}
+use Rattle.walk_steps.proofs.TagFacts.{used-from, dropped-from}
+use Rattle.walk_steps.proofs.Worlds.{IsAt}
 use Rattle.nq_model.specs.Client.{Client, ClientStep, begun, Lease, Notice, Ticket, Job, lease_on, drop_lease, put_lease, used_lease, notice_on}
 use Rattle.nq_model.specs.ClientStep.{client_call, client_tick, at_time, restart, starts, fresh_client}
 use Rattle.nq_model.specs.Hear.{inc_of, is_reply_to, reply_counts, hear, hear_reply, hear_notice, hear_call, goes_on, replied, holds_later, evicted, cancels, granted_lease, noticed_tag, with_notice}

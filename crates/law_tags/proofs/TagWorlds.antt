@@ -9,25 +9,25 @@ use Rattle.nq_base.specs.declared.Request.{Request}
 use Rattle.nq_base.specs.declared.Row.{Row}
 use Rattle.nq_base.specs.declared.Tag.{Tag}
 use Rattle.nq_base.specs.declared.Who.{Who}
-use Rattle.walk_client.proofs.ClientMoves.{none-some}
-use Rattle.walk_run.proofs.Clocks.{within-before}
-use Rattle.walk_run.proofs.Mail.{sent-host}
+use Rattle.walk_steps.proofs.ClientMoves.{none-some}
+use Rattle.walk_steps.proofs.Clocks.{within-before}
+use Rattle.walk_steps.proofs.Mail.{sent-host}
 use Rattle.law_tags.proofs.GrantRows.{IsBacked, all-backed}
-use Rattle.walk_leases.proofs.KnownWorlds.{takeable}
-use Rattle.walk_leases.proofs.Runs.{Runs, none-served}
-use Rattle.law_leases.proofs.LeaseIntervals.{run-runs, hearing, tick-sends, crash-sends}
-use Rattle.walk_run.proofs.NoCrash.{bounds-before}
-use Rattle.walk_run.proofs.Packets.{In, in-append, in-get, Told, Asked, not-both}
+use Rattle.walk_steps.proofs.KnownWorlds.{takeable}
+use Rattle.walk_steps.proofs.Runs.{Runs, none-served}
+use Rattle.law_bounds.proofs.LeaseIntervals.{run-runs, hearing, tick-sends, crash-sends}
+use Rattle.walk_steps.proofs.NoCrash.{bounds-before}
+use Rattle.walk_steps.proofs.Packets.{In, in-append, in-get, Told, Asked, not-both}
 use Rattle.law_tags.proofs.RowNumbers.{row-numbered}
-use Rattle.walk_server.proofs.Rows.{same-number, number-same}
-use Rattle.walk_leases.proofs.ServerEffects.{standing-serving}
-use Rattle.walk_leases.proofs.ServerHears.{hears-effect}
-use Rattle.walk_run.proofs.ServerKnows.{IsNew, new_reply, new_error, new_notice, Effect}
-use Rattle.walk_tables.proofs.ServerTables.{StandingFitsOf, NoneRecovering}
-use Rattle.walk_run.proofs.TagFacts.{TagsFit}
+use Rattle.walk_steps.proofs.Rows.{same-number, number-same}
+use Rattle.walk_steps.proofs.ServerEffects.{standing-serving}
+use Rattle.walk_steps.proofs.ServerHears.{hears-effect}
+use Rattle.walk_steps.proofs.ServerKnows.{IsNew, new_reply, new_error, new_notice, Effect}
+use Rattle.walk_steps.proofs.ServerTables.{StandingFitsOf, NoneRecovering}
+use Rattle.walk_steps.proofs.TagFacts.{TagsFit}
 use Rattle.law_tags.proofs.TagOrder.{standing-grows, drawn-later, below-later}
 use Rattle.law_tags.proofs.TagSources.{AllIn, AllHeld, Leaves, LeavesIf, call-told, tick-told, restart-told, hear-told}
-use Rattle.walk_run.proofs.Worlds.{IsAt, Holds, IsSent, by_host, by_server, run-holds, to-told, get-set-same, get-set-other, first-client}
+use Rattle.walk_steps.proofs.Worlds.{IsAt, Holds, IsSent, by_host, by_server, run-holds, to-told, get-set-same, get-set-other, first-client}
 use Rattle.nq_promises.specs.Bounds.{KeepsBounds}
 use Rattle.nq_promises.specs.TagsAreInOrder.{IsKnown, of_lease, of_notice, of_vacated, of_evicted, of_grant, of_grant_chain, of_row, of_chain, WasDrawn, IsUpTo, TagsAreDrawnInOrder, VacatedTagsArePast}
 use Rattle.nq_model.specs.Client.{Client, ClientStep}

@@ -16,9 +16,9 @@ use Rattle.law_progress.specs.SomeNeedHalf.{is_open}
 use Rattle.law_progress.proofs.CalmEnds.{IsRising, calmed-rising}
 use Rattle.law_progress.proofs.SoonRounds.{soon_rounds, soon_ends, all-soon}
 use Rattle.law_rounds.specs.RoundsEndQuiet.{IsSmall}
-use Rattle.walk_run.proofs.GivenRuns.{given-run}
-use Rattle.walk_run.proofs.NoCrash.{one-first}
-use Rattle.walk_server.proofs.Tests.{is-at-most}
+use Rattle.walk_steps.proofs.GivenRuns.{given-run}
+use Rattle.walk_steps.proofs.NoCrash.{one-first}
+use Rattle.walk_steps.proofs.Tests.{is-at-most}
 use Rattle.law_terms.specs.AnsweredInTerms.{long_enough}
 use Rattle.law_terms.specs.Met.{lone_head, lone_events, TermsAreMet}
 

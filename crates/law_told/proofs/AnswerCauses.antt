@@ -23,9 +23,9 @@ use Rattle.law_calm.specs.RequestsAreMeant.{IsWriteTo}
 use Rattle.law_synchronized.proofs.OkFacts.{IsFor}
 use Rattle.law_told.specs.RefusalsHaveCauses.{LacksName, HasName, LacksFile, HasNoRoom, CannotGrow, LacksBlock, IsNoLength, IsAnsweredSo}
 use Rattle.law_told.proofs.RunTells.{once-map, HadSo}
-use Rattle.walk_client.proofs.RepliedCases.{IsNamed, looked_up, created, attributes}
-use Rattle.walk_client.proofs.SettleCases.{IsRead}
-use Rattle.walk_entries.proofs.ClientEntries.{IsOfBlock, IsTelling, names, refuses}
+use Rattle.walk_steps.proofs.RepliedCases.{IsNamed, looked_up, created, attributes}
+use Rattle.walk_steps.proofs.SettleCases.{IsRead}
+use Rattle.walk_steps.proofs.ClientEntries.{IsOfBlock, IsTelling, names, refuses}
 
 -- what an answer to this call says was so
 abbrev pub Says : Head → List Event → Said → Option Told → Type 0

@@ -15,9 +15,9 @@ use Rattle.nq_model.specs.Profile.{most_blocks, most_blocks_of_file, most_files,
 use Rattle.nq_model.specs.Server.{Server}
 use Rattle.nq_promises.specs.RepliesTellWhatWas.{IsSo, KeepsAt}
 use Rattle.law_told.specs.RefusalsHaveCauses.{HasNoRoom, LacksNamed, IsCause, file_named}
-use Rattle.walk_client.proofs.ClientMoves.{some-same}
-use Rattle.walk_server.proofs.ServerOutcomes.{file_changed_by, IsDeclined, bad_length, name_taken, no_room, not_kept, outside, no_row, not_under, not_over, not_while_recovering, bad_size, no_room_to_grow}
-use Rattle.walk_server.proofs.Tests.{there-is}
+use Rattle.walk_steps.proofs.ClientMoves.{some-same}
+use Rattle.walk_steps.proofs.ServerOutcomes.{file_changed_by, IsDeclined, bad_length, name_taken, no_room, not_kept, outside, no_row, not_under, not_over, not_while_recovering, bad_size, no_room_to_grow}
+use Rattle.walk_steps.proofs.Tests.{there-is}
 
 -- a refusal has its cause, and a grant tells the length of its file
 abbrev pub IsCaused : List File → (next : ℕ) → Reply → Request → Type 0

@@ -16,11 +16,11 @@ use Rattle.nq_model.specs.ServerStep.{receive, tick, crash}
 use Rattle.nq_model.specs.World.{Head, World, after_server, after_client, at_client, after_hearing, sending_host, deliver_to_client, deliver_to, deliver, start, run}
 use Rattle.nq_promises.specs.AnswersTellWhatWas.{HasLength}
 use Rattle.nq_promises.specs.RepliesTellWhatWas.{Once}
-use Rattle.walk_client.proofs.ClientMoves.{none-some}
-use Rattle.walk_entries.proofs.ClientEntries.{AnyCall, OfClient, IsGranting, by_read, by_lease, Lent, any-going, call-keeps, tick-keeps, hear-keeps, restart-keeps}
-use Rattle.walk_run.proofs.Packets.{In, in-get, Asked, Told as ToldTo}
-use Rattle.walk_run.proofs.RunCases.{OfClients, client_at, clients-after}
-use Rattle.walk_run.proofs.Worlds.{Holds, IsAt, first-client, to-told, run-holds}
+use Rattle.walk_steps.proofs.ClientMoves.{none-some}
+use Rattle.walk_steps.proofs.ClientEntries.{AnyCall, OfClient, IsGranting, by_read, by_lease, Lent, any-going, call-keeps, tick-keeps, hear-keeps, restart-keeps}
+use Rattle.walk_steps.proofs.Packets.{In, in-get, Asked, Told as ToldTo}
+use Rattle.walk_steps.proofs.RunCases.{OfClients, client_at, clients-after}
+use Rattle.walk_steps.proofs.Worlds.{Holds, IsAt, first-client, to-told, run-holds}
 use Rattle.law_told.proofs.RunTells.{once-map, HadSo, IsTrue, all-true}
 
 -- at some moment the file had this length

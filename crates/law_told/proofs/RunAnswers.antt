@@ -28,12 +28,12 @@ use Rattle.nq_promises.specs.Bounds.{KeepsBounds, InEveryRun}
 use Rattle.nq_promises.specs.RepliesTellWhatWas.{Once}
 use Rattle.walk_calls.proofs.CallFacts.{CallsAt}
 use Rattle.walk_calls.proofs.Placed.{Placed, call-told, call-later}
-use Rattle.walk_entries.proofs.ClientEntries.{IsTelling, Lent}
-use Rattle.walk_run.proofs.Clocks.{within-before}
-use Rattle.walk_run.proofs.NoCrash.{bounds-before}
-use Rattle.walk_run.proofs.Packets.{In, in-get, Told as ToldTo}
-use Rattle.walk_run.proofs.RunCases.{client_at}
-use Rattle.walk_run.proofs.Worlds.{Holds, to-told, run-holds}
+use Rattle.walk_steps.proofs.ClientEntries.{IsTelling, Lent}
+use Rattle.walk_steps.proofs.Clocks.{within-before}
+use Rattle.walk_steps.proofs.NoCrash.{bounds-before}
+use Rattle.walk_steps.proofs.Packets.{In, in-get, Told as ToldTo}
+use Rattle.walk_steps.proofs.RunCases.{client_at}
+use Rattle.walk_steps.proofs.Worlds.{Holds, to-told, run-holds}
 use Rattle.law_calm.proofs.Meant.{requests-are-meant}
 use Rattle.law_calls.proofs.RunCalls.{calls-known}
 use Rattle.law_synchronized.proofs.OkFacts.{KeepsOf}

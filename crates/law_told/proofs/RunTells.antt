@@ -19,15 +19,15 @@ use Rattle.nq_model.specs.Server.{Server, ServerStep, quiet, with_table, keeping
 use Rattle.nq_model.specs.ServerStep.{receive, tick, crash, boot, fence, at_time, opens, ends_writing}
 use Rattle.nq_model.specs.World.{Head, World, from_host, after_server, after_client, at_client, after_hearing, sending_host, deliver_to_client, deliver_to, deliver, first_row, start, run}
 use Rattle.nq_promises.specs.RepliesTellWhatWas.{Once, WasSo, RepliesTellWhatWas}
-use Rattle.walk_run.proofs.Mail.{none-to-host}
-use Rattle.walk_run.proofs.Packets.{In, in-append, in-left, in-get, Asked, Told}
-use Rattle.walk_run.proofs.Worlds.{to-server, run-holds}
-use Rattle.walk_server.proofs.Incarnations.{one-who}
-use Rattle.walk_server.proofs.KeptChanges.{booted-line}
-use Rattle.walk_server.proofs.ServerCases.{server-ticks}
+use Rattle.walk_steps.proofs.Mail.{none-to-host}
+use Rattle.walk_steps.proofs.Packets.{In, in-append, in-left, in-get, Asked, Told}
+use Rattle.walk_steps.proofs.Worlds.{to-server, run-holds}
+use Rattle.walk_steps.proofs.Incarnations.{one-who}
+use Rattle.walk_steps.proofs.KeptChanges.{booted-line}
+use Rattle.walk_steps.proofs.ServerCases.{server-ticks}
 use Rattle.law_bounds.proofs.WorldNumbers.{drawn-up-to}
-use Rattle.law_requests.proofs.OneRequests.{one-in-every-run}
-use Rattle.law_requests.proofs.Places.{in-place}
+use Rattle.law_bounds.proofs.OneRequests.{one-in-every-run}
+use Rattle.law_bounds.proofs.Places.{in-place}
 use Rattle.law_told.specs.RefusalsHaveCauses.{HadCause, RefusalsHaveCauses}
 use Rattle.law_told.proofs.Causes.{IsTold}
 use Rattle.law_told.proofs.ServerTells.{Reason, so_before, so_after, again, Tells, RowMove, row_stays, row_begins, row_decided, receive-tells}

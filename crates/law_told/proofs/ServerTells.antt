@@ -24,12 +24,12 @@ use Rattle.nq_model.specs.Table.{Table}
 use Rattle.nq_promises.specs.RepliesTellWhatWas.{KeepsAt, KeepsNamed}
 use Rattle.law_told.specs.RefusalsHaveCauses.{IsCause}
 use Rattle.law_told.proofs.Causes.{IsTold, refused-told, none-beyond, requested-lacks, declined-told}
-use Rattle.walk_run.proofs.Packets.{In, in-append, told-same, reply-same}
-use Rattle.walk_run.proofs.ServerSays.{notices-no-reply, verdict-inc, plain-inc}
-use Rattle.walk_server.proofs.KeptChanges.{line-as}
-use Rattle.walk_server.proofs.Rows.{number-same}
-use Rattle.walk_server.proofs.ServerCases.{server-hears}
-use Rattle.walk_server.proofs.ServerOutcomes.{line_of, IsFrom, CanCreate, error-no-reply, IsDeclined, IsPlain, unattached, attached_again, not_yet, no_entry, entry, no_attributes, attributes, no_file, no_block, decided_again, is_old}
+use Rattle.walk_steps.proofs.Packets.{In, in-append, told-same, reply-same}
+use Rattle.walk_steps.proofs.ServerSays.{notices-no-reply, verdict-inc, plain-inc}
+use Rattle.walk_steps.proofs.KeptChanges.{line-as}
+use Rattle.walk_steps.proofs.Rows.{number-same}
+use Rattle.walk_steps.proofs.ServerCases.{server-hears}
+use Rattle.walk_steps.proofs.ServerOutcomes.{line_of, IsFrom, CanCreate, error-no-reply, IsDeclined, IsPlain, unattached, attached_again, not_yet, no_entry, entry, no_attributes, attributes, no_file, no_block, decided_again, is_old}
 
 -- ---- a new file is found by its name
 

@@ -15,8 +15,8 @@ use Rattle.nq_model.specs.Message.{reply}
 use Rattle.nq_model.specs.Server.{to_host}
 use Rattle.nq_model.specs.World.{Head, run}
 use Rattle.law_told.specs.Met.{TellingsAreMet, NoRoomIsMet, RefusalsAreMet}
-use Rattle.walk_run.proofs.GivenRuns.{given-run}
-use Rattle.walk_run.proofs.NoCrash.{no-crash-within}
+use Rattle.walk_steps.proofs.GivenRuns.{given-run}
+use Rattle.walk_steps.proofs.NoCrash.{no-crash-within}
 
 -- one host, and no file
 abbrev one-host : Head

@@ -10,7 +10,7 @@ use Rattle.nq_base.specs.declared.Tag.{Tag}
 use Rattle.law_chains.proofs.ChainWorlds.{chain-fits}
 use Rattle.walk_chains.proofs.ChainFacts.{ChainFits, IsFenced, gone, ahead, earlier, IsBoundOrFenced, bound, fenced, done_at, rev_at}
 use Rattle.nq_promises.specs.Chained.{IsChained, has_done_write, due}
-use Rattle.walk_client.proofs.ClientMoves.{none-some, some-same}
+use Rattle.walk_steps.proofs.ClientMoves.{none-some, some-same}
 use Rattle.law_endings.proofs.ExcusesInRuns.{bound-or-excused}
 use Rattle.nq_promises.specs.LossesAreExcused.{IsUnsaved, listed, under_way, IsBoundAt, IsExcusedLoss, UnsavedFilesAreBoundOrExcused}
 use Rattle.nq_model.specs.Client.{Client, Lease, Revision, lease_on, is_clean, revision_of, revision_or_zero}
@@ -19,9 +19,9 @@ use Rattle.nq_model.specs.Message.{call}
 use Rattle.nq_model.specs.Server.{standing}
 use Rattle.nq_model.specs.Table.{is_writing, tag_below}
 use Rattle.nq_model.specs.World.{World, from_host, run}
-use Rattle.walk_run.proofs.Packets.{In, in-get}
-use Rattle.walk_server.proofs.Modes.{writing-caches, at-least-writing}
-use Rattle.walk_server.proofs.Tests.{there-is}
+use Rattle.walk_steps.proofs.Packets.{In, in-get}
+use Rattle.walk_steps.proofs.Modes.{writing-caches, at-least-writing}
+use Rattle.walk_steps.proofs.Tests.{there-is}
 use Rattle.walk_undisturbed.proofs.Holders.{KnownOf}
 use Rattle.law_undisturbed.proofs.KnownRuns.{run-known, still-fits}
 use Rattle.walk_undisturbed.proofs.StillFits.{standing-boot}

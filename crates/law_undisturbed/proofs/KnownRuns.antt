@@ -3,12 +3,12 @@ use Rattle.std.proofs.Common.{ℕ, List}
 use Rattle.nq_base.specs.declared.Event.{Event}
 use Rattle.law_chains.proofs.ChainWorlds.{chain-fits, pushes-fit}
 use Rattle.law_fates.proofs.WorldWrites.{writes-fit}
-use Rattle.law_leases.proofs.LeaseIntervals.{run-runs, kept-in-every-run}
+use Rattle.law_bounds.proofs.LeaseIntervals.{run-runs, kept-in-every-run}
 use Rattle.nq_promises.specs.Bounds.{KeepsBounds}
 use Rattle.nq_model.specs.Skew.{IsWithinSkew}
 use Rattle.nq_model.specs.World.{Head, run}
-use Rattle.law_requests.proofs.OneRequests.{one-open-in-every-run}
-use Rattle.walk_run.proofs.Worlds.{run-holds}
+use Rattle.law_bounds.proofs.OneRequests.{one-open-in-every-run}
+use Rattle.walk_steps.proofs.Worlds.{run-holds}
 use Rattle.walk_undisturbed.proofs.Holders.{KnownOf}
 use Rattle.law_undisturbed.proofs.UndisturbedRuns.{Still, run-still}
 

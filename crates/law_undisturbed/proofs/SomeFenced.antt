@@ -4,10 +4,10 @@ use Rattle.std.specs.Prelude.{slice_get, unwrap_or, is_some, All}
 use Rattle.nq_base.specs.Block.{zeros}
 use Rattle.nq_base.specs.declared.Entry.TheVariants.{W}
 use Rattle.nq_base.specs.declared.Push.{Push}
-use Rattle.walk_client.proofs.ClientMoves.{none-some}
+use Rattle.walk_steps.proofs.ClientMoves.{none-some}
 use Rattle.law_endings.proofs.SomeLost.{one-host, delayed, rounds, writer, there, unsaved, bounds-delayed, within}
 use Rattle.nq_promises.specs.LossesAreExcused.{listed, under_way}
-use Rattle.walk_run.proofs.NoCrash.{no-crash-within}
+use Rattle.walk_steps.proofs.NoCrash.{no-crash-within}
 use Rattle.nq_promises.specs.Bounds.{BootsWithin}
 use Rattle.nq_model.proofs.JournalTests.{tells_exists, tells_covers}
 use Rattle.nq_model.proofs.SkewTest.{skew-test-is-sound}
@@ -18,11 +18,11 @@ use Rattle.nq_model.specs.Server.{standing}
 use Rattle.nq_model.specs.Skew.{is_within_skew}
 use Rattle.nq_model.specs.Table.{find_row}
 use Rattle.nq_model.specs.World.{run}
-use Rattle.walk_server.proofs.Tests.{some-is}
+use Rattle.walk_steps.proofs.Tests.{some-is}
 use Rattle.law_undisturbed.proofs.BoundOrFenced.{bound-or-fenced-in-every-run}
 use Rattle.nq_promises.specs.WritesAreUndisturbed.{IsBoundAndDue, IsFencedAt, IsUncovered}
 use Rattle.law_undisturbed.specs.Met.{BoundAndFencedAreMet}
-use Rattle.walk_run.proofs.GivenRuns.{given-run}
+use Rattle.walk_steps.proofs.GivenRuns.{given-run}
 
 -- the delayed write
 abbrev push : Push

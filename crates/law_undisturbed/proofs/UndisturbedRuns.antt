@@ -9,12 +9,12 @@ use Rattle.nq_base.specs.declared.PushBase.{PushBase}
 use Rattle.nq_base.specs.declared.Request.{Request}
 use Rattle.nq_base.specs.declared.Who.{Who}
 use Rattle.walk_chains.proofs.ChainFacts.{IsFenced, gone, ahead, earlier}
-use Rattle.walk_client.proofs.ClientCases.{core_of}
-use Rattle.walk_client.proofs.ClientMoves.{none-some, some-same}
-use Rattle.walk_leases.proofs.BoundBefore.{StandsWriting, only-stood, stood-receive, stood-tick}
+use Rattle.walk_steps.proofs.ClientCases.{core_of}
+use Rattle.walk_steps.proofs.ClientMoves.{none-some, some-same}
+use Rattle.walk_steps.proofs.BoundBefore.{StandsWriting, only-stood, stood-receive, stood-tick}
 use Rattle.walk_endings.proofs.BoundRows.{crash-standing}
 use Rattle.law_fates.proofs.AnsweredWorlds.{received-tells, tick-tells, crash-tells}
-use Rattle.walk_leases.proofs.Runs.{none-served}
+use Rattle.walk_steps.proofs.Runs.{none-served}
 use Rattle.nq_promises.specs.Bounds.{KeepsBounds}
 use Rattle.nq_model.specs.Client.{Client, ClientStep, Lease, lease_on}
 use Rattle.nq_model.specs.ClientStep.{client_call, client_tick, restart, starts, fresh_client, attached_client, next_incarnation}
@@ -26,12 +26,12 @@ use Rattle.nq_model.specs.Server.{Server, ServerStep, standing}
 use Rattle.nq_model.specs.ServerStep.{receive, tick, crash, boot}
 use Rattle.nq_model.specs.Skew.{IsWithinSkew}
 use Rattle.nq_model.specs.World.{Head, World, after_server, after_client, at_client, after_hearing, sending_host, deliver_to_client, deliver_to, deliver, start, run, from_host}
-use Rattle.walk_run.proofs.Sequences.{asked-before-server}
-use Rattle.walk_run.proofs.RunCases.{During, Keeps, client_at, OfClients, run-keeps, clients-after}
-use Rattle.walk_run.proofs.Packets.{In, in-append, in-get, Asked, Told, message-same, call-same}
-use Rattle.walk_run.proofs.ServerSays.{AllSaid}
-use Rattle.walk_run.proofs.Worlds.{Holds, get-set-other, first-client, to-server, to-told, received-said, tick-said, crash-said, set-there}
-use Rattle.walk_server.proofs.Rows.{same-number, number-same}
+use Rattle.walk_steps.proofs.Sequences.{asked-before-server}
+use Rattle.walk_steps.proofs.RunCases.{During, Keeps, client_at, OfClients, run-keeps, clients-after}
+use Rattle.walk_steps.proofs.Packets.{In, in-append, in-get, Asked, Told, message-same, call-same}
+use Rattle.walk_steps.proofs.ServerSays.{AllSaid}
+use Rattle.walk_steps.proofs.Worlds.{Holds, get-set-other, first-client, to-server, to-told, received-said, tick-said, crash-said, set-there}
+use Rattle.walk_steps.proofs.Rows.{same-number, number-same}
 use Rattle.walk_undisturbed.proofs.Accesses.{Accesses, call-accesses, tick-accesses, hear-accesses}
 use Rattle.walk_undisturbed.proofs.Fences.{fenced-receive, fenced-tick, fenced-crash}
 use Rattle.walk_undisturbed.proofs.Holders.{KnownOf}

@@ -11,9 +11,9 @@ use Rattle.nq_model.proofs.Finding.{same-number, number-other, is-other}
 use Rattle.nq_model.specs.Journal.{Each, cuts, since_cut}
 use Rattle.nq_model.specs.JournalTest.{exists}
 use Rattle.nq_model.specs.Kept.{File, find_file, replace_file, drop_file, new_file, written_file, resized, resized_file, fenced_file}
-use Rattle.walk_client.proofs.ClientMoves.{some-same, none-some}
-use Rattle.walk_run.proofs.Worlds.{get-set-other}
-use Rattle.walk_server.proofs.KeptChanges.{found-replaced, find-removed, find-not-removed, found-added}
+use Rattle.walk_steps.proofs.ClientMoves.{some-same, none-some}
+use Rattle.walk_steps.proofs.Worlds.{get-set-other}
+use Rattle.walk_steps.proofs.KeptChanges.{found-replaced, find-removed, find-not-removed, found-added}
 
 -- ---- entries that cut no block
 

@@ -13,7 +13,7 @@ use Rattle.law_held.proofs.HeldLaws.{held-in-every-run}
 use Rattle.law_zeros.proofs.ZeroRuns.{untouched}
 use Rattle.nq_laws.proofs.CachedReads.{cached-in-every-run}
 use Rattle.nq_promises.specs.Headline.{HeadlineHolds, AtEveryMoment}
-use Rattle.walk_run.proofs.NoCrash.{bounds-before}
+use Rattle.walk_steps.proofs.NoCrash.{bounds-before}
 use Rattle.nq_promises.specs.Bounds.{KeepsBounds}
 use Rattle.law_legal.proofs.LegalLaws.{legal-in-every-run}
 use Rattle.nq_model.specs.Client.{Client, ClientStep}
@@ -23,7 +23,7 @@ use Rattle.nq_model.specs.Server.{ServerStep}
 use Rattle.nq_model.specs.Skew.{IsWithinSkew}
 use Rattle.nq_model.specs.World.{Head, World, after_server, after_client, at_client, after_hearing, deliver_to_client, deliver_to, deliver, step, run}
 use Rattle.law_reports.proofs.ReportedRuns.{reported-in-every-run}
-use Rattle.walk_run.proofs.Clocks.{within-before}
+use Rattle.walk_steps.proofs.Clocks.{within-before}
 use Rattle.law_deeds.proofs.OkDeeds.{deeds-in-every-run}
 use Rattle.law_synchronized.proofs.Standings.{synchronized-in-every-run, answers-in-every-run, busy-in-every-run}
 

@@ -15,8 +15,8 @@ use Rattle.nq_base.specs.declared.Who.{Who}
 use Rattle.walk_chain_rows.proofs.ServerChains.{Continues, RowFrom, row_fresh, row_on, RowOn, goes_on, vacated, superseded, loosened, removed, reopened, LineTo, line_stays, line_begins, line_decides, Claims, FileMove, file_stays, file_written, file_changed, file_gone, NewGrant, NewReply, ChainEffect}
 use Rattle.walk_chains.proofs.ChainFacts.{line_for, done_at, rev_at, HeldChains, GoesOnAs, InOrder, GrantFits, GivenChains, IsFenced, gone, ahead, earlier, IsBoundOrFenced, bound, fenced, WriteChains, VerdictFits, LineChains, ChainFits}
 use Rattle.nq_promises.specs.Chained.{OwnRow, IsChained, has_done, has_done_write, due, KnowsFile}
-use Rattle.walk_client.proofs.ClientFacts.{Alone}
-use Rattle.walk_client.proofs.ClientMoves.{some-same, none-some}
+use Rattle.walk_steps.proofs.ClientFacts.{Alone}
+use Rattle.walk_steps.proofs.ClientMoves.{some-same, none-some}
 use Rattle.nq_model.specs.Client.{Client, Lease, Ticket, lease_on, is_clean_in}
 use Rattle.nq_model.specs.Decide.{verdict_reply}
 use Rattle.nq_model.specs.Hear.{inc_of}
@@ -25,13 +25,13 @@ use Rattle.nq_model.specs.LeaseInterval.{is_at_least, requested_file}
 use Rattle.nq_model.specs.Message.{Packet, reply, asker, sequence_of}
 use Rattle.nq_model.specs.Server.{serving, Server, ServerStep, standing}
 use Rattle.nq_model.specs.Table.{Table, caches, is_writing, same_tag, tag_below, find_row, next_tag}
-use Rattle.walk_run.proofs.ClientSteps.{KnowsOf}
-use Rattle.walk_run.proofs.CoverFacts.{IsTakeable}
-use Rattle.walk_run.proofs.HostLine.{IsSettled}
-use Rattle.walk_run.proofs.Packets.{Asked, Told, Mail}
-use Rattle.walk_run.proofs.TagFacts.{IsDrawn}
+use Rattle.walk_steps.proofs.ClientSteps.{KnowsOf}
+use Rattle.walk_steps.proofs.CoverFacts.{IsTakeable}
+use Rattle.walk_steps.proofs.HostLine.{IsSettled}
+use Rattle.walk_steps.proofs.Packets.{Asked, Told, Mail}
+use Rattle.walk_steps.proofs.TagFacts.{IsDrawn}
 use Rattle.nq_base.specs.declared.Event.{Event}
-use Rattle.walk_server.proofs.Modes.{writing-caches, at-least-writing, at-least-caching}
+use Rattle.walk_steps.proofs.Modes.{writing-caches, at-least-writing, at-least-caching}
 
 -- what is drawn is below the next tag
 pub drawn-below : (table : Table) (tag : Tag) → IsDrawn table.boot table.drawn tag → tag_below tag (next_tag table) ≡ true

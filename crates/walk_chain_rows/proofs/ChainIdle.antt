@@ -5,14 +5,14 @@ use Rattle.nq_base.specs.declared.Request.{Request}
 use Rattle.nq_base.specs.declared.Who.{Who}
 use Rattle.walk_chain_rows.proofs.ServerChains.{LineTo, line_stays, line_begins, line_decides}
 use Rattle.walk_chains.proofs.ChainFacts.{line_for, ChainFits}
-use Rattle.walk_client.proofs.ClientFacts.{Alone, fits_job}
-use Rattle.walk_client.proofs.ClientMoves.{some-same, none-some}
+use Rattle.walk_steps.proofs.ClientFacts.{Alone, fits_job}
+use Rattle.walk_steps.proofs.ClientMoves.{some-same, none-some}
 use Rattle.nq_model.specs.Client.{Client, attaching, Ticket, lease_on, is_clean_in}
 use Rattle.nq_model.specs.ClientStep.{fresh_client, attached_client}
 use Rattle.nq_model.specs.LeaseInterval.{requested_file}
 use Rattle.nq_model.specs.Message.{Packet, sequence_of}
 use Rattle.nq_model.specs.Server.{Server}
-use Rattle.walk_run.proofs.HostLine.{LineFits}
+use Rattle.walk_steps.proofs.HostLine.{LineFits}
 
 -- a client without leases, calls and delayed writes, whose request under way, if there is one, is to attach
 pub record IsIdle (c : Client) : Type 0 where

@@ -9,21 +9,21 @@ use Rattle.walk_chain_rows.proofs.RowMoves.{rows-same, rows-ended, rows-loosened
 use Rattle.walk_chain_rows.proofs.ServerChains.{RowsMove, LineTo, FilesGrow, rev_stays, rev_rises, FileMove, file_stays, file_changed}
 use Rattle.walk_chains.proofs.ChainFacts.{line_for}
 use Rattle.nq_promises.specs.Chained.{OwnRow, has_done_write}
-use Rattle.walk_client.proofs.ClientMoves.{none-some}
-use Rattle.walk_leases.proofs.ServerEffects.{standing-serving}
-use Rattle.walk_leases.proofs.ServerLives.{HasServed}
+use Rattle.walk_steps.proofs.ClientMoves.{none-some}
+use Rattle.walk_steps.proofs.ServerEffects.{standing-serving}
+use Rattle.walk_steps.proofs.ServerLives.{HasServed}
 use Rattle.nq_model.specs.Client.{Ticket}
 use Rattle.nq_model.specs.Kept.{File, Kept, find_file, replace_file, fenced_file, with_files}
 use Rattle.nq_model.specs.Message.{Packet}
 use Rattle.nq_model.specs.Server.{serving, recovering, Server, standing, standing_in, quiet, keeping_with, with_table, last_in}
 use Rattle.nq_model.specs.ServerStep.{at_time, is_due, is_over, end_reading, fence, ends_writing, opens, tick, booted, boot, crash}
 use Rattle.nq_model.specs.Table.{Table, caches, is_writing, find_row, drop_row, with_rows, empty_table}
-use Rattle.walk_tables.proofs.ServerTables.{BootsFit, BootsFitOf, RecoversBoot, NoneRecoveringOf, none-opened, StandingFits, StandingFitsOf}
-use Rattle.walk_server.proofs.KeptChanges.{same-lines}
-use Rattle.walk_server.proofs.RowChanges.{found-any, found-kept, find-row-dropped, unique-filtered}
-use Rattle.walk_server.proofs.Rows.{find-passes, same-number, number-same}
-use Rattle.walk_server.proofs.ServerCases.{server-ticks}
-use Rattle.walk_server.proofs.TableFits.{TableFits}
+use Rattle.walk_steps.proofs.ServerTables.{BootsFit, BootsFitOf, RecoversBoot, NoneRecoveringOf, none-opened, StandingFits, StandingFitsOf}
+use Rattle.walk_steps.proofs.KeptChanges.{same-lines}
+use Rattle.walk_steps.proofs.RowChanges.{found-any, found-kept, find-row-dropped, unique-filtered}
+use Rattle.walk_steps.proofs.Rows.{find-passes, same-number, number-same}
+use Rattle.walk_steps.proofs.ServerCases.{server-ticks}
+use Rattle.walk_steps.proofs.TableFits.{TableFits}
 
 -- what a step that says nothing does, whoever sees it
 pub record Silent (ps : List Packet) (s t : Server) (host : ℕ) : Type 0 where

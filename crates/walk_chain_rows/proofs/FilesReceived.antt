@@ -14,9 +14,9 @@ use Rattle.walk_chain_rows.proofs.ServerChains.{Claims, NoneCaches, FileMove, fi
 use Rattle.walk_chains.proofs.ChainFacts.{line_for, done_at, IsFenced, gone, ahead, earlier, StandsWriting, PushesFit}
 use Rattle.walk_chains.proofs.ChainLists.{fresh-undone}
 use Rattle.nq_promises.specs.Chained.{OwnRow, is_done, has_done, has_done_write}
-use Rattle.walk_client.proofs.ClientFacts.{changes_file}
-use Rattle.walk_client.proofs.ClientMoves.{some-same, none-some}
-use Rattle.walk_leases.proofs.ServerEffects.{standing-serving}
+use Rattle.walk_steps.proofs.ClientFacts.{changes_file}
+use Rattle.walk_steps.proofs.ClientMoves.{some-same, none-some}
+use Rattle.walk_steps.proofs.ServerEffects.{standing-serving}
 use Rattle.nq_model.specs.Ask.{marked}
 use Rattle.nq_model.specs.Client.{Client, Ticket}
 use Rattle.nq_model.specs.Decide.{Decision, commits, row_after, decides, creates, writes_through, stores, wrote, stores_recovering, resizes, removes, puts_off}
@@ -26,16 +26,16 @@ use Rattle.nq_model.specs.Message.{Packet, Datagram, request, asker, sequence_of
 use Rattle.nq_model.specs.Server.{serving, Server, standing, quiet, drops, says, keeping, keeping_with, with_table, after_notices}
 use Rattle.nq_model.specs.ServerStep.{attaches, vacates, tells_later, serves, leases, receive}
 use Rattle.nq_model.specs.Table.{caches, is_writing, find_row, with_rows}
-use Rattle.walk_run.proofs.HostLine.{IsSettled}
-use Rattle.walk_run.proofs.Packets.{Asked}
-use Rattle.walk_tables.proofs.ServerNumbers.{LinesFitOf}
-use Rattle.walk_tables.proofs.ServerTables.{StandingFitsOf}
-use Rattle.walk_server.proofs.KeptChanges.{other-line, find-removed, find-not-removed}
-use Rattle.walk_server.proofs.RowChanges.{no-clash}
-use Rattle.walk_server.proofs.Rows.{same-number, number-same}
-use Rattle.walk_server.proofs.ServerCases.{server-hears}
-use Rattle.walk_server.proofs.ServerMoves.{first_line}
-use Rattle.walk_server.proofs.ServerOutcomes.{line_of, clash_with, IsFrom, IsFresh, IsChanging, IsDeclined, ServerCases, declined-not}
+use Rattle.walk_steps.proofs.HostLine.{IsSettled}
+use Rattle.walk_steps.proofs.Packets.{Asked}
+use Rattle.walk_steps.proofs.ServerNumbers.{LinesFitOf}
+use Rattle.walk_steps.proofs.ServerTables.{StandingFitsOf}
+use Rattle.walk_steps.proofs.KeptChanges.{other-line, find-removed, find-not-removed}
+use Rattle.walk_steps.proofs.RowChanges.{no-clash}
+use Rattle.walk_steps.proofs.Rows.{same-number, number-same}
+use Rattle.walk_steps.proofs.ServerCases.{server-hears}
+use Rattle.walk_steps.proofs.ServerMoves.{first_line}
+use Rattle.walk_steps.proofs.ServerOutcomes.{line_of, clash_with, IsFrom, IsFresh, IsChanging, IsDeclined, ServerCases, declined-not}
 
 -- what is not Done
 verdict-undone : (v : Verdict) → (v ≡ Verdict.Done → ⊥) → is_done v ≡ false

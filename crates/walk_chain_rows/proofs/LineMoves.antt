@@ -15,9 +15,9 @@ use Rattle.nq_model.specs.Kept.{File, Kept, blocks_of, find_file, replace_file, 
 use Rattle.nq_model.specs.Message.{Packet, asker, sequence_of}
 use Rattle.nq_model.specs.Profile.{most_hosts}
 use Rattle.nq_model.specs.Server.{Server}
-use Rattle.walk_run.proofs.Packets.{Asked}
-use Rattle.walk_server.proofs.KeptChanges.{own-line, other-line, find-own-replaced, find-other-replaced, same-lines}
-use Rattle.walk_server.proofs.Rows.{same-number, number-same}
+use Rattle.walk_steps.proofs.Packets.{Asked}
+use Rattle.walk_steps.proofs.KeptChanges.{own-line, other-line, find-own-replaced, find-other-replaced, same-lines}
+use Rattle.walk_steps.proofs.Rows.{same-number, number-same}
 
 -- the lines are the same
 pub line-same : (ps : List Packet) (s t : Server) (host : ℕ) → t.kept.hosts ≡ s.kept.hosts → LineTo ps s t host

@@ -13,20 +13,20 @@ use Rattle.walk_chain_rows.proofs.ServerChains.{RowOn, goes_on, vacated, superse
 use Rattle.walk_chains.proofs.ChainFacts.{line_for, done_at, rev_at, IsFenced, gone, ahead, earlier, IsBoundOrFenced, bound, fenced, IsPushed, ChainFits, StandsWriting, PushFits, PushesFit}
 use Rattle.walk_chains.proofs.ChainLists.{fresh-undone}
 use Rattle.nq_promises.specs.Chained.{due}
-use Rattle.walk_client.proofs.ClientMoves.{some-same, none-some}
-use Rattle.walk_client.proofs.ClientWrites.{writes-under-way}
+use Rattle.walk_steps.proofs.ClientMoves.{some-same, none-some}
+use Rattle.walk_steps.proofs.ClientWrites.{writes-under-way}
 use Rattle.nq_model.specs.Client.{Client, Ticket, is_push_of, push_passes, is_clean_in}
 use Rattle.nq_model.specs.Kept.{File, find_file, host_row}
 use Rattle.nq_model.specs.Message.{Packet, asker, sequence_of}
 use Rattle.nq_model.specs.Server.{Server, standing}
 use Rattle.nq_model.specs.Table.{is_writing, same_tag, tag_below, find_row, next_tag}
-use Rattle.walk_run.proofs.ClientSteps.{KnowsOf}
-use Rattle.walk_run.proofs.HostLine.{IsSettled}
-use Rattle.walk_run.proofs.Packets.{Asked, Mail}
-use Rattle.walk_run.proofs.TagFacts.{IsDrawn}
-use Rattle.walk_server.proofs.Incarnations.{one-who}
-use Rattle.walk_server.proofs.Modes.{writing-caches, at-least-writing}
-use Rattle.walk_server.proofs.Rows.{number-same}
+use Rattle.walk_steps.proofs.ClientSteps.{KnowsOf}
+use Rattle.walk_steps.proofs.HostLine.{IsSettled}
+use Rattle.walk_steps.proofs.Packets.{Asked, Mail}
+use Rattle.walk_steps.proofs.TagFacts.{IsDrawn}
+use Rattle.walk_steps.proofs.Incarnations.{one-who}
+use Rattle.walk_steps.proofs.Modes.{writing-caches, at-least-writing}
+use Rattle.walk_steps.proofs.Rows.{number-same}
 
 -- what was sent since is no request of the kept incarnation
 pub pushes-sends : (s : Server) (host : ℕ) (ps qs : List Packet)

@@ -11,10 +11,10 @@ use Rattle.nq_base.specs.declared.Row.{Row}
 use Rattle.nq_base.specs.declared.Want.{Want}
 use Rattle.nq_base.specs.declared.Who.{Who}
 use Rattle.walk_chain_rows.proofs.ServerChains.{NewGrant, NewReply}
-use Rattle.walk_client.proofs.ClientMoves.{some-same, none-some}
-use Rattle.walk_leases.proofs.Covers.{granted-key}
-use Rattle.walk_leases.proofs.ServerEffects.{standing-serving}
-use Rattle.walk_run.proofs.Sequences.{reads-no-seq}
+use Rattle.walk_steps.proofs.ClientMoves.{some-same, none-some}
+use Rattle.walk_steps.proofs.Covers.{granted-key}
+use Rattle.walk_steps.proofs.ServerEffects.{standing-serving}
+use Rattle.walk_steps.proofs.Sequences.{reads-no-seq}
 use Rattle.nq_model.specs.Ask.{marked, grant_of, sharing_row, caching_row, shared_again, renewed_row}
 use Rattle.nq_model.specs.Decide.{Decision, commits, row_after, decides, creates, writes_through, stores, wrote, stores_recovering, resizes, removes, puts_off, in_the_way, verdict_reply}
 use Rattle.nq_model.specs.Hear.{inc_of}
@@ -25,16 +25,16 @@ use Rattle.nq_model.specs.Profile.{most_hosts}
 use Rattle.nq_model.specs.Server.{serving, Server, ServerStep, standing, to_host, quiet, drops, says, notices, keeping, keeping_with, with_table, after_notices}
 use Rattle.nq_model.specs.ServerStep.{attaches, vacates, tells_later, serves, leases, to_read, access_of, receive}
 use Rattle.nq_model.specs.Table.{Table, caches, find_row, put_row, next_tag, with_rows, after_draw}
-use Rattle.walk_run.proofs.Packets.{In, in-append, Asked, Told, told-same, reply-same}
-use Rattle.walk_run.proofs.ServerSays.{verdict-inc, verdict-grant, plain-inc, plain-grant, notices-no-reply}
-use Rattle.walk_tables.proofs.LogGrants.{granted-tag}
-use Rattle.walk_tables.proofs.ServerNumbers.{LinesFitOf}
-use Rattle.walk_server.proofs.AskCases.{own_in, IsGranted, shares_again, begins_sharing, begins_caching, renews_row}
-use Rattle.walk_server.proofs.KeptChanges.{own-line}
-use Rattle.walk_server.proofs.Modes.{at-least-more, greater-caches}
-use Rattle.walk_server.proofs.RowChanges.{find-put-same}
-use Rattle.walk_server.proofs.ServerCases.{server-hears}
-use Rattle.walk_server.proofs.ServerOutcomes.{only_asks, wanted_by, line_of, IsFrom, IsFresh, IsAsking, IsPlain, unattached, attached_again, not_yet, no_entry, entry, no_attributes, attributes, no_file, no_block, decided_again, is_old, ServerCases, error-no-reply}
+use Rattle.walk_steps.proofs.Packets.{In, in-append, Asked, Told, told-same, reply-same}
+use Rattle.walk_steps.proofs.ServerSays.{verdict-inc, verdict-grant, plain-inc, plain-grant, notices-no-reply}
+use Rattle.walk_steps.proofs.LogGrants.{granted-tag}
+use Rattle.walk_steps.proofs.ServerNumbers.{LinesFitOf}
+use Rattle.walk_steps.proofs.AskCases.{own_in, IsGranted, shares_again, begins_sharing, begins_caching, renews_row}
+use Rattle.walk_steps.proofs.KeptChanges.{own-line}
+use Rattle.walk_steps.proofs.Modes.{at-least-more, greater-caches}
+use Rattle.walk_steps.proofs.RowChanges.{find-put-same}
+use Rattle.walk_steps.proofs.ServerCases.{server-hears}
+use Rattle.walk_steps.proofs.ServerOutcomes.{only_asks, wanted_by, line_of, IsFrom, IsFresh, IsAsking, IsPlain, unattached, attached_again, not_yet, no_entry, entry, no_attributes, attributes, no_file, no_block, decided_again, is_old, ServerCases, error-no-reply}
 
 -- ---- grants
 

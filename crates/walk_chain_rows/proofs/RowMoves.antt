@@ -12,9 +12,9 @@ use Rattle.nq_base.specs.declared.Tag.{Tag}
 use Rattle.nq_base.specs.declared.Want.{Want}
 use Rattle.nq_base.specs.declared.Who.{Who}
 use Rattle.walk_chain_rows.proofs.ServerChains.{Continues, RowFrom, row_fresh, row_on, RowOn, goes_on, vacated, superseded, loosened, removed, reopened, RowsMove}
-use Rattle.walk_client.proofs.ClientMoves.{some-same, none-some}
-use Rattle.walk_leases.proofs.Covers.{granted-key}
-use Rattle.walk_leases.proofs.ServerEffects.{standing-serving}
+use Rattle.walk_steps.proofs.ClientMoves.{some-same, none-some}
+use Rattle.walk_steps.proofs.Covers.{granted-key}
+use Rattle.walk_steps.proofs.ServerEffects.{standing-serving}
 use Rattle.nq_model.specs.Ask.{marked, term_of, sharing_row, caching_row, shared_again, renewed_row}
 use Rattle.nq_model.specs.Kept.{File, find_file, host_row}
 use Rattle.nq_model.specs.LeaseInterval.{is_at_least}
@@ -22,11 +22,11 @@ use Rattle.nq_model.specs.Message.{Packet}
 use Rattle.nq_model.specs.Server.{Phase, serving, recovering, Server, standing}
 use Rattle.nq_model.specs.ServerStep.{vacated_rows, is_over, is_due, end_reading}
 use Rattle.nq_model.specs.Table.{Table, caches, is_writing, same_tag, is_row_of, find_row, drop_row, drop_host, drop_rows_of, put_row, next_tag, with_rows, after_draw}
-use Rattle.walk_run.proofs.Packets.{Asked}
-use Rattle.walk_server.proofs.AskCases.{own_in, with_marked, with_waiter, IsGranted, shares_again, begins_sharing, begins_caching, renews_row}
-use Rattle.walk_server.proofs.Modes.{at-least-more}
-use Rattle.walk_server.proofs.RowChanges.{HasUniqueKeys, of-key, found-put, find-put, kept_if, find-kept, found-kept, found-vacated, find-not-vacated, find-marked, found-marked, mark, mark-is, unique-filtered, find-other-host-dropped, find-other-file-dropped, find-other-dropped}
-use Rattle.walk_server.proofs.Rows.{same-number, number-same}
+use Rattle.walk_steps.proofs.Packets.{Asked}
+use Rattle.walk_steps.proofs.AskCases.{own_in, with_marked, with_waiter, IsGranted, shares_again, begins_sharing, begins_caching, renews_row}
+use Rattle.walk_steps.proofs.Modes.{at-least-more}
+use Rattle.walk_steps.proofs.RowChanges.{HasUniqueKeys, of-key, found-put, find-put, kept_if, find-kept, found-kept, found-vacated, find-not-vacated, find-marked, found-marked, mark, mark-is, unique-filtered, find-other-host-dropped, find-other-file-dropped, find-other-dropped}
+use Rattle.walk_steps.proofs.Rows.{same-number, number-same}
 
 -- a row that is not changed goes on
 same-on : (before : Table) (row : Row) → Continues before row row

@@ -9,7 +9,7 @@ use Rattle.walk_chain_rows.proofs.LineMoves.{line-same, line-decided, written-ri
 use Rattle.walk_chain_rows.proofs.RowMoves.{rows-same, rows-marked, rows-granted, rows-waiting, rows-heard, rows-removed, rows-recovering, rows-vacated, rows-attached}
 use Rattle.walk_chain_rows.proofs.ServerChains.{RowsMove, LineTo, line_stays, line_begins, FilesGrow, rev_stays, rev_rises, rev_gone}
 use Rattle.walk_chains.proofs.ChainFacts.{VerdictFits}
-use Rattle.walk_client.proofs.ClientMoves.{none-some}
+use Rattle.walk_steps.proofs.ClientMoves.{none-some}
 use Rattle.nq_model.specs.Ask.{marked}
 use Rattle.nq_model.specs.Decide.{Decision, commits, row_after, decides, creates, writes_through, stores, wrote, stores_recovering, resizes, removes, puts_off}
 use Rattle.nq_model.specs.Kept.{File, Kept, find_file, replace_file, drop_file, new_file, written_file, resized_file, host_row, with_row, with_files, with_new_file}
@@ -17,16 +17,16 @@ use Rattle.nq_model.specs.Message.{Packet, Datagram, request, asker, sequence_of
 use Rattle.nq_model.specs.Server.{serving, Server, quiet, drops, says, keeping, keeping_with, with_table, after_notices}
 use Rattle.nq_model.specs.ServerStep.{attaches, vacates, tells_later, serves, leases, to_read, access_of, receive}
 use Rattle.nq_model.specs.Table.{find_row, with_rows, after_draw}
-use Rattle.walk_run.proofs.Packets.{Asked}
-use Rattle.walk_tables.proofs.ServerNumbers.{LinesFitOf}
-use Rattle.walk_tables.proofs.ServerTables.{StandingFits, StandingFitsOf}
-use Rattle.walk_server.proofs.KeptChanges.{own-line, other-line, find-removed, find-not-removed, find-added, found-added}
-use Rattle.walk_server.proofs.RowChanges.{HasUniqueKeys}
-use Rattle.walk_server.proofs.Rows.{found-row, same-number, number-same}
-use Rattle.walk_server.proofs.ServerCases.{server-hears}
-use Rattle.walk_server.proofs.ServerMoves.{first_line}
-use Rattle.walk_server.proofs.ServerOutcomes.{base_in, wanted_by, line_of, IsFrom, IsFresh, IsDeclined, bad_length, name_taken, no_room, not_kept, outside, no_row, not_under, not_over, not_while_recovering, bad_size, no_room_to_grow, ServerCases}
-use Rattle.walk_server.proofs.TableFits.{TableFits}
+use Rattle.walk_steps.proofs.Packets.{Asked}
+use Rattle.walk_steps.proofs.ServerNumbers.{LinesFitOf}
+use Rattle.walk_steps.proofs.ServerTables.{StandingFits, StandingFitsOf}
+use Rattle.walk_steps.proofs.KeptChanges.{own-line, other-line, find-removed, find-not-removed, find-added, found-added}
+use Rattle.walk_steps.proofs.RowChanges.{HasUniqueKeys}
+use Rattle.walk_steps.proofs.Rows.{found-row, same-number, number-same}
+use Rattle.walk_steps.proofs.ServerCases.{server-hears}
+use Rattle.walk_steps.proofs.ServerMoves.{first_line}
+use Rattle.walk_steps.proofs.ServerOutcomes.{base_in, wanted_by, line_of, IsFrom, IsFresh, IsDeclined, bad_length, name_taken, no_room, not_kept, outside, no_row, not_under, not_over, not_while_recovering, bad_size, no_room_to_grow, ServerCases}
+use Rattle.walk_steps.proofs.TableFits.{TableFits}
 
 module _ (ps : List Packet) (s : Server) (sender next : ℕ) (d : Datagram) (host : ℕ)
     (was_sent : (x : ℕ) (r : Request) → d ≡ request x r → Asked ps sender x r) (stood : StandingFitsOf s) (lines : LinesFitOf s) where

@@ -18,8 +18,8 @@ use Rattle.nq_model.specs.LeaseInterval.{is_at_least, grant_in, requested_file}
 use Rattle.nq_model.specs.Message.{Packet, reply, asker, sequence_of}
 use Rattle.nq_model.specs.Server.{serving, Server, ServerStep, standing}
 use Rattle.nq_model.specs.Table.{Table, caches, is_writing, same_tag, find_row, next_tag}
-use Rattle.walk_run.proofs.CoverFacts.{IsTakeable}
-use Rattle.walk_run.proofs.Packets.{Asked, Told}
+use Rattle.walk_steps.proofs.CoverFacts.{IsTakeable}
+use Rattle.walk_steps.proofs.Packets.{Asked, Told}
 
 -- ---- rows
 

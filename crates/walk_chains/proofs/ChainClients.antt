@@ -13,11 +13,11 @@ use Rattle.walk_chains.proofs.ChainMoves.{mid-calls, mid-again, mid-passes}
 use Rattle.walk_chains.proofs.ChainReplies.{Answered, mid-replied, mid-evicted}
 use Rattle.walk_chains.proofs.ChainSends.{view_of, MidOf, mid-settles, mid-goes-on}
 use Rattle.nq_promises.specs.Chained.{IsChained}
-use Rattle.walk_client.proofs.StepCases.{call-cases, unless-cached-cases, tick-cases, heard-cases}
-use Rattle.walk_client.proofs.ClientCases.{Closed}
-use Rattle.walk_client.proofs.ClientFacts.{DelayingOf}
-use Rattle.walk_client.proofs.ClientMoves.{some-same, none-some}
-use Rattle.walk_client.proofs.ClientWalk.{Replying, reply-keeps, notice-keeps, call-keeps, tick-keeps}
+use Rattle.walk_steps.proofs.StepCases.{call-cases, unless-cached-cases, tick-cases, heard-cases}
+use Rattle.walk_steps.proofs.ClientCases.{Closed}
+use Rattle.walk_steps.proofs.ClientFacts.{DelayingOf}
+use Rattle.walk_steps.proofs.ClientMoves.{some-same, none-some}
+use Rattle.walk_steps.proofs.ClientWalk.{Replying, reply-keeps, notice-keeps, call-keeps, tick-keeps}
 use Rattle.nq_model.specs.Client.{Client, ClientStep, Job, begun, Ticket}
 use Rattle.nq_model.specs.ClientStep.{begins_call, is_called, says_busy, client_call, at_time, sends_again, client_tick}
 use Rattle.nq_model.specs.Hear.{inc_of, reply_counts, hear, replied, evicted, cancels}
@@ -26,11 +26,11 @@ use Rattle.nq_model.specs.Message.{Message, Packet, reply}
 use Rattle.nq_model.specs.Server.{Phase, serving, recovering, Server, standing_in}
 use Rattle.nq_model.specs.Settle.{answers, names_losses, settle, ticket_is_for_call}
 use Rattle.nq_model.specs.Table.{Table}
-use Rattle.walk_run.proofs.ClientSteps.{KnowsOf}
-use Rattle.walk_run.proofs.CoverFacts.{IsTakeable}
-use Rattle.walk_run.proofs.Mail.{packets_with, old-told}
-use Rattle.walk_run.proofs.Packets.{Told}
-use Rattle.walk_run.proofs.Worlds.{IsAt, given-by}
+use Rattle.walk_steps.proofs.ClientSteps.{KnowsOf}
+use Rattle.walk_steps.proofs.CoverFacts.{IsTakeable}
+use Rattle.walk_steps.proofs.Mail.{packets_with, old-told}
+use Rattle.walk_steps.proofs.Packets.{Told}
+use Rattle.walk_steps.proofs.Worlds.{IsAt, given-by}
 
 -- ---- a client alone
 

@@ -23,8 +23,8 @@ use Rattle.nq_model.specs.LeaseInterval.{is_at_least}
 use Rattle.nq_model.specs.Message.{Packet, reply, sequence_of}
 use Rattle.nq_model.specs.Server.{Server, standing}
 use Rattle.nq_model.specs.Table.{Table, caches, is_writing, tag_below}
-use Rattle.walk_run.proofs.CoverFacts.{IsTakeable}
-use Rattle.walk_run.proofs.Packets.{Asked, Told}
+use Rattle.walk_steps.proofs.CoverFacts.{IsTakeable}
+use Rattle.walk_steps.proofs.Packets.{Asked, Told}
 
 -- the kept line of a client's host
 abbrev pub line_for : Kept → Who → HostRow

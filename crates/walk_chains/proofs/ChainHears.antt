@@ -13,7 +13,7 @@ use Rattle.walk_chains.proofs.ChainLists.{rev-put, known-put, known-put-other, s
 use Rattle.walk_chains.proofs.ChainMoves.{View, Mid, Ready, mid-uses, mid-spends}
 use Rattle.nq_promises.specs.Chained.{OwnRow, IsChained, due, KnowsFile}
 use Rattle.nq_model.proofs.ClientLists.{lease-after-put, put-lease-found, other-lease-put}
-use Rattle.walk_client.proofs.ClientMoves.{some-same, none-some}
+use Rattle.walk_steps.proofs.ClientMoves.{some-same, none-some}
 use Rattle.nq_model.specs.Client.{for_call, Lease, Ticket, UnderWay, lease_on, put_lease, used_lease, other_dirty, revision_of, put_revision, is_clean_in}
 use Rattle.nq_model.specs.Hear.{other_push, granted_lease}
 use Rattle.nq_model.specs.LeaseInterval.{is_at_least}
@@ -21,9 +21,9 @@ use Rattle.nq_model.specs.Message.{Packet}
 use Rattle.nq_model.specs.Server.{Server, standing}
 use Rattle.nq_model.specs.Settle.{with_write, ticket_is_for_call}
 use Rattle.nq_model.specs.Table.{caches, is_writing, tag_below}
-use Rattle.walk_server.proofs.Modes.{writing-caches}
-use Rattle.walk_server.proofs.Rows.{same-number}
-use Rattle.walk_server.proofs.Tests.{is-other}
+use Rattle.walk_steps.proofs.Modes.{writing-caches}
+use Rattle.walk_steps.proofs.Rows.{same-number}
+use Rattle.walk_steps.proofs.Tests.{is-other}
 
 module _ (s : Server) (ps : List Packet) where
   -- a write is delayed under a writing lease that runs

@@ -7,14 +7,14 @@ use Rattle.nq_base.specs.declared.Request.{Request}
 use Rattle.walk_chains.proofs.ChainFacts.{rev_at}
 use Rattle.nq_promises.specs.Chained.{is_done, has_done}
 use Rattle.nq_model.proofs.ClientLists.{marked-before, marked-tag, marked-mode, marked-expiry, lease-before-drop, other-lease-dropped, used-lease-found, marked-blocks, any-overwritten, put-revision-found, other-revision-put}
-use Rattle.walk_client.proofs.ClientMoves.{some-same, none-some}
-use Rattle.walk_client.proofs.ClientWrites.{has-writes, writes-in-list, writes-under-way}
+use Rattle.walk_steps.proofs.ClientMoves.{some-same, none-some}
+use Rattle.walk_steps.proofs.ClientWrites.{has-writes, writes-in-list, writes-under-way}
 use Rattle.nq_model.specs.Client.{Lease, Revision, lease_on, drop_lease, used_lease, marked_used, is_push_of, is_push_at, first_dirty, push_passes, drop_dirty, other_dirty, revision_of, revision_or_zero, put_revision, is_clean_in}
 use Rattle.nq_model.specs.Hear.{other_push}
 use Rattle.nq_model.specs.Message.{sequence_of}
 use Rattle.nq_model.specs.Settle.{with_write}
-use Rattle.walk_server.proofs.Rows.{same-number}
-use Rattle.walk_server.proofs.Tests.{is-other}
+use Rattle.walk_steps.proofs.Rows.{same-number}
+use Rattle.walk_steps.proofs.Tests.{is-other}
 
 -- ---- leases
 

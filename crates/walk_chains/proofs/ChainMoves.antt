@@ -11,8 +11,8 @@ use Rattle.nq_base.specs.declared.Who.{Who}
 use Rattle.walk_chains.proofs.ChainFacts.{VerdictFits, line_for, done_at, rev_at, HeldChains, GrantFits, GivenChains, IsBoundOrFenced, IsPushed, file_written, WriteChains, LineChains}
 use Rattle.walk_chains.proofs.ChainLists.{WasLease, was-used, was-dropped, StillLease, still-used, still-dropped}
 use Rattle.nq_promises.specs.Chained.{IsChained, has_done, due, KnowsFile}
-use Rattle.walk_client.proofs.ClientMoves.{some-same, none-some}
-use Rattle.walk_client.proofs.ClientWrites.{writes-under-way}
+use Rattle.walk_steps.proofs.ClientMoves.{some-same, none-some}
+use Rattle.walk_steps.proofs.ClientWrites.{writes-under-way}
 use Rattle.nq_model.specs.Client.{Job, for_call, Lease, Revision, Ticket, UnderWay, lease_on, drop_lease, used_lease, is_push_of, push_passes, revision_of, is_clean_in}
 use Rattle.nq_model.specs.Decide.{verdict_reply}
 use Rattle.nq_model.specs.Hear.{wants_of, inc_of, cancelled}
@@ -22,9 +22,9 @@ use Rattle.nq_model.specs.Message.{Packet, reply, sequence_of}
 use Rattle.nq_model.specs.Server.{Server, standing}
 use Rattle.nq_model.specs.Settle.{ticket_is_for_call}
 use Rattle.nq_model.specs.Table.{Table, caches, is_writing, tag_below}
-use Rattle.walk_run.proofs.CoverFacts.{IsTakeable}
-use Rattle.walk_run.proofs.Packets.{Told}
-use Rattle.walk_server.proofs.Rows.{number-same}
+use Rattle.walk_steps.proofs.CoverFacts.{IsTakeable}
+use Rattle.walk_steps.proofs.Packets.{Told}
+use Rattle.walk_steps.proofs.Rows.{number-same}
 
 -- what of a client its chains speak of
 pub record View : Type 0 where

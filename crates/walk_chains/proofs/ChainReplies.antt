@@ -18,11 +18,11 @@ use Rattle.walk_chains.proofs.ChainLists.{was-dropped, clean-lost, unclean-ended
 use Rattle.walk_chains.proofs.ChainMoves.{Mid, Ready, grant-leases, mid-drops, mid-calls, NotDone, mid-spent, mid-cancels}
 use Rattle.walk_chains.proofs.ChainSends.{view_of, MidOf, mid-answers}
 use Rattle.nq_promises.specs.Chained.{is_done, has_done, due}
-use Rattle.walk_client.proofs.PartCases.{answers-call-cases, vacates-noticed-cases, reports-cases, if-broken-cases, takes-optional-cases, lease-done-cases, then-caches-cases, caches-write-cases, caches-push-cases, vacates-if-clean-cases}
-use Rattle.walk_client.proofs.RepliedCases.{OfCall, IsNamed, looked_up, created, attributes, replied-cases}
-use Rattle.walk_client.proofs.StepCases.{evicted-cases}
-use Rattle.walk_client.proofs.ClientFacts.{Alone, changes_file}
-use Rattle.walk_client.proofs.ClientMoves.{some-same, none-some}
+use Rattle.walk_steps.proofs.PartCases.{answers-call-cases, vacates-noticed-cases, reports-cases, if-broken-cases, takes-optional-cases, lease-done-cases, then-caches-cases, caches-write-cases, caches-push-cases, vacates-if-clean-cases}
+use Rattle.walk_steps.proofs.RepliedCases.{OfCall, IsNamed, looked_up, created, attributes, replied-cases}
+use Rattle.walk_steps.proofs.StepCases.{evicted-cases}
+use Rattle.walk_steps.proofs.ClientFacts.{Alone, changes_file}
+use Rattle.walk_steps.proofs.ClientMoves.{some-same, none-some}
 use Rattle.nq_model.specs.Client.{Client, ClientStep, begun, Lease, Ticket, UnderWay, lease_on, drop_lease, notice_on, is_clean}
 use Rattle.nq_model.specs.Decide.{verdict_reply}
 use Rattle.nq_model.specs.Hear.{vacates_lease, vacates_noticed, loses, without_lease, push_refused, breaks, breaks_chain, holds, takes_grant, takes_optional, answers_call, caches_block, then_caches, read_done, with_through, marks_through, lease_done, purges, knows_revision, write_done, ends_push, caches_push, push_done, spends, attached, pauses, replied, reply_counts, cancels, notes_notice, evicted}
@@ -31,7 +31,7 @@ use Rattle.nq_model.specs.Message.{Packet, sequence_of}
 use Rattle.nq_model.specs.Server.{Server}
 use Rattle.nq_model.specs.Settle.{answers, names_losses, ticket_is_for_call}
 use Rattle.nq_model.specs.Table.{tag_below}
-use Rattle.walk_server.proofs.Rows.{number-same}
+use Rattle.walk_steps.proofs.Rows.{number-same}
 use Rattle.nq_model.proofs.Finding.{number-other}
 
 module _ (s : Server) (ps : List Packet) where

@@ -16,11 +16,11 @@ use Rattle.walk_chains.proofs.ChainFacts.{line_for, rev_at, file_written, IsPush
 use Rattle.walk_chains.proofs.ChainHears.{mid-delays}
 use Rattle.walk_chains.proofs.ChainLists.{any-found, none-found, unclean-pushed, fresh-undone, plain-undone}
 use Rattle.walk_chains.proofs.ChainMoves.{View, Mid, mid-uses, mid-drops, mid-calls, CanAsk, mid-sends}
-use Rattle.walk_client.proofs.SendCases.{NothingToPush, IsFree, least-passes, send-cases, pushed, noticed-one, no-noticed, least-with-some}
-use Rattle.walk_client.proofs.SettleCases.{IsSettling, IsWrite, CanWrite, Settled, settle-cases, settle-settles}
-use Rattle.walk_client.proofs.ClientFacts.{DelayingOf, push_in}
-use Rattle.walk_client.proofs.ClientMoves.{some-same, none-some}
-use Rattle.walk_client.proofs.ClientWrites.{writes-in-list, no-push}
+use Rattle.walk_steps.proofs.SendCases.{NothingToPush, IsFree, least-passes, send-cases, pushed, noticed-one, no-noticed, least-with-some}
+use Rattle.walk_steps.proofs.SettleCases.{IsSettling, IsWrite, CanWrite, Settled, settle-cases, settle-settles}
+use Rattle.walk_steps.proofs.ClientFacts.{DelayingOf, push_in}
+use Rattle.walk_steps.proofs.ClientMoves.{some-same, none-some}
+use Rattle.walk_steps.proofs.ClientWrites.{writes-in-list, no-push}
 use Rattle.nq_model.specs.Client.{Client, ClientStep, Job, for_call, renewing, pushing, Lease, Notice, Ticket, UnderWay, lease_on, notice_on, is_clean, is_push_of, first_dirty, drop_dirty, is_live, is_clean_in, file_of_lease}
 use Rattle.nq_model.specs.LeaseInterval.{requested_file}
 use Rattle.nq_model.specs.Message.{Packet, sequence_of}
@@ -29,8 +29,8 @@ use Rattle.nq_model.specs.Send.{boot_of, sends_request, after_seq, after_number,
 use Rattle.nq_model.specs.Server.{Server}
 use Rattle.nq_model.specs.Settle.{answers, reads_cached, after_read, after_write, delays, marks_written, settle, ticket_is_for_call}
 use Rattle.nq_model.specs.Table.{caches, is_writing}
-use Rattle.walk_server.proofs.Rows.{find-passes, same-number}
-use Rattle.walk_server.proofs.ServerOutcomes.{base_in, file_changed_by}
+use Rattle.walk_steps.proofs.Rows.{find-passes, same-number}
+use Rattle.walk_steps.proofs.ServerOutcomes.{base_in, file_changed_by}
 
 -- the view of a client in the middle of a step
 abbrev pub view_of : ClientStep → View

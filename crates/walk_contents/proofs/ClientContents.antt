@@ -13,12 +13,12 @@ use Rattle.nq_base.specs.declared.Said.{Said}
 use Rattle.nq_base.specs.declared.Tag.{Tag}
 use Rattle.nq_base.specs.declared.Value.{Value}
 use Rattle.nq_base.specs.declared.Who.{Who}
-use Rattle.walk_client.proofs.PartCases.{answers-call-cases, vacates-noticed-cases, reports-cases, if-broken-cases, caches-write-cases, caches-push-cases, vacates-if-clean-cases}
-use Rattle.walk_client.proofs.SendCases.{send-cases, pushed}
-use Rattle.walk_client.proofs.SettleCases.{settle-moves}
-use Rattle.walk_client.proofs.StepCases.{call-cases, unless-cached-cases, tick-cases, evicted-cases}
-use Rattle.walk_client.proofs.ClientFacts.{changes_file, push_in}
-use Rattle.walk_client.proofs.ClientMoves.{some-same, none-some, keeps-or-cancels}
+use Rattle.walk_steps.proofs.PartCases.{answers-call-cases, vacates-noticed-cases, reports-cases, if-broken-cases, caches-write-cases, caches-push-cases, vacates-if-clean-cases}
+use Rattle.walk_steps.proofs.SendCases.{send-cases, pushed}
+use Rattle.walk_steps.proofs.SettleCases.{settle-moves}
+use Rattle.walk_steps.proofs.StepCases.{call-cases, unless-cached-cases, tick-cases, evicted-cases}
+use Rattle.walk_steps.proofs.ClientFacts.{changes_file, push_in}
+use Rattle.walk_steps.proofs.ClientMoves.{some-same, none-some, keeps-or-cancels}
 use Rattle.walk_contents.proofs.ClientLookups.{IsBlock, clean-purged, found-purged, found-put, found-touched, revision-put, dirty-dropped}
 use Rattle.walk_contents.proofs.ClientParts.{Part, part_of, history_in, IsKnown, IsOverKnown, IsFair, Mid, notes-entry, clean-fewer, dirty-fewer, ticket-fewer, sends-more, CanSend, sends-ticket, delays-write, forgets, confirms, sets, caches}
 use Rattle.walk_contents.proofs.Facts.{Follows, follows, HadValue, value-follows, HadLength, SetsBlock, sets-follows, GrantTells}
@@ -30,9 +30,9 @@ use Rattle.nq_model.specs.Hear.{vacates_lease, vacates_noticed, loss_entry, all_
 use Rattle.nq_model.specs.Message.{Packet, call}
 use Rattle.nq_model.specs.Send.{sends_request, after_seq, after_number, takes_push, sends_write, gives_up, send_next}
 use Rattle.nq_model.specs.Settle.{answers, names_losses, said, reads_clean, touched, after_read, reads_cached, after_write, delays, marks_written, settle}
-use Rattle.walk_run.proofs.Members.{find-in, in-filtered}
-use Rattle.walk_run.proofs.Packets.{call-same}
-use Rattle.walk_server.proofs.Rows.{choice, same-number}
+use Rattle.walk_steps.proofs.Members.{find-in, in-filtered}
+use Rattle.walk_steps.proofs.Packets.{call-same}
+use Rattle.walk_steps.proofs.Rows.{choice, same-number}
 
 -- an entry that changes no file and delays no write
 pub record IsQuiet (e : Entry) : Type 0 where

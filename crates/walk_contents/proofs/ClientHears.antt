@@ -5,16 +5,16 @@ use Rattle.nq_base.specs.declared.Entry.{Entry}
 use Rattle.nq_base.specs.declared.Reply.{Reply}
 use Rattle.nq_base.specs.declared.Request.{Request}
 use Rattle.nq_base.specs.declared.Value.{Value}
-use Rattle.walk_client.proofs.RepliedCases.{replied-cases}
-use Rattle.walk_client.proofs.StepCases.{heard-cases}
-use Rattle.walk_client.proofs.ClientFacts.{Alone, changes_file, push_in}
+use Rattle.walk_steps.proofs.RepliedCases.{replied-cases}
+use Rattle.walk_steps.proofs.StepCases.{heard-cases}
+use Rattle.walk_steps.proofs.ClientFacts.{Alone, changes_file, push_in}
 use Rattle.walk_contents.proofs.ClientContents.{P, Spent, goes-mid, notice-mid, spends-mid, attached-mid, pauses-mid, answers-call-mid, refused-spent, optional-spent, read-mid, lease-mid, through-known, resized-known, stored-mid}
 use Rattle.walk_contents.proofs.ClientParts.{history_in, IsOverKnown}
 use Rattle.walk_contents.proofs.Facts.{Tells}
 use Rattle.nq_model.specs.Client.{Client, ClientStep, Ticket, begun, clean_at, dirty_at, revision_of, revision_or_zero}
 use Rattle.nq_model.specs.Hear.{inc_of, reply_counts, answer_of, caches_write, knows_revision, spends, replied, hear}
 use Rattle.nq_model.specs.Message.{Message, Packet, reply}
-use Rattle.walk_run.proofs.Packets.{Told}
+use Rattle.walk_steps.proofs.Packets.{Told}
 
 spent-clean : (c : Client) (file block : ℕ) → clean_at file block (spends (begun c)).client.clean ≡ clean_at file block c.clean
 unfolding spends

@@ -9,9 +9,9 @@ use Rattle.nq_base.specs.declared.Push.{Push}
 use Rattle.nq_base.specs.declared.Reply.{Reply}
 use Rattle.nq_base.specs.declared.Request.{Request}
 use Rattle.nq_base.specs.declared.Who.{Who}
-use Rattle.walk_client.proofs.ClientFacts.{changes_file, push_in}
+use Rattle.walk_steps.proofs.ClientFacts.{changes_file, push_in}
 use Rattle.nq_model.proofs.ClientLists.{other-revision-put}
-use Rattle.walk_client.proofs.ClientMoves.{some-same, none-some}
+use Rattle.walk_steps.proofs.ClientMoves.{some-same, none-some}
 use Rattle.walk_contents.proofs.ClientLookups.{IsBlock, this-or-other, found-dropped, clean-dropped, in-written, IsWritten, was_there, is_new, written-elsewhere, revision-after, revision-put}
 use Rattle.walk_contents.proofs.Facts.{History, Follows, follows, HadValue, value-follows, SetsBlock, Tells, tells-follows}
 use Rattle.walk_contents.proofs.Histories.{NoChanges, delayed-more}
@@ -20,9 +20,9 @@ use Rattle.nq_model.specs.Client.{Clean, ClientStep, Revision, Ticket, clean_at,
 use Rattle.nq_model.specs.Hear.{inc_of}
 use Rattle.nq_model.specs.Message.{Message, Packet, call, reply, sequence_of}
 use Rattle.nq_model.specs.Settle.{with_write}
-use Rattle.walk_run.proofs.Packets.{In, in-last, Told}
-use Rattle.walk_server.proofs.Incarnations.{one-who}
-use Rattle.walk_server.proofs.Rows.{same-number, number-same}
+use Rattle.walk_steps.proofs.Packets.{In, in-last, Told}
+use Rattle.walk_steps.proofs.Incarnations.{one-who}
+use Rattle.walk_steps.proofs.Rows.{same-number, number-same}
 use Rattle.nq_model.specs.Table.{same_who}
 
 -- what of a client's step speaks of contents

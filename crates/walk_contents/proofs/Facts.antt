@@ -15,7 +15,7 @@ use Rattle.nq_promises.specs.Contents.{changes_of, delayed_value, content_at, ch
 use Rattle.nq_promises.specs.Told.{HasValue, HasLength, GrantIsOf, IsChangeBy}
 use Rattle.nq_model.specs.Kept.{File, find_file}
 use Rattle.nq_model.specs.Message.{Packet, asker, sequence_of}
-use Rattle.walk_run.proofs.Packets.{Asked}
+use Rattle.walk_steps.proofs.Packets.{Asked}
 
 -- a journal, the first lengths of files, and the next id
 pub record History : Type 0 where

@@ -5,13 +5,13 @@ use Rattle.std.proofs.lemmas.Bool.Decides.{nat_tests}
 use Rattle.std.proofs.lemmas.List.{map-set, take-map, map-append}
 use Rattle.nq_base.specs.Block.{value_of, zeros, filled}
 use Rattle.nq_base.specs.declared.Entry.{Entry}
-use Rattle.walk_client.proofs.ClientMoves.{none-some}
+use Rattle.walk_steps.proofs.ClientMoves.{none-some}
 use Rattle.walk_contents.proofs.Facts.{History, follows, IsFile, FilesFit, UnusedFit}
 use Rattle.walk_contents.proofs.Histories.{NoChanges, count-same, count-changed, count-unchanged, content-changed}
 use Rattle.nq_promises.specs.Contents.{changes, changes_of, after_change, with_length, content_at}
 use Rattle.nq_model.specs.Kept.{File, find_file, replace_file, drop_file, new_file, written_file, resized_file}
-use Rattle.walk_server.proofs.KeptChanges.{found-replaced, find-not-removed, find-removed, found-added}
-use Rattle.walk_server.proofs.Tests.{is-other}
+use Rattle.walk_steps.proofs.KeptChanges.{found-replaced, find-not-removed, find-removed, found-added}
+use Rattle.walk_steps.proofs.Tests.{is-other}
 
 -- ---- entries that change no file
 

@@ -3,9 +3,9 @@ use Rattle.std.proofs.Common.{◌≡◌, ◌≤◌, ℕ, ◌+◌, ◌==◌, Bool
 use Rattle.std.proofs.lemmas.Bool.Decides.{nat_tests}
 use Rattle.nq_base.specs.declared.Entry.{Entry}
 use Rattle.nq_base.specs.declared.Who.{Who}
-use Rattle.walk_client.proofs.ClientMoves.{none-some}
+use Rattle.walk_steps.proofs.ClientMoves.{none-some}
 use Rattle.nq_promises.specs.Contents.{changes, changes_of, delayed_value, after_change, content_at, change_at}
-use Rattle.walk_server.proofs.Rows.{same-number}
+use Rattle.walk_steps.proofs.Rows.{same-number}
 
 -- ---- one more entry
 

@@ -14,7 +14,7 @@ use Rattle.nq_base.specs.declared.Row.{Row}
 use Rattle.nq_base.specs.declared.Verdict.{Verdict}
 use Rattle.nq_base.specs.declared.Want.{Want}
 use Rattle.nq_base.specs.declared.Who.{Who}
-use Rattle.walk_client.proofs.ClientMoves.{some-same, none-some}
+use Rattle.walk_steps.proofs.ClientMoves.{some-same, none-some}
 use Rattle.walk_contents.proofs.Facts.{History, Follows, follows, tells-follows, HadLength, GrantTells, Tells, IsDone, LineTells, line-follows, IsFile, FilesFit, UnusedFit}
 use Rattle.walk_contents.proofs.FileMoves.{ChangesOnly, files-idle, unused-idle, files-changed, unused-changed, files-removed, files-made, written-values, resized-values}
 use Rattle.walk_contents.proofs.Histories.{NoChanges, delayed-more}
@@ -29,13 +29,13 @@ use Rattle.nq_model.specs.Message.{Message, reply, Packet, Datagram, Reason, req
 use Rattle.nq_model.specs.Server.{Server, ServerStep, to_host, says, quiet, drops, notices, keeping, keeping_with, with_table, after_notices}
 use Rattle.nq_model.specs.ServerStep.{attaches, vacates, tells_later, serves, leases, grants, to_read, receive}
 use Rattle.nq_model.specs.Table.{Table}
-use Rattle.walk_run.proofs.Packets.{In, in-append, Asked, told-same, reply-same}
-use Rattle.walk_run.proofs.ServerSays.{verdict-inc, plain-inc, notices-no-reply}
-use Rattle.walk_server.proofs.Incarnations.{one-who}
-use Rattle.walk_server.proofs.KeptChanges.{find-new-added, line-as}
-use Rattle.walk_server.proofs.Rows.{number-same}
-use Rattle.walk_server.proofs.ServerCases.{server-hears}
-use Rattle.walk_server.proofs.ServerOutcomes.{error_for, IsFrom, IsDeclined, IsPlain, unattached, attached_again, not_yet, no_entry, entry, no_attributes, attributes, no_file, no_block, decided_again, is_old, error-no-reply, declined-not}
+use Rattle.walk_steps.proofs.Packets.{In, in-append, Asked, told-same, reply-same}
+use Rattle.walk_steps.proofs.ServerSays.{verdict-inc, plain-inc, notices-no-reply}
+use Rattle.walk_steps.proofs.Incarnations.{one-who}
+use Rattle.walk_steps.proofs.KeptChanges.{find-new-added, line-as}
+use Rattle.walk_steps.proofs.Rows.{number-same}
+use Rattle.walk_steps.proofs.ServerCases.{server-hears}
+use Rattle.walk_steps.proofs.ServerOutcomes.{error_for, IsFrom, IsDeclined, IsPlain, unattached, attached_again, not_yet, no_entry, entry, no_attributes, attributes, no_file, no_block, decided_again, is_old, error-no-reply, declined-not}
 
 -- ---- what a message says
 

@@ -9,7 +9,7 @@ use Rattle.nq_base.specs.declared.Reply.{Reply}
 use Rattle.nq_base.specs.declared.Request.{Request}
 use Rattle.nq_base.specs.declared.Verdict.{Verdict}
 use Rattle.nq_base.specs.declared.Who.{Who}
-use Rattle.walk_client.proofs.ClientMoves.{some-same, none-some}
+use Rattle.walk_steps.proofs.ClientMoves.{some-same, none-some}
 use Rattle.walk_contents.proofs.Facts.{History, Follows, HadValue, HadLength, SetsBlock, Tells, IsDone, LineTells, IsFile, FilesFit, UnusedFit}
 use Rattle.walk_contents.proofs.FileMoves.{ChangesOnly}
 use Rattle.walk_contents.proofs.Histories.{count-changed, content-stays, content-changed, change-changed}
@@ -19,8 +19,8 @@ use Rattle.nq_model.specs.Hear.{inc_of}
 use Rattle.nq_model.specs.Kept.{File, blocks_of, host_row}
 use Rattle.nq_model.specs.Message.{Packet, reply, asker}
 use Rattle.nq_model.specs.Server.{Server, ServerStep, to_host}
-use Rattle.walk_run.proofs.Packets.{In, Asked}
-use Rattle.walk_run.proofs.Worlds.{get-set-other}
+use Rattle.walk_steps.proofs.Packets.{In, Asked}
+use Rattle.walk_steps.proofs.Worlds.{get-set-other}
 
 -- ---- lists by place
 

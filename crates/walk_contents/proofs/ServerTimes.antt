@@ -15,12 +15,12 @@ use Rattle.nq_model.specs.Message.{Packet, reply}
 use Rattle.nq_model.specs.Server.{serving, Server, ServerStep, to_host, quiet, keeping_with, with_table}
 use Rattle.nq_model.specs.ServerStep.{at_time, opens, is_over, is_due, end_reading, fence, ends_writing, tick, booted, boot, crash}
 use Rattle.nq_model.specs.Table.{find_row, with_rows}
-use Rattle.walk_run.proofs.Packets.{In}
-use Rattle.walk_tables.proofs.ServerTables.{StandingFits, StandingFitsOf}
-use Rattle.walk_server.proofs.Rows.{number-same}
-use Rattle.walk_server.proofs.RowChanges.{found-kept, unique-filtered, found-any}
-use Rattle.walk_server.proofs.TableFits.{TableFits}
-use Rattle.walk_server.proofs.ServerCases.{found-file, server-ticks}
+use Rattle.walk_steps.proofs.Packets.{In}
+use Rattle.walk_steps.proofs.ServerTables.{StandingFits, StandingFitsOf}
+use Rattle.walk_steps.proofs.Rows.{number-same}
+use Rattle.walk_steps.proofs.RowChanges.{found-kept, unique-filtered, found-any}
+use Rattle.walk_steps.proofs.TableFits.{TableFits}
+use Rattle.walk_steps.proofs.ServerCases.{found-file, server-ticks}
 
 -- what is known before
 pub record Standing (journal : List Entry) (first : ℕ → ℕ) (ps : List Packet) (s : Server) : Type 0 where

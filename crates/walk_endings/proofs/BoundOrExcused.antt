@@ -12,7 +12,7 @@ use Rattle.nq_model.specs.Client.{Client, ClientStep, Lease, begun, lease_on, le
 use Rattle.nq_model.specs.Journal.{IsWithin, Each}
 use Rattle.nq_model.specs.Kept.{host_row}
 use Rattle.nq_model.specs.Server.{Server}
-use Rattle.walk_run.proofs.Packets.{In}
+use Rattle.walk_steps.proofs.Packets.{In}
 
 pub record ClientExcused (s : Server) (c : Client) (journal : List Entry) : Type 0 where
   -- the file of delayed writes is bound, or they are excused

@@ -8,10 +8,10 @@ use Rattle.nq_base.specs.declared.Mode.TheVariants.{Writing}
 use Rattle.nq_base.specs.declared.Row.{Row}
 use Rattle.nq_base.specs.declared.Tag.{Tag}
 use Rattle.nq_base.specs.declared.Who.{Who}
-use Rattle.walk_client.proofs.ClientMoves.{some-same}
+use Rattle.walk_steps.proofs.ClientMoves.{some-same}
 use Rattle.walk_endings.proofs.LateEndings.{late-end, late-opening}
-use Rattle.walk_leases.proofs.ServerChanges.{same-cover-table}
-use Rattle.walk_leases.proofs.ServerLives.{HasServed, booted-kept, booted-phase, between}
+use Rattle.walk_steps.proofs.ServerChanges.{same-cover-table}
+use Rattle.walk_steps.proofs.ServerLives.{HasServed, booted-kept, booted-phase, between}
 use Rattle.nq_model.specs.CutOff.{Ends, IsLateEnd, IsLateOpening}
 use Rattle.nq_model.specs.Journal.{Each}
 use Rattle.nq_model.specs.Kept.{host_row}
@@ -21,16 +21,16 @@ use Rattle.nq_model.specs.Server.{Phase, serving, recovering, Server, ServerStep
 use Rattle.nq_model.specs.ServerStep.{is_over, is_due, end_reading, at_time, opens, ends_writing, tick, crash, boot}
 use Rattle.nq_model.specs.Table.{Table, is_writing, find_row, with_rows}
 use Rattle.walk_endings.proofs.LogRuns.{Alone, LogRuns}
-use Rattle.walk_tables.proofs.LogMoves.{timed}
-use Rattle.walk_tables.proofs.LogRows.{WasGranted, IsHeardOf, RowsHear, RowsGranted}
-use Rattle.walk_tables.proofs.LogTimes.{HeardAll, IsHeard, ToldBoot}
-use Rattle.walk_tables.proofs.ServerNumbers.{Waits, PhaseWaits}
-use Rattle.walk_tables.proofs.ServerTables.{BootsFit, BootsFitOf, RecoversBoot, StandingFits, StandingFitsOf}
-use Rattle.walk_server.proofs.Modes.{writing-caches}
-use Rattle.walk_server.proofs.RowChanges.{HasUniqueKeys, kept_if, find-kept, found-any, unique-filtered, find-other-dropped}
-use Rattle.walk_server.proofs.Rows.{number-same, same-number, find-passes}
-use Rattle.walk_server.proofs.ServerCases.{server-ticks}
-use Rattle.walk_server.proofs.TableFits.{TableFits}
+use Rattle.walk_steps.proofs.LogMoves.{timed}
+use Rattle.walk_steps.proofs.LogRows.{WasGranted, IsHeardOf, RowsHear, RowsGranted}
+use Rattle.walk_steps.proofs.LogTimes.{HeardAll, IsHeard, ToldBoot}
+use Rattle.walk_steps.proofs.ServerNumbers.{Waits, PhaseWaits}
+use Rattle.walk_steps.proofs.ServerTables.{BootsFit, BootsFitOf, RecoversBoot, StandingFits, StandingFitsOf}
+use Rattle.walk_steps.proofs.Modes.{writing-caches}
+use Rattle.walk_steps.proofs.RowChanges.{HasUniqueKeys, kept_if, find-kept, found-any, unique-filtered, find-other-dropped}
+use Rattle.walk_steps.proofs.Rows.{number-same, same-number, find-passes}
+use Rattle.walk_steps.proofs.ServerCases.{server-ticks}
+use Rattle.walk_steps.proofs.TableFits.{TableFits}
 
 -- a file is bound at an incarnation that holds it with a tag
 abbrev pub IsBound : Server → Phase → Who → (file : ℕ) → Tag → Type 0

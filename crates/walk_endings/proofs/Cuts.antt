@@ -7,7 +7,7 @@ use Rattle.nq_model.proofs.Endings.{EndsIn, ends-first}
 use Rattle.nq_model.specs.CutOff.{Ends, IsCutOff, IsExcused}
 use Rattle.nq_model.specs.Hear.{loss_entry}
 use Rattle.nq_model.specs.Journal.{Each, Exists, AtEachPlace, IsWithin, Loses}
-use Rattle.walk_run.proofs.Packets.{In}
+use Rattle.walk_steps.proofs.Packets.{In}
 
 -- an entry is no delayed write, and no loss
 abbrev pub IsPlain : Entry → Type 0

@@ -7,8 +7,8 @@ use Rattle.nq_base.specs.declared.Row.{Row}
 use Rattle.nq_base.specs.declared.Tag.{Tag}
 use Rattle.walk_chains.proofs.ChainFacts.{ChainFits, GrantFits, GoesOnAs, line_for, done_at, rev_at}
 use Rattle.nq_promises.specs.Chained.{OwnRow, KnowsFile}
-use Rattle.walk_client.proofs.ClientMoves.{some-same}
-use Rattle.walk_leases.proofs.BoundBefore.{Stood}
+use Rattle.walk_steps.proofs.ClientMoves.{some-same}
+use Rattle.walk_steps.proofs.BoundBefore.{Stood}
 use Rattle.walk_endings.proofs.BoundRows.{IsBound, bound-fitting, fitting-bound}
 use Rattle.walk_endings.proofs.HoldingReplies.{TakesFit}
 use Rattle.walk_endings.proofs.Holdings.{IsHeldBound}
@@ -18,10 +18,10 @@ use Rattle.nq_model.specs.LeaseInterval.{claim_of, HasFitting}
 use Rattle.nq_model.specs.Message.{Packet}
 use Rattle.nq_model.specs.Server.{Server, standing}
 use Rattle.nq_model.specs.Table.{caches, is_writing, tag_below}
-use Rattle.walk_run.proofs.CoverFacts.{IsTakeable}
-use Rattle.walk_tables.proofs.ServerTables.{BootsFitOf, StandingFitsOf}
-use Rattle.walk_server.proofs.Modes.{writing-caches, at-least-writing}
-use Rattle.walk_server.proofs.Rows.{found-row}
+use Rattle.walk_steps.proofs.CoverFacts.{IsTakeable}
+use Rattle.walk_steps.proofs.ServerTables.{BootsFitOf, StandingFitsOf}
+use Rattle.walk_steps.proofs.Modes.{writing-caches, at-least-writing}
+use Rattle.walk_steps.proofs.Rows.{found-row}
 
 -- the order of tags
 later-not : (held since row : Tag) → tag_below held since ≡ true → tag_below row since ≡ false → tag_below held row ≡ false → ⊥

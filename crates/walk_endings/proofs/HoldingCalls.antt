@@ -7,9 +7,9 @@ use Rattle.nq_base.specs.declared.Grant.{Grant}
 use Rattle.nq_base.specs.declared.Push.{Push}
 use Rattle.nq_base.specs.declared.Refusal.{Refusal}
 use Rattle.nq_base.specs.declared.Reply.{Reply}
-use Rattle.walk_client.proofs.StepCases.{call-cases, unless-cached-cases, tick-cases, heard-cases}
-use Rattle.walk_client.proofs.ClientFacts.{push_in, fits_job}
-use Rattle.walk_client.proofs.ClientMoves.{some-same, none-some}
+use Rattle.walk_steps.proofs.StepCases.{call-cases, unless-cached-cases, tick-cases, heard-cases}
+use Rattle.walk_steps.proofs.ClientFacts.{push_in, fits_job}
+use Rattle.walk_steps.proofs.ClientMoves.{some-same, none-some}
 use Rattle.walk_endings.proofs.Cuts.{AreCut, cut-more}
 use Rattle.walk_endings.proofs.HoldingReplies.{TakesFit, reply-keeps, notice-keeps}
 use Rattle.walk_endings.proofs.HoldingSteps.{Between, named, settled, sent-next}
@@ -24,7 +24,7 @@ use Rattle.nq_model.specs.Message.{Message, reply}
 use Rattle.nq_model.specs.Server.{Server}
 use Rattle.nq_model.specs.Settle.{settle}
 use Rattle.nq_model.specs.Table.{is_writing}
-use Rattle.walk_run.proofs.Packets.{In}
+use Rattle.walk_steps.proofs.Packets.{In}
 
 module _ (s : Server) (journal : List Entry) where
   abbrev Mid : ClientStep → Type 0

@@ -9,11 +9,11 @@ use Rattle.nq_base.specs.declared.Reply.{Reply}
 use Rattle.nq_base.specs.declared.Tag.{Tag}
 use Rattle.nq_base.specs.declared.Value.{Value}
 use Rattle.nq_base.specs.declared.Who.{Who}
-use Rattle.walk_client.proofs.PartCases.{answers-call-cases, vacates-noticed-cases, reports-cases, if-broken-cases, takes-optional-cases, lease-done-cases, then-caches-cases, caches-write-cases, caches-push-cases, vacates-if-clean-cases}
-use Rattle.walk_client.proofs.RepliedCases.{RepliedCases, replied-cases}
-use Rattle.walk_client.proofs.StepCases.{evicted-cases}
-use Rattle.walk_client.proofs.ClientFacts.{push_in, fits_job}
-use Rattle.walk_client.proofs.ClientMoves.{none-some, keeps-or-cancels}
+use Rattle.walk_steps.proofs.PartCases.{answers-call-cases, vacates-noticed-cases, reports-cases, if-broken-cases, takes-optional-cases, lease-done-cases, then-caches-cases, caches-write-cases, caches-push-cases, vacates-if-clean-cases}
+use Rattle.walk_steps.proofs.RepliedCases.{RepliedCases, replied-cases}
+use Rattle.walk_steps.proofs.StepCases.{evicted-cases}
+use Rattle.walk_steps.proofs.ClientFacts.{push_in, fits_job}
+use Rattle.walk_steps.proofs.ClientMoves.{none-some, keeps-or-cancels}
 use Rattle.walk_endings.proofs.BoundRows.{IsBound}
 use Rattle.walk_endings.proofs.Cuts.{IsExcusedIn}
 use Rattle.walk_endings.proofs.HoldingSteps.{Between, answered, named}

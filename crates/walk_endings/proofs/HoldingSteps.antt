@@ -7,9 +7,9 @@ use Rattle.nq_base.specs.declared.Mode.{Mode}
 use Rattle.nq_base.specs.declared.Push.{Push}
 use Rattle.nq_base.specs.declared.Request.{Request}
 use Rattle.nq_base.specs.declared.Value.{Value}
-use Rattle.walk_client.proofs.SendCases.{SendCases, pushed, send-cases}
-use Rattle.walk_client.proofs.SettleCases.{SettleCases, settle-cases}
-use Rattle.walk_client.proofs.ClientMoves.{some-same, none-some}
+use Rattle.walk_steps.proofs.SendCases.{SendCases, pushed, send-cases}
+use Rattle.walk_steps.proofs.SettleCases.{SettleCases, settle-cases}
+use Rattle.walk_steps.proofs.ClientMoves.{some-same, none-some}
 use Rattle.walk_endings.proofs.Holdings.{view_of, Holding, uses, drops, fewer, notes}
 use Rattle.walk_endings.proofs.HoldingWrites.{writes}
 use Rattle.walk_endings.proofs.Waiting.{IsWaiting, none-waiting}
@@ -17,8 +17,8 @@ use Rattle.nq_model.specs.Client.{ClientStep, Job, for_call, Lease, UnderWay, is
 use Rattle.nq_model.specs.Message.{sequence_of}
 use Rattle.nq_model.specs.Send.{sends_request, after_seq, after_number, takes_push, sends_write, gives_up, read_want, want_of, send_next}
 use Rattle.nq_model.specs.Server.{Server}
-use Rattle.walk_run.proofs.Members.{in-filter, find-in}
-use Rattle.walk_run.proofs.Packets.{In}
+use Rattle.walk_steps.proofs.Members.{in-filter, find-in}
+use Rattle.walk_steps.proofs.Packets.{In}
 use Rattle.nq_model.specs.Settle.{answers, reads_cached, after_read, after_write, delays, marks_written, names_losses, settle}
 
 module _ (s : Server) (journal : List Entry) where

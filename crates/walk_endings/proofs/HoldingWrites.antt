@@ -7,20 +7,20 @@ use Rattle.nq_base.specs.declared.Entry.{Entry}
 use Rattle.nq_base.specs.declared.Push.{Push}
 use Rattle.nq_base.specs.declared.Who.{Who}
 use Rattle.nq_model.proofs.ClientLists.{marked-before}
-use Rattle.walk_client.proofs.ClientMoves.{some-same}
+use Rattle.walk_steps.proofs.ClientMoves.{some-same}
 use Rattle.walk_endings.proofs.Cuts.{IsOf, IsExcusedIn, excused-past, AreCut, NoneLoses, cut-loss}
 use Rattle.walk_endings.proofs.Holdings.{View, IsHeldBound, IsPastLoss, Holding, uses, held-used}
 use Rattle.walk_endings.proofs.Waiting.{IsWaiting, in-written, IsWritten, lost-waited, left-waiting}
-use Rattle.walk_entries.proofs.Losses.{fold-losses}
+use Rattle.walk_steps.proofs.Losses.{fold-losses}
 use Rattle.nq_model.specs.Client.{Lease, is_push_of, lease_on, marked_used, used_lease, dirty_at, other_dirty, lets_write}
 use Rattle.nq_model.specs.Hear.{push_of, other_push, loss_entry}
 use Rattle.nq_model.specs.Journal.{Loses, Each}
 use Rattle.nq_model.specs.Server.{Server}
 use Rattle.nq_model.specs.Settle.{with_write}
-use Rattle.walk_run.proofs.Packets.{In}
-use Rattle.walk_tables.proofs.LogMoves.{timed}
-use Rattle.walk_server.proofs.Rows.{same-number}
-use Rattle.walk_server.proofs.Tests.{is-other}
+use Rattle.walk_steps.proofs.Packets.{In}
+use Rattle.walk_steps.proofs.LogMoves.{timed}
+use Rattle.walk_steps.proofs.Rows.{same-number}
+use Rattle.walk_steps.proofs.Tests.{is-other}
 
 module _ (s : Server) (who : Who) (now : ℕ) (journal : List Entry) where
   -- the view after a write was delayed

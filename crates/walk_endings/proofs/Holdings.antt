@@ -6,9 +6,9 @@ use Rattle.nq_base.specs.declared.Grant.{Grant}
 use Rattle.nq_base.specs.declared.Push.{Push}
 use Rattle.nq_base.specs.declared.Verdict.{Verdict}
 use Rattle.nq_base.specs.declared.Who.{Who}
-use Rattle.walk_client.proofs.ClientFacts.{push_in}
+use Rattle.walk_steps.proofs.ClientFacts.{push_in}
 use Rattle.nq_model.proofs.ClientLists.{marked-before, marked-tag, marked-mode, marked-expiry, used-lease-found, lease-before-drop, other-lease-dropped, lease-after-put, put-lease-found, other-lease-put, marked-blocks}
-use Rattle.walk_client.proofs.ClientMoves.{none-some}
+use Rattle.walk_steps.proofs.ClientMoves.{none-some}
 use Rattle.walk_endings.proofs.BoundRows.{IsBound}
 use Rattle.walk_endings.proofs.Waiting.{IsWaiting}
 use Rattle.walk_endings.proofs.Cuts.{IsPlain, IsOf, plain-of, IsExcusedIn, excused-more, AreCut, cut-more}
@@ -19,10 +19,10 @@ use Rattle.nq_model.specs.Kept.{host_row}
 use Rattle.nq_model.specs.Message.{sequence_of}
 use Rattle.nq_model.specs.Server.{Server}
 use Rattle.nq_model.specs.Table.{is_writing}
-use Rattle.walk_run.proofs.Packets.{In}
-use Rattle.walk_server.proofs.Rows.{same-number}
-use Rattle.walk_tables.proofs.LogMoves.{is_timed, timed}
-use Rattle.walk_server.proofs.Tests.{is-other}
+use Rattle.walk_steps.proofs.Packets.{In}
+use Rattle.walk_steps.proofs.Rows.{same-number}
+use Rattle.walk_steps.proofs.LogMoves.{is_timed, timed}
+use Rattle.walk_steps.proofs.Tests.{is-other}
 
 -- what of a client's step its delayed writes rest on
 pub record View : Type 0 where

@@ -10,12 +10,12 @@ use Rattle.nq_model.specs.Message.{Datagram, asker, request, sequence_of}
 use Rattle.nq_model.specs.Profile.{most_hosts}
 use Rattle.nq_model.specs.Server.{Server, ServerStep, quiet, drops, says, after_notices, keeping, keeping_with, with_table}
 use Rattle.nq_model.specs.ServerStep.{attaches, vacates, tells_later, serves, leases, receive}
-use Rattle.walk_tables.proofs.ServerNumbers.{LinesFitOf}
-use Rattle.walk_server.proofs.KeptChanges.{other-line, own-line}
-use Rattle.walk_server.proofs.Rows.{same-number}
-use Rattle.walk_server.proofs.ServerCases.{server-hears}
-use Rattle.walk_server.proofs.ServerOutcomes.{ServerCases, IsFresh, IsFrom, IsDeclined, base_in, line_of}
-use Rattle.walk_server.proofs.Tests.{is-other}
+use Rattle.walk_steps.proofs.ServerNumbers.{LinesFitOf}
+use Rattle.walk_steps.proofs.KeptChanges.{other-line, own-line}
+use Rattle.walk_steps.proofs.Rows.{same-number}
+use Rattle.walk_steps.proofs.ServerCases.{server-hears}
+use Rattle.walk_steps.proofs.ServerOutcomes.{ServerCases, IsFresh, IsFrom, IsDeclined, base_in, line_of}
+use Rattle.walk_steps.proofs.Tests.{is-other}
 
 -- a fresh request of the host was decided
 pub record IsDecided (s : Server) (sender : ℕ) (d : Datagram) (host : ℕ) (after : HostRow) (x seq : ℕ) (w : Who) (r : Request) : Type 0 where

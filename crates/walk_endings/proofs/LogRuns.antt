@@ -14,17 +14,17 @@ use Rattle.nq_model.specs.Server.{Phase, serving, recovering, Server}
 use Rattle.nq_model.specs.ServerStep.{to_read, receive, fence, tick, booted, boot, crash}
 use Rattle.nq_model.specs.Table.{Table, caches, empty_table}
 use Rattle.nq_model.specs.World.{Head, start}
-use Rattle.walk_tables.proofs.LogFits.{crash-now}
-use Rattle.walk_tables.proofs.LogGrants.{granted-tag}
-use Rattle.walk_tables.proofs.LogMoves.{timed, LogMoves, log-moves, tick-log-moves}
-use Rattle.walk_tables.proofs.LogRows.{RowsGranted, granted-receive, granted-tick, granted-crash, RowsHear, hear-receive, hear-tick, hear-crash}
-use Rattle.walk_tables.proofs.LogTimes.{LogBy, by-receive, by-tick, by-crash, HeardAll, heard-receive, heard-tick, heard-crash, ToldBoot, told-receive, told-tick, told-crash}
-use Rattle.walk_tables.proofs.RowTimes.{term-bounds}
-use Rattle.walk_tables.proofs.ServerFacts.{IncsFitOf}
-use Rattle.walk_tables.proofs.ServerNumbers.{TermsFitOf, PhaseWaitsOf, waits-receive, waits-tick, waits-crash}
-use Rattle.walk_tables.proofs.ServerTables.{BootsFit, BootsFitOf, ServesBoot, RecoversBoot, StandingFitsOf, NoneRecoveringOf, none-of-boots}
-use Rattle.walk_server.proofs.AskCases.{IsGranted, shares_again, begins_sharing, begins_caching, renews_row}
-use Rattle.walk_server.proofs.ServerMoves.{receive-keeps, tick-keeps}
+use Rattle.walk_steps.proofs.LogFits.{crash-now}
+use Rattle.walk_steps.proofs.LogGrants.{granted-tag}
+use Rattle.walk_steps.proofs.LogMoves.{timed, LogMoves, log-moves, tick-log-moves}
+use Rattle.walk_steps.proofs.LogRows.{RowsGranted, granted-receive, granted-tick, granted-crash, RowsHear, hear-receive, hear-tick, hear-crash}
+use Rattle.walk_steps.proofs.LogTimes.{LogBy, by-receive, by-tick, by-crash, HeardAll, heard-receive, heard-tick, heard-crash, ToldBoot, told-receive, told-tick, told-crash}
+use Rattle.walk_steps.proofs.RowTimes.{term-bounds}
+use Rattle.walk_steps.proofs.ServerFacts.{IncsFitOf}
+use Rattle.walk_steps.proofs.ServerNumbers.{TermsFitOf, PhaseWaitsOf, waits-receive, waits-tick, waits-crash}
+use Rattle.walk_steps.proofs.ServerTables.{BootsFit, BootsFitOf, ServesBoot, RecoversBoot, StandingFitsOf, NoneRecoveringOf, none-of-boots}
+use Rattle.walk_steps.proofs.AskCases.{IsGranted, shares_again, begins_sharing, begins_caching, renews_row}
+use Rattle.walk_steps.proofs.ServerMoves.{receive-keeps, tick-keeps}
 
 -- a grant was of a boot that served; where it lets its holder cache and is of the boot that served last, it is for that
 -- boot's longest term at most

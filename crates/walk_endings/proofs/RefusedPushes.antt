@@ -9,8 +9,8 @@ use Rattle.nq_base.specs.declared.Verdict.{Verdict}
 use Rattle.nq_base.specs.declared.Who.{Who}
 use Rattle.walk_chains.proofs.ChainFacts.{ChainFits, IsPushed, line_for, done_at, rev_at}
 use Rattle.nq_promises.specs.Chained.{OwnRow, KnowsFile, has_done_write, due}
-use Rattle.walk_client.proofs.ClientFacts.{push_in}
-use Rattle.walk_client.proofs.ClientMoves.{some-same, none-some}
+use Rattle.walk_steps.proofs.ClientFacts.{push_in}
+use Rattle.walk_steps.proofs.ClientMoves.{some-same, none-some}
 use Rattle.walk_endings.proofs.FromChains.{bound-knows}
 use Rattle.walk_endings.proofs.BoundRows.{bound-boot}
 use Rattle.walk_endings.proofs.Holdings.{IsHeldBound}
@@ -20,10 +20,10 @@ use Rattle.nq_model.specs.Kept.{File, blocks_of, find_file, host_row}
 use Rattle.nq_model.specs.Message.{Packet}
 use Rattle.nq_model.specs.Server.{serving, Server, standing, standing_in}
 use Rattle.nq_model.specs.Table.{is_writing, find_row}
-use Rattle.walk_tables.proofs.ServerTables.{BootsFit, BootsFitOf, ServesBoot, StandingFitsOf}
-use Rattle.walk_server.proofs.Rows.{number-same}
-use Rattle.walk_server.proofs.ServerCases.{found-file}
-use Rattle.walk_server.proofs.ServerOutcomes.{IsDeclined, bad_length, name_taken, no_room, not_kept, outside, no_row, not_under, not_over, not_while_recovering, bad_size, no_room_to_grow, file_changed_by, base_in}
+use Rattle.walk_steps.proofs.ServerTables.{BootsFit, BootsFitOf, ServesBoot, StandingFitsOf}
+use Rattle.walk_steps.proofs.Rows.{number-same}
+use Rattle.walk_steps.proofs.ServerCases.{found-file}
+use Rattle.walk_steps.proofs.ServerOutcomes.{IsDeclined, bad_length, name_taken, no_room, not_kept, outside, no_row, not_under, not_over, not_while_recovering, bad_size, no_room_to_grow, file_changed_by, base_in}
 use Rattle.nq_model.proofs.Finding.{number-other}
 
 -- a request that pushes is a WRITE over a base

@@ -11,7 +11,7 @@ use Rattle.nq_base.specs.declared.Refusal.{Refusal}
 use Rattle.nq_base.specs.declared.Reply.{Reply}
 use Rattle.nq_base.specs.declared.Verdict.{Verdict}
 use Rattle.walk_chains.proofs.ChainFacts.{ChainFits}
-use Rattle.walk_client.proofs.ClientFacts.{push_in}
+use Rattle.walk_steps.proofs.ClientFacts.{push_in}
 use Rattle.walk_endings.proofs.FromChains.{takes-fit}
 use Rattle.walk_endings.proofs.RefusedPushes.{PushShape, push-shape}
 use Rattle.walk_endings.proofs.BoundRows.{IsBound, covered-bound}
@@ -25,13 +25,13 @@ use Rattle.nq_model.specs.LeaseInterval.{claim_of, IsCovered, cover_end, grant_i
 use Rattle.nq_model.specs.Message.{Packet, reply, sequence_of}
 use Rattle.nq_model.specs.Server.{Server}
 use Rattle.nq_model.specs.Table.{is_writing}
-use Rattle.walk_run.proofs.ClientSteps.{KnowsOf}
-use Rattle.walk_run.proofs.CoverFacts.{IsTakeable}
-use Rattle.walk_run.proofs.Packets.{Told}
-use Rattle.walk_run.proofs.Worlds.{IsAt}
-use Rattle.walk_tables.proofs.ServerTables.{BootsFitOf, StandingFitsOf}
-use Rattle.walk_server.proofs.Modes.{writing-caches}
-use Rattle.walk_server.proofs.Tests.{is-below}
+use Rattle.walk_steps.proofs.ClientSteps.{KnowsOf}
+use Rattle.walk_steps.proofs.CoverFacts.{IsTakeable}
+use Rattle.walk_steps.proofs.Packets.{Told}
+use Rattle.walk_steps.proofs.Worlds.{IsAt}
+use Rattle.walk_steps.proofs.ServerTables.{BootsFitOf, StandingFitsOf}
+use Rattle.walk_steps.proofs.Modes.{writing-caches}
+use Rattle.walk_steps.proofs.Tests.{is-below}
 
 is-writing : (mode : Mode) → is_writing mode ≡ true → mode ≡ Writing
 is-writing Writing e = refl

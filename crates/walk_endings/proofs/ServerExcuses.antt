@@ -10,12 +10,12 @@ use Rattle.nq_base.specs.declared.Tag.{Tag}
 use Rattle.nq_base.specs.declared.Verdict.{Verdict}
 use Rattle.nq_base.specs.declared.Who.{Who}
 use Rattle.walk_chains.proofs.ChainFacts.{ChainFits}
-use Rattle.walk_client.proofs.ClientFacts.{push_in, fits_job}
-use Rattle.walk_client.proofs.ClientMoves.{attached-with-ticket, some-same, none-some}
+use Rattle.walk_steps.proofs.ClientFacts.{push_in, fits_job}
+use Rattle.walk_steps.proofs.ClientMoves.{attached-with-ticket, some-same, none-some}
 use Rattle.walk_endings.proofs.BoundOrExcused.{ClientExcused, server-excused}
 use Rattle.walk_endings.proofs.FromChains.{stood-bound}
 use Rattle.walk_endings.proofs.RefusedPushes.{PushShape, push-shape, bound-stored}
-use Rattle.walk_leases.proofs.BoundBefore.{Stood, StandsWriting, stood-receive, stood-tick, only-stood}
+use Rattle.walk_steps.proofs.BoundBefore.{Stood, StandsWriting, stood-receive, stood-tick, only-stood}
 use Rattle.walk_endings.proofs.BoundRows.{IsBound, EndedBy, bound-fitting, tick-bound, crash-bound, crash-standing, crash-line}
 use Rattle.walk_endings.proofs.Cuts.{IsExcusedIn, excused-now}
 use Rattle.walk_endings.proofs.Holdings.{IsHeldBound, RefusedUnbound}
@@ -23,24 +23,24 @@ use Rattle.walk_endings.proofs.LinesAfter.{LineAfter, line_same, line_rises, lin
 use Rattle.walk_endings.proofs.LogRuns.{Alone as ServerAlone, LogRuns, none-recovering}
 use Rattle.walk_endings.proofs.ServerPlain.{receive-plain, tick-plain, crash-plain}
 use Rattle.walk_endings.proofs.Waiting.{IsWaiting}
-use Rattle.walk_leases.proofs.ServerLives.{HasServed}
+use Rattle.walk_steps.proofs.ServerLives.{HasServed}
 use Rattle.nq_model.specs.Client.{Client, attaching, Lease, Ticket, lease_on}
 use Rattle.nq_model.specs.Kept.{host_row}
 use Rattle.nq_model.specs.LeaseInterval.{claim_of, HasFitting}
 use Rattle.nq_model.specs.Message.{Packet, Datagram, request, asker, sequence_of}
 use Rattle.nq_model.specs.Server.{Server, standing}
 use Rattle.nq_model.specs.ServerStep.{receive, tick, crash}
-use Rattle.walk_leases.proofs.TickLines.{tick-line}
-use Rattle.walk_run.proofs.ClientSteps.{KnowsOf}
-use Rattle.walk_run.proofs.HostLine.{IsSettled}
-use Rattle.walk_run.proofs.Packets.{Asked}
-use Rattle.walk_run.proofs.ServerKnows.{Effect}
-use Rattle.walk_run.proofs.TagFacts.{IsDrawn}
-use Rattle.walk_run.proofs.Worlds.{IsAt}
-use Rattle.walk_tables.proofs.LogMoves.{timed}
-use Rattle.walk_tables.proofs.ServerNumbers.{LinesFitOf}
-use Rattle.walk_tables.proofs.ServerTables.{BootsFitOf, StandingFitsOf}
-use Rattle.walk_server.proofs.ServerOutcomes.{IsDeclined, base_in}
+use Rattle.walk_steps.proofs.TickLines.{tick-line}
+use Rattle.walk_steps.proofs.ClientSteps.{KnowsOf}
+use Rattle.walk_steps.proofs.HostLine.{IsSettled}
+use Rattle.walk_steps.proofs.Packets.{Asked}
+use Rattle.walk_steps.proofs.ServerKnows.{Effect}
+use Rattle.walk_steps.proofs.TagFacts.{IsDrawn}
+use Rattle.walk_steps.proofs.Worlds.{IsAt}
+use Rattle.walk_steps.proofs.LogMoves.{timed}
+use Rattle.walk_steps.proofs.ServerNumbers.{LinesFitOf}
+use Rattle.walk_steps.proofs.ServerTables.{BootsFitOf, StandingFitsOf}
+use Rattle.walk_steps.proofs.ServerOutcomes.{IsDeclined, base_in}
 
 -- a bound file's row stands writing
 bound-writing : (s : Server) (who : Who) (file : ℕ) (tag : Tag) → IsBound s s.phase who file tag → StandsWriting who file tag (standing s).rows

@@ -4,7 +4,7 @@ use Rattle.nq_model.specs.Message.{Datagram}
 use Rattle.nq_model.specs.Server.{Server}
 use Rattle.nq_model.specs.ServerStep.{receive, tick, crash}
 use Rattle.walk_endings.proofs.Cuts.{IsPlain, ArePlain}
-use Rattle.walk_entries.proofs.ServerEntries.{OfServer, receive-each, tick-each}
+use Rattle.walk_steps.proofs.ServerEntries.{OfServer, receive-each, tick-each}
 
 plain : OfServer IsPlain
 plain = record {

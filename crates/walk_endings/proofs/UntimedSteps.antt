@@ -6,9 +6,9 @@ use Rattle.nq_model.specs.Client.{Client, ClientStep, Ticket}
 use Rattle.nq_model.specs.ClientStep.{client_call, client_tick, restart}
 use Rattle.nq_model.specs.Hear.{hear}
 use Rattle.nq_model.specs.Message.{Message}
-use Rattle.walk_client.proofs.ClientFacts.{fits_job}
-use Rattle.walk_entries.proofs.ClientEntries.{AnyCall, AnyLength, OfClient, any-going, any-lent, call-keeps, tick-keeps, hear-keeps, restart-keeps}
-use Rattle.walk_tables.proofs.LogMoves.{timed}
+use Rattle.walk_steps.proofs.ClientFacts.{fits_job}
+use Rattle.walk_steps.proofs.ClientEntries.{AnyCall, AnyLength, OfClient, any-going, any-lent, call-keeps, tick-keeps, hear-keeps, restart-keeps}
+use Rattle.walk_steps.proofs.LogMoves.{timed}
 
 abbrev pub AreUntimed : List Entry → Type 0
 AreUntimed entries = timed entries ≡ []

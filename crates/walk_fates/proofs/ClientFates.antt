@@ -8,10 +8,10 @@ use Rattle.nq_base.specs.declared.Push.{Push}
 use Rattle.nq_base.specs.declared.PushBase.{PushBase}
 use Rattle.nq_base.specs.declared.Request.{Request}
 use Rattle.nq_base.specs.declared.Who.{Who}
-use Rattle.walk_client.proofs.SettleCases.{settle-moves}
-use Rattle.walk_client.proofs.SendCases.{send-cases, pushed}
-use Rattle.walk_client.proofs.ClientFacts.{push_in}
-use Rattle.walk_client.proofs.ClientMoves.{none-some}
+use Rattle.walk_steps.proofs.SettleCases.{settle-moves}
+use Rattle.walk_steps.proofs.SendCases.{send-cases, pushed}
+use Rattle.walk_steps.proofs.ClientFacts.{push_in}
+use Rattle.walk_steps.proofs.ClientMoves.{none-some}
 use Rattle.walk_fates.proofs.FactMoves.{facts-other, facts-numbers, facts-ticket, facts-sends, facts-delays, journal-delays, journal-quiet, quiet-other, no-push}
 use Rattle.walk_fates.proofs.FactPushes.{facts-pushes}
 use Rattle.walk_fates.proofs.PushLists.{first-in}
@@ -22,8 +22,8 @@ use Rattle.nq_model.specs.Message.{Message, Packet, call}
 use Rattle.nq_model.specs.Send.{sends_request, after_seq, after_number, base_of, takes_push, sends_write, gives_up, send_next}
 use Rattle.nq_model.specs.Settle.{answers, names_losses, reads_cached, after_read, after_write, delays, marks_written, settle}
 use Rattle.nq_model.specs.World.{from_host}
-use Rattle.walk_run.proofs.Mail.{packets_with, packets-last}
-use Rattle.walk_run.proofs.Packets.{In}
+use Rattle.walk_steps.proofs.Mail.{packets_with, packets-last}
+use Rattle.walk_steps.proofs.Packets.{In}
 
 -- an entry of a client's step is no write, or a write or loss of its own
 abbrev pub IsOwn : Who → Entry → Type 0

@@ -8,8 +8,8 @@ use Rattle.nq_base.specs.declared.Push.{Push}
 use Rattle.nq_base.specs.declared.PushBase.{PushBase}
 use Rattle.nq_base.specs.declared.Request.{Request}
 use Rattle.nq_base.specs.declared.Who.{Who}
-use Rattle.walk_client.proofs.ClientFacts.{push_in}
-use Rattle.walk_client.proofs.ClientMoves.{some-same, none-some}
+use Rattle.walk_steps.proofs.ClientFacts.{push_in}
+use Rattle.walk_steps.proofs.ClientMoves.{some-same, none-some}
 use Rattle.walk_fates.proofs.JournalMoves.{covers-before}
 use Rattle.walk_fates.proofs.PushLists.{InWritten, is_other, is_longer, is_new, in-written, written-in, written-there, apart-written}
 use Rattle.walk_fates.proofs.ServerTells.{IsQuiet, AllQuiet}
@@ -19,8 +19,8 @@ use Rattle.nq_model.specs.Journal.{Covers}
 use Rattle.nq_model.specs.Message.{Packet, call, sequence_of}
 use Rattle.nq_model.specs.Settle.{with_write, overwritten}
 use Rattle.nq_model.specs.World.{from_host}
-use Rattle.walk_run.proofs.Packets.{In, Asked}
-use Rattle.walk_run.proofs.TagFacts.{asked-before}
+use Rattle.walk_steps.proofs.Packets.{In, Asked}
+use Rattle.walk_steps.proofs.TagFacts.{asked-before}
 
 -- ---- entries of others
 

@@ -10,8 +10,8 @@ use Rattle.nq_base.specs.declared.Push.{Push}
 use Rattle.nq_base.specs.declared.PushBase.{PushBase}
 use Rattle.nq_base.specs.declared.Request.{Request}
 use Rattle.nq_base.specs.declared.Who.{Who}
-use Rattle.walk_client.proofs.ClientFacts.{push_in}
-use Rattle.walk_client.proofs.ClientMoves.{some-same, none-some}
+use Rattle.walk_steps.proofs.ClientFacts.{push_in}
+use Rattle.walk_steps.proofs.ClientMoves.{some-same, none-some}
 use Rattle.walk_fates.proofs.FactMoves.{behind-more, journal-more}
 use Rattle.walk_fates.proofs.JournalMoves.{store-covers}
 use Rattle.walk_fates.proofs.PushLists.{in-dropped, dropped-in, in-other, other-in, left-push, is-at, apart-filter}
@@ -20,9 +20,9 @@ use Rattle.nq_model.specs.Client.{Ticket, pushing, is_push_of, is_push_at, drop_
 use Rattle.nq_model.specs.Hear.{other_push, loss_entry}
 use Rattle.nq_model.specs.Message.{Packet, call, sequence_of}
 use Rattle.nq_model.specs.World.{from_host}
-use Rattle.walk_run.proofs.Packets.{In, Asked}
-use Rattle.walk_run.proofs.TagFacts.{asked-before}
-use Rattle.walk_server.proofs.Rows.{same-number}
+use Rattle.walk_steps.proofs.Packets.{In, Asked}
+use Rattle.walk_steps.proofs.TagFacts.{asked-before}
+use Rattle.walk_steps.proofs.Rows.{same-number}
 
 -- what is covered of a block is no later
 abbrev IsTop : List Entry → Who → (file block last : ℕ) → Type 0

@@ -9,8 +9,8 @@ use Rattle.nq_base.specs.declared.PushBase.{PushBase}
 use Rattle.nq_base.specs.declared.Request.{Request}
 use Rattle.nq_base.specs.declared.Verdict.{Verdict}
 use Rattle.nq_base.specs.declared.Who.{Who}
-use Rattle.walk_client.proofs.ClientFacts.{push_in}
-use Rattle.walk_client.proofs.ClientMoves.{some-same, none-some}
+use Rattle.walk_steps.proofs.ClientFacts.{push_in}
+use Rattle.walk_steps.proofs.ClientMoves.{some-same, none-some}
 use Rattle.walk_fates.proofs.FactMoves.{IsOfOther, quiet-other, behind-more, facts-others, facts-packets}
 use Rattle.walk_fates.proofs.JournalMoves.{covers-before}
 use Rattle.walk_fates.proofs.ServerTells.{DecidedAt, decided-at, AllQuiet, Effects, without, goes_through, pushes, Decides, Attaches, Moves, same_lines, attaches_one, decides_one}
@@ -20,11 +20,11 @@ use Rattle.nq_model.specs.Journal.{Covers}
 use Rattle.nq_model.specs.Kept.{host_row}
 use Rattle.nq_model.specs.Message.{Packet, asker, sequence_of}
 use Rattle.nq_model.specs.Server.{Server, ServerStep}
-use Rattle.walk_run.proofs.OpenAt.{IsOpenAt, OneOpenAt}
-use Rattle.walk_run.proofs.HostLine.{IsSettled}
-use Rattle.walk_run.proofs.Packets.{In, Asked, Mail}
-use Rattle.walk_server.proofs.Incarnations.{one-who}
-use Rattle.walk_server.proofs.Rows.{same-number, number-same}
+use Rattle.walk_steps.proofs.OpenAt.{IsOpenAt, OneOpenAt}
+use Rattle.walk_steps.proofs.HostLine.{IsSettled}
+use Rattle.walk_steps.proofs.Packets.{In, Asked, Mail}
+use Rattle.walk_steps.proofs.Incarnations.{one-who}
+use Rattle.walk_steps.proofs.Rows.{same-number, number-same}
 
 -- ---- one more entry, and another line
 

@@ -7,8 +7,8 @@ use Rattle.walk_fates.proofs.WritesFit.{CoversNumber, IsClear, IsApart, JournalF
 use Rattle.nq_model.proofs.Lists.{each-of, exists-right}
 use Rattle.nq_model.specs.Fate.{IsFirstToCover, IsAccountedAt, IsAccounted}
 use Rattle.nq_model.specs.Journal.{Exists, Covers, Throughout}
-use Rattle.walk_run.proofs.Members.{in-exists}
-use Rattle.walk_run.proofs.Packets.{In}
+use Rattle.walk_steps.proofs.Members.{in-exists}
+use Rattle.walk_steps.proofs.Packets.{In}
 
 -- the entry covers nothing
 abbrev pub IsNoCover : Entry → Type 0

@@ -3,14 +3,14 @@ use Rattle.std.proofs.Common.{◌≡◌, ◌⊎◌, ℕ, Bool, true, false, not,
 use Rattle.std.specs.List.{filter}
 use Rattle.std.proofs.lemmas.Bool.{and_parts, and_from, not-true}
 use Rattle.nq_base.specs.declared.Push.{Push}
-use Rattle.walk_client.proofs.ClientMoves.{some-same, none-some}
+use Rattle.walk_steps.proofs.ClientMoves.{some-same, none-some}
 use Rattle.walk_fates.proofs.WritesFit.{AreApart}
 use Rattle.nq_model.specs.Client.{is_push_of, is_push_at, first_dirty, dirty_at, drop_dirty, other_dirty}
 use Rattle.nq_model.specs.Hear.{other_push}
 use Rattle.nq_model.specs.Settle.{overwritten, overwritten_at, with_write}
-use Rattle.walk_run.proofs.Members.{in-filter, filter-in, in-map, map-in, find-in, find-absent}
-use Rattle.walk_run.proofs.Packets.{In, in-left, in-right, in-append}
-use Rattle.walk_server.proofs.Rows.{same-number, number-same, find-passes}
+use Rattle.walk_steps.proofs.Members.{in-filter, filter-in, in-map, map-in, find-in, find-absent}
+use Rattle.walk_steps.proofs.Packets.{In, in-left, in-right, in-append}
+use Rattle.walk_steps.proofs.Rows.{same-number, number-same, find-passes}
 
 -- ---- lists
 

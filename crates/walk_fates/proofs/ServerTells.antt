@@ -13,9 +13,9 @@ use Rattle.nq_base.specs.declared.Row.{Row}
 use Rattle.nq_base.specs.declared.Tag.{Tag}
 use Rattle.nq_base.specs.declared.Verdict.{Verdict}
 use Rattle.nq_base.specs.declared.Who.{Who}
-use Rattle.walk_client.proofs.ClientFacts.{push_in}
-use Rattle.walk_client.proofs.ClientMoves.{some-same, none-some}
-use Rattle.walk_run.proofs.Sequences.{reads-no-seq, asks-no-seq}
+use Rattle.walk_steps.proofs.ClientFacts.{push_in}
+use Rattle.walk_steps.proofs.ClientMoves.{some-same, none-some}
+use Rattle.walk_steps.proofs.Sequences.{reads-no-seq, asks-no-seq}
 use Rattle.nq_model.specs.Decide.{Decision, decides, creates, writes_through, stores, wrote, stores_recovering, resizes, removes, puts_off, verdict_reply, commits, row_after}
 use Rattle.nq_model.specs.Hear.{inc_of, is_put_off}
 use Rattle.nq_model.specs.Kept.{File, Kept, host_row, with_row, with_files, with_new_file}
@@ -24,12 +24,12 @@ use Rattle.nq_model.specs.Profile.{most_hosts}
 use Rattle.nq_model.specs.Server.{Server, ServerStep, to_host, quiet, drops, says, notices, after_notices, keeping, keeping_with, with_table}
 use Rattle.nq_model.specs.ServerStep.{attaches, vacates, tells_later, serves, leases, grants, receive}
 use Rattle.nq_model.specs.Table.{Table, with_rows}
-use Rattle.walk_run.proofs.Packets.{In, in-append, Asked, told-same, reply-same}
-use Rattle.walk_run.proofs.ServerSays.{verdict-inc, plain-inc, notices-no-reply}
-use Rattle.walk_tables.proofs.ServerNumbers.{LinesFitOf}
-use Rattle.walk_server.proofs.KeptChanges.{other-line, own-line, same-lines}
-use Rattle.walk_server.proofs.ServerCases.{server-hears}
-use Rattle.walk_server.proofs.ServerOutcomes.{error_for, base_in, line_of, IsFrom, IsFresh, IsPlain, unattached, attached_again, not_yet, no_entry, entry, no_attributes, attributes, no_file, no_block, decided_again, is_old, IsDeclined, declined-not}
+use Rattle.walk_steps.proofs.Packets.{In, in-append, Asked, told-same, reply-same}
+use Rattle.walk_steps.proofs.ServerSays.{verdict-inc, plain-inc, notices-no-reply}
+use Rattle.walk_steps.proofs.ServerNumbers.{LinesFitOf}
+use Rattle.walk_steps.proofs.KeptChanges.{other-line, own-line, same-lines}
+use Rattle.walk_steps.proofs.ServerCases.{server-hears}
+use Rattle.walk_steps.proofs.ServerOutcomes.{error_for, base_in, line_of, IsFrom, IsFresh, IsPlain, unattached, attached_again, not_yet, no_entry, entry, no_attributes, attributes, no_file, no_block, decided_again, is_old, IsDeclined, declined-not}
 
 -- ---- entries
 

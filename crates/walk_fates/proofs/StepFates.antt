@@ -13,11 +13,11 @@ use Rattle.nq_base.specs.declared.Request.{Request}
 use Rattle.nq_base.specs.declared.Value.{Value}
 use Rattle.nq_base.specs.declared.Verdict.{Verdict}
 use Rattle.nq_base.specs.declared.Who.{Who}
-use Rattle.walk_client.proofs.RepliedCases.{replied-cases}
-use Rattle.walk_client.proofs.StepCases.{call-cases, unless-cached-cases, tick-cases, evicted-cases, heard-cases}
-use Rattle.walk_client.proofs.ClientFacts.{push_in, fits_job}
-use Rattle.walk_client.proofs.ClientMoves.{some-same, none-some}
-use Rattle.walk_client.proofs.ClientWalk.{push-wants-none}
+use Rattle.walk_steps.proofs.RepliedCases.{replied-cases}
+use Rattle.walk_steps.proofs.StepCases.{call-cases, unless-cached-cases, tick-cases, evicted-cases, heard-cases}
+use Rattle.walk_steps.proofs.ClientFacts.{push_in, fits_job}
+use Rattle.walk_steps.proofs.ClientMoves.{some-same, none-some}
+use Rattle.walk_steps.proofs.ClientWalk.{push-wants-none}
 use Rattle.walk_fates.proofs.ClientFates.{Mid, mid-quiet, mid-names, mid-settles, mid-next, last-facts}
 use Rattle.walk_fates.proofs.FactMoves.{facts-packets, facts-ticket, no-push}
 use Rattle.walk_fates.proofs.FactPushes.{facts-stored, IsLosable}
@@ -32,9 +32,9 @@ use Rattle.nq_model.specs.Hear.{wants_of, cancelled, cancels, evicted, goes_on, 
 use Rattle.nq_model.specs.Message.{Message, Packet, call, reply, sequence_of}
 use Rattle.nq_model.specs.Settle.{settle}
 use Rattle.nq_model.specs.World.{from_host}
-use Rattle.walk_run.proofs.Sequences.{Seqs}
-use Rattle.walk_run.proofs.Mail.{packets_with}
-use Rattle.walk_run.proofs.Packets.{In, in-last, Asked}
+use Rattle.walk_steps.proofs.Sequences.{Seqs}
+use Rattle.walk_steps.proofs.Mail.{packets_with}
+use Rattle.walk_steps.proofs.Packets.{In, in-last, Asked}
 
 -- ---- what a reply tells
 

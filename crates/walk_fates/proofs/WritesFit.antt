@@ -9,11 +9,11 @@ use Rattle.nq_base.specs.declared.PushBase.{PushBase}
 use Rattle.nq_base.specs.declared.Request.{Request}
 use Rattle.nq_base.specs.declared.Verdict.{Verdict}
 use Rattle.nq_base.specs.declared.Who.{Who}
-use Rattle.walk_client.proofs.ClientFacts.{IsPush}
+use Rattle.walk_steps.proofs.ClientFacts.{IsPush}
 use Rattle.nq_model.specs.Client.{Client, Ticket}
 use Rattle.nq_model.specs.Journal.{Exists, Covers, Throughout}
 use Rattle.nq_model.specs.Message.{Packet, sequence_of}
-use Rattle.walk_run.proofs.Packets.{In, Asked}
+use Rattle.walk_steps.proofs.Packets.{In, Asked}
 
 -- ---- the journal
 

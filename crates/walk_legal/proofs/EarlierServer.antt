@@ -8,8 +8,8 @@ use Rattle.nq_base.specs.declared.Push.{Push}
 use Rattle.nq_base.specs.declared.PushBase.{PushBase}
 use Rattle.nq_base.specs.declared.Request.{Request}
 use Rattle.nq_base.specs.declared.Who.{Who}
-use Rattle.walk_client.proofs.ClientFacts.{push_in}
-use Rattle.walk_client.proofs.ClientMoves.{some-same}
+use Rattle.walk_steps.proofs.ClientFacts.{push_in}
+use Rattle.walk_steps.proofs.ClientMoves.{some-same}
 use Rattle.walk_fates.proofs.JournalMoves.{covers-more}
 use Rattle.walk_fates.proofs.ServerTells.{DecidedAt, decided-at, IsQuiet, AllQuiet, Effects, without, goes_through, pushes, Decides, Attaches, Moves, same_lines, attaches_one, decides_one}
 use Rattle.walk_fates.proofs.WritesFit.{IsClear, IsOpenPush, WritesFit}
@@ -19,10 +19,10 @@ use Rattle.nq_model.specs.Journal.{Stores, IsStored}
 use Rattle.nq_model.specs.Kept.{host_row}
 use Rattle.nq_model.specs.Message.{Packet, asker, sequence_of}
 use Rattle.nq_model.specs.Server.{Server, ServerStep}
-use Rattle.walk_run.proofs.OpenAt.{IsOpenAt, OneOpenAt}
-use Rattle.walk_run.proofs.HostLine.{IsSettled}
-use Rattle.walk_run.proofs.Packets.{In, Asked, Mail}
-use Rattle.walk_server.proofs.Rows.{same-number, number-same}
+use Rattle.walk_steps.proofs.OpenAt.{IsOpenAt, OneOpenAt}
+use Rattle.walk_steps.proofs.HostLine.{IsSettled}
+use Rattle.walk_steps.proofs.Packets.{In, Asked, Mail}
+use Rattle.walk_steps.proofs.Rows.{same-number, number-same}
 
 -- entries that store nothing of a write
 pub stored-old : (es j : List Entry) (w : Entry) → ((e : Entry) → In es e → Stores e w → ⊥) → IsStored (es ++ j) w → IsStored j w

@@ -7,8 +7,8 @@ use Rattle.nq_base.specs.declared.HostRow.{HostRow}
 use Rattle.nq_base.specs.declared.Push.{Push}
 use Rattle.nq_base.specs.declared.Request.{Request}
 use Rattle.nq_base.specs.declared.Who.{Who}
-use Rattle.walk_client.proofs.ClientFacts.{push_in}
-use Rattle.walk_client.proofs.ClientMoves.{none-some, some-same}
+use Rattle.walk_steps.proofs.ClientFacts.{push_in}
+use Rattle.walk_steps.proofs.ClientMoves.{none-some, some-same}
 use Rattle.walk_fates.proofs.JournalMoves.{store-covers, covers-more}
 use Rattle.walk_fates.proofs.WritesFit.{CoversNumber, IsClear, IsRising, IsBehind, PushStands, waits, stored, LiesWithin, in_list, under_way, IsOpenPush, WritesFit}
 use Rattle.walk_legal.proofs.Entries.{IsIdle, stored-skip, stored-covered, rising-split}
@@ -18,8 +18,8 @@ use Rattle.nq_model.specs.Client.{Client, ClientStep}
 use Rattle.nq_model.specs.Journal.{Throughout, Each}
 use Rattle.nq_model.specs.Message.{Message, Packet, call, asker}
 use Rattle.nq_model.specs.World.{from_host}
-use Rattle.walk_run.proofs.Mail.{sent-calls, sent-host}
-use Rattle.walk_run.proofs.Packets.{In, in-append, Asked}
+use Rattle.walk_steps.proofs.Mail.{sent-calls, sent-host}
+use Rattle.walk_steps.proofs.Packets.{In, in-append, Asked}
 use Rattle.walk_undisturbed.proofs.StillFits.{push-sequence}
 
 -- what was stored of the block are earlier writes

@@ -9,7 +9,7 @@ use Rattle.walk_legal.proofs.Stores.{Rests}
 use Rattle.nq_model.proofs.Lists.{each-append, each-map}
 use Rattle.nq_model.specs.Client.{ClientStep}
 use Rattle.nq_model.specs.Journal.{Throughout, Covers, Stores, IsStored, Each}
-use Rattle.walk_run.proofs.Packets.{In, in-right}
+use Rattle.walk_steps.proofs.Packets.{In, in-right}
 use Rattle.walk_undisturbed.proofs.Accesses.{Accesses, neither, read, wrote}
 use Rattle.walk_undisturbed.proofs.PlainParts.{IsPlain}
 

@@ -12,7 +12,7 @@ use Rattle.nq_model.proofs.Telling.{tells_and, tells_or, tells_same}
 use Rattle.nq_model.specs.Journal.{Throughout, Stores, IsStored, IsWriteOn, IsThrough, cuts, since_cut, IsLastValue}
 use Rattle.nq_model.specs.Synchronized.{held_value}
 use Rattle.nq_model.specs.Tests.{Tells}
-use Rattle.walk_run.proofs.Packets.{In}
+use Rattle.walk_steps.proofs.Packets.{In}
 use Rattle.nq_promises.specs.Undisturbed.{IsDelayedWrite, LeavesAlone, IsUndisturbed}
 
 -- a write of a block counts at the server: it is through, or an S covers it

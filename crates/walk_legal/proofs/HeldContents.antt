@@ -9,7 +9,7 @@ use Rattle.std.proofs.lemmas.Option.{slice_get_within}
 use Rattle.nq_base.specs.declared.Entry.{Entry}
 use Rattle.nq_base.specs.declared.Entry.TheVariants.{C, W, R, S, L, G, F, O, B, X, Z, A}
 use Rattle.nq_base.specs.declared.Who.{Who}
-use Rattle.walk_client.proofs.ClientMoves.{some-same, none-some}
+use Rattle.walk_steps.proofs.ClientMoves.{some-same, none-some}
 use Rattle.walk_contents.proofs.Histories.{count-changed, count-unchanged, content-stays, content-changed}
 use Rattle.nq_promises.specs.Contents.{changes, changes_of, delayed_value, after_change, with_length, content_at}
 use Rattle.walk_fates.proofs.WritesFit.{IsRising}
@@ -19,9 +19,9 @@ use Rattle.nq_model.proofs.JournalTests.{tells_who}
 use Rattle.nq_model.proofs.Telling.{tells_4, tells_same}
 use Rattle.nq_model.specs.Tests.{Tells}
 use Rattle.nq_model.specs.Journal.{Throughout, cuts, IsWriteOn, Stores}
-use Rattle.walk_run.proofs.Packets.{In}
-use Rattle.walk_run.proofs.Worlds.{get-set-same, get-set-other}
-use Rattle.walk_server.proofs.Rows.{number-same}
+use Rattle.walk_steps.proofs.Packets.{In}
+use Rattle.walk_steps.proofs.Worlds.{get-set-same, get-set-other}
+use Rattle.walk_steps.proofs.Rows.{number-same}
 use Rattle.nq_model.specs.Table.{same_who}
 
 -- ---- entries that change no file, or another

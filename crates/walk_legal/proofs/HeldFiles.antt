@@ -5,7 +5,7 @@ use Rattle.std.proofs.lemmas.List.{length-set}
 use Rattle.nq_base.specs.declared.Entry.{Entry}
 use Rattle.nq_base.specs.declared.Entry.TheVariants.{W, S, F, Z}
 use Rattle.nq_base.specs.declared.Who.{Who}
-use Rattle.walk_client.proofs.ClientMoves.{some-same, none-some}
+use Rattle.walk_steps.proofs.ClientMoves.{some-same, none-some}
 use Rattle.nq_promises.specs.Contents.{changes, delayed_value, after_change}
 use Rattle.walk_fates.proofs.WritesFit.{IsRising}
 use Rattle.walk_legal.proofs.Held.{held-through, held-store}
@@ -13,7 +13,7 @@ use Rattle.walk_legal.proofs.HeldContents.{HeldBlocks, IsInside, content, conten
 use Rattle.walk_legal.proofs.Stores.{StoreFits, Rests}
 use Rattle.nq_model.specs.Journal.{Throughout, IsWriteOn, Stores}
 use Rattle.nq_model.specs.Synchronized.{last_length}
-use Rattle.walk_server.proofs.Rows.{same-number}
+use Rattle.walk_steps.proofs.Rows.{same-number}
 
 -- what a journal rests on
 pub record RestsOn (first : ℕ → ℕ) (journal : List Entry) : Type 0 where

@@ -2,7 +2,7 @@
 use Rattle.std.proofs.Common.{◌≡◌, ◌⊎◌, ℕ, Bool, true, false, List, [], ◌∷◌, if◌then◌else◌, refl, sym, subst, inl, inr}
 use Rattle.nq_base.specs.declared.Entry.{Entry}
 use Rattle.nq_model.specs.Journal.{Exists, Throughout, cuts, since_cut, IsLastValue}
-use Rattle.walk_run.proofs.Packets.{In}
+use Rattle.walk_steps.proofs.Packets.{In}
 
 -- the entry stands in the journal, and this is what stands before it
 abbrev pub IsPlaced : (entry : Entry) (before : List Entry) → List Entry → Type 0

@@ -32,11 +32,11 @@ use Rattle.nq_model.specs.Server.{to_host}
 use Rattle.nq_model.specs.Settle.{cached_body}
 use Rattle.nq_model.specs.Stands.{IsStandingValue}
 use Rattle.nq_model.specs.World.{World, from_host}
-use Rattle.walk_run.proofs.Mail.{sent-calls}
-use Rattle.walk_run.proofs.Members.{in-exists, exists-in}
-use Rattle.walk_run.proofs.Packets.{In, in-append, in-left, Asked, in-right}
-use Rattle.walk_run.proofs.Worlds.{IsAt, Holds}
-use Rattle.walk_server.proofs.Incarnations.{one-who}
+use Rattle.walk_steps.proofs.Mail.{sent-calls}
+use Rattle.walk_steps.proofs.Members.{in-exists, exists-in}
+use Rattle.walk_steps.proofs.Packets.{In, in-append, in-left, Asked, in-right}
+use Rattle.walk_steps.proofs.Worlds.{IsAt, Holds}
+use Rattle.walk_steps.proofs.Incarnations.{one-who}
 use Rattle.walk_undisturbed.proofs.Accesses.{Accesses, neither, read, wrote, IsHeld, IsCalm}
 
 -- what an entry that is a read has

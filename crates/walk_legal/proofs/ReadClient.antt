@@ -25,10 +25,10 @@ use Rattle.nq_model.specs.OfTheirCall.{Reads}
 use Rattle.nq_model.specs.Server.{to_host}
 use Rattle.nq_model.specs.Stands.{IsStandingValue}
 use Rattle.nq_model.specs.World.{World, from_host, after_client}
-use Rattle.walk_run.proofs.RunCases.{clients-after}
-use Rattle.walk_run.proofs.Mail.{none-to-host}
-use Rattle.walk_run.proofs.Packets.{In, in-append, in-get, Asked, message-same}
-use Rattle.walk_run.proofs.Worlds.{Holds}
+use Rattle.walk_steps.proofs.RunCases.{clients-after}
+use Rattle.walk_steps.proofs.Mail.{none-to-host}
+use Rattle.walk_steps.proofs.Packets.{In, in-append, in-get, Asked, message-same}
+use Rattle.walk_steps.proofs.Worlds.{Holds}
 use Rattle.walk_undisturbed.proofs.Accesses.{Accesses, neither, read, wrote, IsCalm}
 use Rattle.walk_undisturbed.proofs.Marks.{plain-no-write}
 use Rattle.walk_undisturbed.proofs.PlainParts.{IsPlain}

@@ -26,9 +26,9 @@ use Rattle.nq_model.specs.Message.{Packet, reply}
 use Rattle.nq_model.specs.Server.{to_host}
 use Rattle.nq_model.specs.Stands.{Stands, IsStandingValue}
 use Rattle.nq_model.specs.World.{World}
-use Rattle.walk_run.proofs.Members.{in-exists}
-use Rattle.walk_run.proofs.Packets.{In, in-append, in-left, in-right, Asked}
-use Rattle.walk_run.proofs.Worlds.{IsSent, by_host, by_server}
+use Rattle.walk_steps.proofs.Members.{in-exists}
+use Rattle.walk_steps.proofs.Packets.{In, in-append, in-left, in-right, Asked}
+use Rattle.walk_steps.proofs.Worlds.{IsSent, by_host, by_server}
 
 -- the block that a reply in packet k tells was read for a request that was sent
 pub record IsServed (packets : List Packet) (journal : List Entry) (k host x inc : ℕ) (body : List ℕ) : Type 0 where

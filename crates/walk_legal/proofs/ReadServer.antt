@@ -12,7 +12,7 @@ use Rattle.nq_base.specs.declared.Want.{Want}
 use Rattle.nq_base.specs.declared.Who.{Who}
 use Rattle.walk_calls.proofs.ClientMoves.{IsBelow}
 use Rattle.walk_calls.proofs.CallWorlds.{CallsKnown}
-use Rattle.walk_client.proofs.ClientMoves.{none-some, some-same}
+use Rattle.walk_steps.proofs.ClientMoves.{none-some, some-same}
 use Rattle.walk_contents.proofs.ServerDelays.{Never}
 use Rattle.nq_promises.specs.Contents.{delayed_by}
 use Rattle.walk_fates.proofs.WritesFit.{IsRising}
@@ -37,10 +37,10 @@ use Rattle.nq_model.specs.Stands.{IsStandingValue}
 use Rattle.nq_model.specs.Table.{Table, same_who}
 use Rattle.nq_model.specs.Tests.{Tells}
 use Rattle.nq_model.specs.World.{World, after_server}
-use Rattle.walk_run.proofs.Sequences.{asked-before-server}
-use Rattle.walk_run.proofs.Members.{exists-in}
-use Rattle.walk_run.proofs.Packets.{In, in-append, in-left, in-get, Asked, told-same, reply-same}
-use Rattle.walk_run.proofs.ServerSays.{AllSaid}
+use Rattle.walk_steps.proofs.Sequences.{asked-before-server}
+use Rattle.walk_steps.proofs.Members.{exists-in}
+use Rattle.walk_steps.proofs.Packets.{In, in-append, in-left, in-get, Asked, told-same, reply-same}
+use Rattle.walk_steps.proofs.ServerSays.{AllSaid}
 
 -- ---- entries of the server
 

@@ -14,12 +14,12 @@ use Rattle.nq_base.specs.declared.Tag.{Tag}
 use Rattle.nq_base.specs.declared.Value.{Value}
 use Rattle.nq_base.specs.declared.Want.{Want}
 use Rattle.nq_base.specs.declared.Who.{Who}
-use Rattle.walk_client.proofs.RepliedCases.{replied-cases, OfCall, IsNamed, looked_up, created, attributes}
-use Rattle.walk_client.proofs.SendCases.{send-cases, IsFree}
-use Rattle.walk_client.proofs.SettleCases.{settle-moves, settle-cases, IsSettling, IsRead, Settled, ReadWaits, no_lease, no_block, settle-settles}
-use Rattle.walk_client.proofs.StepCases.{call-cases, unless-cached-cases, tick-cases, evicted-cases, heard-cases}
-use Rattle.walk_client.proofs.ClientFacts.{Alone, fits_job}
-use Rattle.walk_client.proofs.ClientMoves.{none-some, some-same}
+use Rattle.walk_steps.proofs.RepliedCases.{replied-cases, OfCall, IsNamed, looked_up, created, attributes}
+use Rattle.walk_steps.proofs.SendCases.{send-cases, IsFree}
+use Rattle.walk_steps.proofs.SettleCases.{settle-moves, settle-cases, IsSettling, IsRead, Settled, ReadWaits, no_lease, no_block, settle-settles}
+use Rattle.walk_steps.proofs.StepCases.{call-cases, unless-cached-cases, tick-cases, evicted-cases, heard-cases}
+use Rattle.walk_steps.proofs.ClientFacts.{Alone, fits_job}
+use Rattle.walk_steps.proofs.ClientMoves.{none-some, some-same}
 use Rattle.walk_legal.proofs.ReadParts.{IsDull, is_read, ReadsNothing, MadeFor, TicketOfCall, IsLike, MadeOf, made-refused, made-optional, made-call, made-refusing, made-knows, made-pauses, made-attached, made-spends, made-read, made-leased, made-written, made-pushed}
 use Rattle.nq_model.specs.Client.{Client, ClientStep, Job, for_call, renewing, pushing, Lease, Ticket, UnderWay, begun, lease_on, lets_read, first_dirty}
 use Rattle.nq_model.specs.ClientStep.{begins_call, is_called, says_busy, client_call, client_tick, at_time, sends_again}
@@ -28,7 +28,7 @@ use Rattle.nq_model.specs.Hear.{vacates_lease, notes_notice, evicted, cancels, c
 use Rattle.nq_model.specs.Message.{Message, call, reply}
 use Rattle.nq_model.specs.Send.{ending_file, sends_request, after_seq, after_number, takes_push, gives_up, send_next}
 use Rattle.nq_model.specs.Settle.{answers, names_losses, reads_cached, after_read, after_write, delays, marks_written, settle, said, cached_body, ticket_is_for_call, is_for_call}
-use Rattle.walk_run.proofs.Packets.{In, in-last, call-same}
+use Rattle.walk_steps.proofs.Packets.{In, in-last, call-same}
 
 -- the entry is a cached read, or the answer to one of these
 abbrev pub IsCachedIn : List Entry → Entry → Type 0

@@ -10,7 +10,7 @@ use Rattle.walk_legal.proofs.Places.{last-same, cut-in}
 use Rattle.walk_legal.proofs.Stores.{StoresNumber, stored-value}
 use Rattle.nq_model.specs.Journal.{Throughout, Covers, Stores, Loses, IsStored, IsLost, since_cut}
 use Rattle.nq_model.specs.Stands.{Stands, IsStandingValue}
-use Rattle.walk_run.proofs.Packets.{In}
+use Rattle.walk_steps.proofs.Packets.{In}
 use Rattle.nq_promises.specs.Undisturbed.{IsUndisturbed}
 
 -- what covers a write stores it or loses it

@@ -8,7 +8,7 @@ use Rattle.nq_base.specs.declared.PushBase.{PushBase}
 use Rattle.nq_base.specs.declared.Request.{Request}
 use Rattle.nq_base.specs.declared.Who.{Who}
 use Rattle.walk_chains.proofs.ChainFacts.{IsFenced, gone, ahead, earlier}
-use Rattle.walk_client.proofs.ClientMoves.{none-some, some-same}
+use Rattle.walk_steps.proofs.ClientMoves.{none-some, some-same}
 use Rattle.walk_legal.proofs.Entries.{IsIdle}
 use Rattle.nq_model.specs.Decide.{decides, creates, writes_through, stores, stores_recovering, wrote, resizes, removes, puts_off, commits}
 use Rattle.nq_model.specs.Journal.{Each}
@@ -16,9 +16,9 @@ use Rattle.nq_model.specs.Kept.{File, Kept, blocks_of, find_file, host_row}
 use Rattle.nq_model.specs.Message.{Packet, Datagram, request}
 use Rattle.nq_model.specs.Server.{serving, Server, ServerStep, quiet, drops, says}
 use Rattle.nq_model.specs.ServerStep.{attaches, vacates, tells_later, serves, leases, grants, receive, tick, opens, ends_writing, crash}
-use Rattle.walk_run.proofs.Packets.{Asked}
-use Rattle.walk_tables.proofs.ServerTables.{BootsFit, BootsFitOf}
-use Rattle.walk_server.proofs.ServerCases.{server-hears, server-ticks}
+use Rattle.walk_steps.proofs.Packets.{Asked}
+use Rattle.walk_steps.proofs.ServerTables.{BootsFit, BootsFitOf}
+use Rattle.walk_steps.proofs.ServerCases.{server-hears, server-ticks}
 
 -- delayed writes are stored: of a kept file's block, as an open push asks that is not fenced
 pub record MakesStore (ps : List Packet) (s : Server) (f : File) (who : Who) (block first last : ℕ) : Type 0 where

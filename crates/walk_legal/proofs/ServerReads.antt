@@ -18,9 +18,9 @@ use Rattle.nq_model.specs.Profile.{xid_end}
 use Rattle.nq_model.specs.Server.{Server, ServerStep, to_host, quiet, drops, says, notices}
 use Rattle.nq_model.specs.ServerStep.{attaches, vacates, tells_later, serves, leases, grants, receive, tick, opens, ends_writing, crash}
 use Rattle.nq_model.specs.Table.{Table}
-use Rattle.walk_run.proofs.Packets.{In, in-append, Asked, told-same, reply-same}
-use Rattle.walk_server.proofs.ServerCases.{server-hears, server-ticks}
-use Rattle.walk_server.proofs.ServerOutcomes.{error_for, IsPlain, unattached, attached_again, not_yet, no_entry, entry, no_attributes, attributes, no_file, no_block, decided_again, is_old, error-no-reply}
+use Rattle.walk_steps.proofs.Packets.{In, in-append, Asked, told-same, reply-same}
+use Rattle.walk_steps.proofs.ServerCases.{server-hears, server-ticks}
+use Rattle.walk_steps.proofs.ServerOutcomes.{error_for, IsPlain, unattached, attached_again, not_yet, no_entry, entry, no_attributes, attributes, no_file, no_block, decided_again, is_old, error-no-reply}
 
 -- an entry that is no read and no answer
 abbrev pub IsUnread : Entry → Type 0

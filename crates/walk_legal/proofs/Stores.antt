@@ -7,7 +7,7 @@ use Rattle.walk_fates.proofs.WritesFit.{CoversNumber, IsClear, IsRising}
 use Rattle.walk_legal.proofs.Places.{IsPlaced, before-in, before-exists, last-same, cut-in}
 use Rattle.nq_model.specs.Journal.{Throughout, Covers, Stores, Loses, IsStored, IsLost, IsWriteOn, since_cut}
 use Rattle.nq_model.specs.Stands.{Stands, IsStandingValue}
-use Rattle.walk_run.proofs.Packets.{In}
+use Rattle.walk_steps.proofs.Packets.{In}
 use Rattle.nq_promises.specs.Undisturbed.{LeavesAlone, IsUndisturbed}
 
 -- an S of the incarnation covers this number of the block

@@ -14,12 +14,12 @@ use Rattle.nq_base.specs.declared.Said.{Said}
 use Rattle.nq_base.specs.declared.Tag.{Tag}
 use Rattle.nq_base.specs.declared.Value.{Value}
 use Rattle.nq_base.specs.declared.Who.{Who}
-use Rattle.walk_client.proofs.SendCases.{send-cases}
-use Rattle.walk_client.proofs.SettleCases.{settle-moves, settle-cases, CanRead, CanWrite}
-use Rattle.walk_client.proofs.StepCases.{call-cases, unless-cached-cases, tick-cases, evicted-cases, heard-cases}
-use Rattle.walk_client.proofs.ClientFacts.{Alone, push_in}
+use Rattle.walk_steps.proofs.SendCases.{send-cases}
+use Rattle.walk_steps.proofs.SettleCases.{settle-moves, settle-cases, CanRead, CanWrite}
+use Rattle.walk_steps.proofs.StepCases.{call-cases, unless-cached-cases, tick-cases, evicted-cases, heard-cases}
+use Rattle.walk_steps.proofs.ClientFacts.{Alone, push_in}
 use Rattle.nq_model.proofs.ClientLists.{used-lease-found}
-use Rattle.walk_client.proofs.ClientMoves.{none-some, some-same}
+use Rattle.walk_steps.proofs.ClientMoves.{none-some, some-same}
 use Rattle.walk_fates.proofs.PushLists.{is-at}
 use Rattle.nq_model.specs.Client.{Client, ClientStep, Job, Lease, Ticket, UnderWay, begun, lease_on, used_lease, marked_used, lets_read, lets_write, dirty_at, first_dirty, is_push_of, drop_dirty, is_push_at, clean_at, is_clean_at, drop_clean, Clean}
 use Rattle.nq_model.specs.ClientStep.{begins_call, is_called, sends_unless_cached, client_call, client_tick, at_time, sends_again, restart, starts}
@@ -28,7 +28,7 @@ use Rattle.nq_model.specs.Journal.{Each}
 use Rattle.nq_model.specs.Message.{Message}
 use Rattle.nq_model.specs.Send.{sends_request, after_seq, after_number, takes_push, gives_up, send_next}
 use Rattle.nq_model.specs.Settle.{answers, cached_body, held_body, pushed_body, clean_body, touched, reads_clean, reads_cached, after_read, after_write, delays, marks_written, settle}
-use Rattle.walk_server.proofs.Rows.{find-passes, number-same, find-filter}
+use Rattle.walk_steps.proofs.Rows.{find-passes, number-same, find-filter}
 use Rattle.walk_undisturbed.proofs.PlainParts.{IsPlain, PlainOf, plain-evicted, plain-answered, plain-named, plain-begins, plain-busy, plain-called, plain-replied}
 
 -- ---- lists

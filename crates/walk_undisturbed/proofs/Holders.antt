@@ -13,9 +13,9 @@ use Rattle.nq_base.specs.declared.Tag.{Tag}
 use Rattle.nq_base.specs.declared.Who.{Who}
 use Rattle.walk_chains.proofs.ChainFacts.{ChainFits, PushesFit}
 use Rattle.nq_promises.specs.Chained.{IsChained}
-use Rattle.walk_client.proofs.ClientMoves.{some-same}
+use Rattle.walk_steps.proofs.ClientMoves.{some-same}
 use Rattle.walk_fates.proofs.WritesFit.{WritesFit, JournalFits}
-use Rattle.walk_leases.proofs.Runs.{Runs}
+use Rattle.walk_steps.proofs.Runs.{Runs}
 use Rattle.nq_model.proofs.Lists.{each-append, each-map}
 use Rattle.nq_model.specs.Client.{Client, ClientStep, Lease, lease_on, lets_read, lets_write}
 use Rattle.nq_model.specs.Journal.{Each}
@@ -26,10 +26,10 @@ use Rattle.nq_model.specs.Server.{Phase, serving, recovering, Server, standing, 
 use Rattle.nq_model.specs.Table.{is_writing, caches}
 use Rattle.nq_model.specs.World.{World}
 use Rattle.nq_promises.specs.OneRequestPerSequence.{OpensOne}
-use Rattle.walk_run.proofs.Worlds.{Holds}
-use Rattle.walk_server.proofs.Modes.{writing-caches, at-least-writing, at-least-caching}
-use Rattle.walk_server.proofs.Rows.{same-number, find-passes}
-use Rattle.walk_server.proofs.TableFits.{TableFits}
+use Rattle.walk_steps.proofs.Worlds.{Holds}
+use Rattle.walk_steps.proofs.Modes.{writing-caches, at-least-writing, at-least-caching}
+use Rattle.walk_steps.proofs.Rows.{same-number, find-passes}
+use Rattle.walk_steps.proofs.TableFits.{TableFits}
 use Rattle.walk_undisturbed.proofs.Accesses.{Accesses, neither, read, wrote}
 use Rattle.walk_undisturbed.proofs.PlainParts.{IsPlain}
 use Rattle.walk_undisturbed.proofs.ServerLeaves.{HasWriting, HasCaching, one-holder}

@@ -7,7 +7,7 @@ use Rattle.walk_fates.proofs.JournalMoves.{covers-more}
 use Rattle.walk_fates.proofs.WritesFit.{IsClear, IsRising}
 use Rattle.nq_model.specs.Client.{ClientStep}
 use Rattle.nq_model.specs.Journal.{Throughout, Each}
-use Rattle.walk_run.proofs.Packets.{In}
+use Rattle.walk_steps.proofs.Packets.{In}
 use Rattle.walk_undisturbed.proofs.Accesses.{Accesses, neither, read, wrote}
 use Rattle.walk_undisturbed.proofs.PlainParts.{IsPlain}
 use Rattle.nq_promises.specs.Undisturbed.{IsDelayedWrite, LeavesAlone, IsUndisturbed}

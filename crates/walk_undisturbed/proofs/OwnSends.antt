@@ -5,17 +5,17 @@ use Rattle.nq_base.specs.declared.Grant.{Grant}
 use Rattle.nq_base.specs.declared.Request.{Request}
 use Rattle.nq_base.specs.declared.Tag.{Tag}
 use Rattle.nq_base.specs.declared.Who.{Who}
-use Rattle.walk_client.proofs.StepCases.{heard-cases}
-use Rattle.walk_client.proofs.ClientCases.{Core, core_of, after_request, Closed}
-use Rattle.walk_client.proofs.ClientFacts.{Alone}
-use Rattle.walk_client.proofs.ClientMoves.{none-some, some-same}
-use Rattle.walk_client.proofs.ClientWalk.{reply-keeps, notice-keeps, call-keeps, tick-keeps}
+use Rattle.walk_steps.proofs.StepCases.{heard-cases}
+use Rattle.walk_steps.proofs.ClientCases.{Core, core_of, after_request, Closed}
+use Rattle.walk_steps.proofs.ClientFacts.{Alone}
+use Rattle.walk_steps.proofs.ClientMoves.{none-some, some-same}
+use Rattle.walk_steps.proofs.ClientWalk.{reply-keeps, notice-keeps, call-keeps, tick-keeps}
 use Rattle.nq_model.specs.Client.{Client, ClientStep, Job, Ticket, begun}
 use Rattle.nq_model.specs.ClientStep.{client_call, client_tick, at_time}
 use Rattle.nq_model.specs.Hear.{hear, cancelled, wants_of}
 use Rattle.nq_model.specs.Message.{Message, Packet, call, asker}
-use Rattle.walk_run.proofs.Packets.{In, in-last, Told, Mail}
-use Rattle.walk_run.proofs.Worlds.{given-by}
+use Rattle.walk_steps.proofs.Packets.{In, in-last, Told, Mail}
+use Rattle.walk_steps.proofs.Worlds.{given-by}
 
 -- a message asks something for an incarnation
 pub record IsBy (who : Who) (m : Message) : Type 0 where

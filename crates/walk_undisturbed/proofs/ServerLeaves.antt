@@ -10,7 +10,7 @@ use Rattle.nq_base.specs.declared.Request.{Request}
 use Rattle.nq_base.specs.declared.Row.{Row}
 use Rattle.nq_base.specs.declared.Want.{Want}
 use Rattle.nq_base.specs.declared.Who.{Who}
-use Rattle.walk_client.proofs.ClientMoves.{none-some, some-same}
+use Rattle.walk_steps.proofs.ClientMoves.{none-some, some-same}
 use Rattle.nq_model.specs.Ask.{conflicts, mode_conflicts}
 use Rattle.nq_model.specs.Decide.{Decision, decides, creates, writes_through, stores, stores_recovering, resizes, removes, puts_off, commits}
 use Rattle.nq_model.specs.Journal.{Each}
@@ -19,15 +19,15 @@ use Rattle.nq_model.specs.Message.{Datagram, request, asker, sequence_of}
 use Rattle.nq_model.specs.Server.{serving, Server, ServerStep, standing, standing_in, quiet, drops, says, keeping_with}
 use Rattle.nq_model.specs.ServerStep.{attaches, vacates, tells_later, serves, leases, access_of, grants, receive, tick, at_time, opens, ends_writing, end_reading, is_over, is_due, crash}
 use Rattle.nq_model.specs.Table.{Table, is_writing, caches, find_row, drop_row, with_rows}
-use Rattle.walk_tables.proofs.ServerFacts.{IncsFit, IncsFitOf}
-use Rattle.walk_tables.proofs.ServerTables.{StandingFits, StandingFitsOf}
-use Rattle.walk_server.proofs.Modes.{writing-caches}
-use Rattle.walk_server.proofs.Incarnations.{one-who}
-use Rattle.walk_server.proofs.RowChanges.{found-kept, found-any, find-row-dropped, no-clash, unique-filtered, HasUniqueKeys}
-use Rattle.walk_server.proofs.Rows.{same-number, number-same, find-passes, found-row}
-use Rattle.walk_server.proofs.ServerCases.{server-hears, server-ticks}
-use Rattle.walk_server.proofs.ServerOutcomes.{IsFresh, IsCurrent, IsAsking, IsChanging, clash_with, file_changed_by, base_in}
-use Rattle.walk_server.proofs.TableFits.{TableFits}
+use Rattle.walk_steps.proofs.ServerFacts.{IncsFit, IncsFitOf}
+use Rattle.walk_steps.proofs.ServerTables.{StandingFits, StandingFitsOf}
+use Rattle.walk_steps.proofs.Modes.{writing-caches}
+use Rattle.walk_steps.proofs.Incarnations.{one-who}
+use Rattle.walk_steps.proofs.RowChanges.{found-kept, found-any, find-row-dropped, no-clash, unique-filtered, HasUniqueKeys}
+use Rattle.walk_steps.proofs.Rows.{same-number, number-same, find-passes, found-row}
+use Rattle.walk_steps.proofs.ServerCases.{server-hears, server-ticks}
+use Rattle.walk_steps.proofs.ServerOutcomes.{IsFresh, IsCurrent, IsAsking, IsChanging, clash_with, file_changed_by, base_in}
+use Rattle.walk_steps.proofs.TableFits.{TableFits}
 use Rattle.nq_promises.specs.Undisturbed.{LeavesAlone}
 
 -- a writing row of an incarnation stands

@@ -12,7 +12,7 @@ use Rattle.nq_base.specs.declared.Row.{Row}
 use Rattle.nq_base.specs.declared.Who.{Who}
 use Rattle.walk_chains.proofs.ChainFacts.{IsFenced, gone, ahead, earlier, IsBoundOrFenced, bound, fenced, done_at, rev_at}
 use Rattle.nq_promises.specs.Chained.{IsChained, has_done, has_done_write, is_done, due}
-use Rattle.walk_client.proofs.ClientMoves.{some-same}
+use Rattle.walk_steps.proofs.ClientMoves.{some-same}
 use Rattle.walk_fates.proofs.WritesFit.{WritesFit, IsClear, IsBehind}
 use Rattle.nq_model.specs.Client.{Client, ClientStep, Lease, lease_on}
 use Rattle.nq_model.specs.Journal.{Each}
@@ -21,12 +21,12 @@ use Rattle.nq_model.specs.Message.{Message, Packet, call, asker}
 use Rattle.nq_model.specs.Server.{standing}
 use Rattle.nq_model.specs.World.{World, after_client, from_host}
 use Rattle.nq_promises.specs.OneRequestPerSequence.{IsOpenRequest, IsUnderWay}
-use Rattle.walk_run.proofs.RunCases.{OfClients, clients-after}
-use Rattle.walk_run.proofs.Mail.{other-asked}
-use Rattle.walk_run.proofs.Packets.{In, in-append, Asked, message-same, call-same}
-use Rattle.walk_run.proofs.Worlds.{set-there}
-use Rattle.walk_server.proofs.Incarnations.{one-who}
-use Rattle.walk_server.proofs.Rows.{same-number, number-same}
+use Rattle.walk_steps.proofs.RunCases.{OfClients, clients-after}
+use Rattle.walk_steps.proofs.Mail.{other-asked}
+use Rattle.walk_steps.proofs.Packets.{In, in-append, Asked, message-same, call-same}
+use Rattle.walk_steps.proofs.Worlds.{set-there}
+use Rattle.walk_steps.proofs.Incarnations.{one-who}
+use Rattle.walk_steps.proofs.Rows.{same-number, number-same}
 use Rattle.walk_undisturbed.proofs.Accesses.{Accesses}
 use Rattle.walk_undisturbed.proofs.Holders.{KnownOf, chained-writes, step-leaves}
 use Rattle.walk_undisturbed.proofs.Journals.{undisturbed-more}

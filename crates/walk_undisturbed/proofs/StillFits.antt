@@ -13,8 +13,8 @@ use Rattle.nq_base.specs.declared.Tag.{Tag}
 use Rattle.nq_base.specs.declared.Who.{Who}
 use Rattle.walk_chains.proofs.ChainFacts.{ChainFits, PushesFit, StandsWriting, InOrder, GrantFits, IsFenced, gone, ahead, earlier, IsBoundOrFenced, bound, fenced, done_at, rev_at}
 use Rattle.nq_promises.specs.Chained.{IsChained, KnowsFile, has_done, has_done_write, due}
-use Rattle.walk_client.proofs.ClientFacts.{push_in}
-use Rattle.walk_client.proofs.ClientMoves.{none-some, some-same}
+use Rattle.walk_steps.proofs.ClientFacts.{push_in}
+use Rattle.walk_steps.proofs.ClientMoves.{none-some, some-same}
 use Rattle.walk_fates.proofs.FactPushes.{dirty-clear}
 use Rattle.walk_fates.proofs.JournalMoves.{store-covers, covers-more}
 use Rattle.walk_fates.proofs.WritesFit.{WritesFit, CoversNumber, IsClear, IsRising, LiesWithin, in_list, under_way, PushStands, waits, stored}
@@ -26,10 +26,10 @@ use Rattle.nq_model.specs.LeaseInterval.{requested_file}
 use Rattle.nq_model.specs.Message.{Packet, sequence_of}
 use Rattle.nq_model.specs.Server.{Phase, serving, recovering, Server, standing, standing_in}
 use Rattle.nq_model.specs.Table.{is_writing, caches, tag_below}
-use Rattle.walk_run.proofs.CoverFacts.{IsTakeable}
-use Rattle.walk_run.proofs.Packets.{In, in-append, Asked}
-use Rattle.walk_tables.proofs.ServerTables.{BootsFit, BootsFitOf, StandingFitsOf}
-use Rattle.walk_server.proofs.Modes.{writing-caches}
+use Rattle.walk_steps.proofs.CoverFacts.{IsTakeable}
+use Rattle.walk_steps.proofs.Packets.{In, in-append, Asked}
+use Rattle.walk_steps.proofs.ServerTables.{BootsFit, BootsFitOf, StandingFitsOf}
+use Rattle.walk_steps.proofs.Modes.{writing-caches}
 use Rattle.walk_undisturbed.proofs.Accesses.{Accesses}
 use Rattle.walk_undisturbed.proofs.Journals.{undisturbed-more}
 use Rattle.walk_undisturbed.proofs.Marks.{since-later, fresh-write}

@@ -10,9 +10,9 @@ use Rattle.nq_base.specs.declared.Tag.{Tag}
 use Rattle.nq_base.specs.declared.Who.{Who}
 use Rattle.walk_chains.proofs.ChainFacts.{IsFenced}
 use Rattle.nq_promises.specs.Chained.{IsChained}
-use Rattle.walk_client.proofs.ClientFacts.{changes_file, fits_job, fits_attach, fits_renewal, push_in}
-use Rattle.walk_client.proofs.ClientMoves.{none-some, some-same}
-use Rattle.walk_leases.proofs.BoundBefore.{Stood, StandsWriting}
+use Rattle.walk_steps.proofs.ClientFacts.{changes_file, fits_job, fits_attach, fits_renewal, push_in}
+use Rattle.walk_steps.proofs.ClientMoves.{none-some, some-same}
+use Rattle.walk_steps.proofs.BoundBefore.{Stood, StandsWriting}
 use Rattle.walk_fates.proofs.ServerTells.{ServerTells, Moves, same_lines, attaches_one, decides_one}
 use Rattle.walk_fates.proofs.WritesFit.{IsClear}
 use Rattle.nq_model.specs.Client.{Client, Job, Lease, Ticket, lease_on, is_clean_in}
@@ -22,14 +22,14 @@ use Rattle.nq_model.specs.Message.{call, asker, sequence_of}
 use Rattle.nq_model.specs.Server.{ServerStep, standing}
 use Rattle.nq_model.specs.Table.{is_writing}
 use Rattle.nq_model.specs.World.{World, after_server, from_host}
-use Rattle.walk_run.proofs.Sequences.{asked-before-server}
+use Rattle.walk_steps.proofs.Sequences.{asked-before-server}
 use Rattle.nq_promises.specs.OneRequestPerSequence.{IsOpenRequest, IsUnderWay}
-use Rattle.walk_run.proofs.RunCases.{OfClients}
-use Rattle.walk_run.proofs.Packets.{Asked}
-use Rattle.walk_run.proofs.ServerSays.{AllSaid}
-use Rattle.walk_run.proofs.TagFacts.{IsDrawn}
-use Rattle.walk_server.proofs.Rows.{same-number, number-same}
-use Rattle.walk_server.proofs.ServerOutcomes.{file_changed_by, base_in}
+use Rattle.walk_steps.proofs.RunCases.{OfClients}
+use Rattle.walk_steps.proofs.Packets.{Asked}
+use Rattle.walk_steps.proofs.ServerSays.{AllSaid}
+use Rattle.walk_steps.proofs.TagFacts.{IsDrawn}
+use Rattle.walk_steps.proofs.Rows.{same-number, number-same}
+use Rattle.walk_steps.proofs.ServerOutcomes.{file_changed_by, base_in}
 use Rattle.walk_undisturbed.proofs.Holders.{KnownOf, chained-writes}
 use Rattle.walk_undisturbed.proofs.Journals.{undisturbed-more}
 use Rattle.walk_undisturbed.proofs.Marks.{clear-less}

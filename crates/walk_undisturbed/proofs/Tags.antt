@@ -12,14 +12,14 @@ use Rattle.nq_base.specs.declared.Reply.{Reply}
 use Rattle.nq_base.specs.declared.Request.{Request}
 use Rattle.nq_base.specs.declared.Tag.{Tag}
 use Rattle.nq_base.specs.declared.Value.{Value}
-use Rattle.walk_client.proofs.RepliedCases.{replied-cases}
-use Rattle.walk_client.proofs.SendCases.{send-moves}
-use Rattle.walk_client.proofs.SettleCases.{settle-cases}
-use Rattle.walk_client.proofs.PartCases.{answers-call-cases, vacates-noticed-cases, reports-cases, if-broken-cases, takes-optional-cases, lease-done-cases, then-caches-cases, caches-write-cases, caches-push-cases, vacates-if-clean-cases}
-use Rattle.walk_client.proofs.StepCases.{call-cases, unless-cached-cases, tick-cases, evicted-cases, heard-cases}
-use Rattle.walk_client.proofs.ClientFacts.{Alone, fits_job}
+use Rattle.walk_steps.proofs.RepliedCases.{replied-cases}
+use Rattle.walk_steps.proofs.SendCases.{send-moves}
+use Rattle.walk_steps.proofs.SettleCases.{settle-cases}
+use Rattle.walk_steps.proofs.PartCases.{answers-call-cases, vacates-noticed-cases, reports-cases, if-broken-cases, takes-optional-cases, lease-done-cases, then-caches-cases, caches-write-cases, caches-push-cases, vacates-if-clean-cases}
+use Rattle.walk_steps.proofs.StepCases.{call-cases, unless-cached-cases, tick-cases, evicted-cases, heard-cases}
+use Rattle.walk_steps.proofs.ClientFacts.{Alone, fits_job}
 use Rattle.nq_model.proofs.ClientLists.{marked-before, marked-tag, lease-before-drop, lease-after-put}
-use Rattle.walk_client.proofs.ClientMoves.{some-same}
+use Rattle.walk_steps.proofs.ClientMoves.{some-same}
 use Rattle.nq_model.specs.Client.{Client, ClientStep, Job, Lease, Ticket, begun, lease_on, used_lease, drop_lease, notice_on, is_push_of, is_clean, push_passes}
 use Rattle.nq_model.specs.ClientStep.{begins_call, is_called, says_busy, client_call, client_tick, at_time, sends_again}
 use Rattle.nq_model.specs.Hear.{vacates_lease, notes_notice, evicted, cancels, spends, inc_of, attached, pauses, marks_through, replied, reply_counts, hear, loses, all_dirty, push_of, loss_entry, reports, without_lease, push_refused, breaks_chain, breaks, holds, granted_lease, takes_grant, takes_optional, answers_call, caches_block, purges, knows_revision, ends_push, caches_push, vacates_noticed}
@@ -28,10 +28,10 @@ use Rattle.nq_model.specs.Message.{Message, reply}
 use Rattle.nq_model.specs.Send.{sends_request, after_seq, after_number, takes_push, gives_up, send_next}
 use Rattle.nq_model.specs.Settle.{answers, names_losses, after_read, after_write, reads_cached, delays, marks_written, settle}
 use Rattle.nq_model.specs.Table.{tag_below}
-use Rattle.walk_run.proofs.Members.{map-in, reverse-in, filter-in}
-use Rattle.walk_run.proofs.Packets.{In, in-left, in-right}
-use Rattle.walk_server.proofs.Rows.{same-number, number-same}
-use Rattle.walk_server.proofs.Tests.{is-other}
+use Rattle.walk_steps.proofs.Members.{map-in, reverse-in, filter-in}
+use Rattle.walk_steps.proofs.Packets.{In, in-left, in-right}
+use Rattle.walk_steps.proofs.Rows.{same-number, number-same}
+use Rattle.walk_steps.proofs.Tests.{is-other}
 
 -- a client has an entry of delayed writes, in its list or under way
 abbrev pub IsEntry : Client → Push → Type 0
