@@ -12,6 +12,7 @@ pub mod ClientNumbers
 pub mod FirstNumbers
 pub mod KeptNumbers
 pub mod KeptSteps
+pub mod LowValues
 pub mod NoneOut
 pub mod Saying
 pub mod SomeFile

@@ -31,7 +31,7 @@ use Rattle.walk_steps.proofs.Worlds.{run-holds}
 use Rattle.walk_steps.proofs.Rows.{number-same}
 use Rattle.law_rounds.proofs.Fair.{counts-same}
 use Rattle.law_rounds.proofs.Lines.{Lined, run-lined}
-use Rattle.law_rounds.proofs.LowValues.{stays-within}
+use Rattle.law_bounds.proofs.LowValues.{stays-within}
 use Rattle.law_rounds.proofs.Revisions.{revisions-up-to}
 use Rattle.law_rounds.proofs.ServerAnswers.{answers-it}
 

@@ -1,5 +1,4 @@
 pub mod Revisions
-pub mod LowValues
 pub mod Fair
 pub mod ServerAnswers
 pub mod LineSteps

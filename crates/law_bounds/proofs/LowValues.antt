@@ -23,7 +23,7 @@ use Rattle.nq_model.proofs.FreshFits.{found-has}
 use Rattle.nq_promises.specs.RepliesAreOwed.{goes_out, is_out_of_bounds}
 use Rattle.walk_steps.proofs.Rows.{choice}
 use Rattle.walk_steps.proofs.Tests.{is-not-at-most}
-use Rattle.law_rounds.proofs.Revisions.{UpTo}
+use Rattle.law_bounds.specs.Within.{RevisionsUpTo}
 
 -- ---- the value of a decision
 
@@ -35,7 +35,7 @@ either-low : (b : Bool) (x y : Decision) → IsLow x → IsLow y → IsLow (if b
 either-low true x y this that = this
 either-low false x y this that = that
 
-module _ (n : ℕ) (s : Server) (few : n ≤ most_events) (g : UpTo n s.kept.files) where
+module _ (n : ℕ) (s : Server) (few : n ≤ most_events) (g : RevisionsUpTo n s.kept.files) where
   declined : (verdict : Verdict) → IsLow (decides s verdict)
   unfolding decides
   declined verdict = record { low = omega arith }
@@ -157,7 +157,7 @@ stays-in true false true e = refl
 stays-in false above true e = refl
 stays-in now above false e = absurd (cc)
 
-module _ (n : ℕ) (s : Server) (few : n ≤ most_events) (g : UpTo n s.kept.files) (who : Who) (low : who.inc ≤ n + 1) (line : HostRow) where
+module _ (n : ℕ) (s : Server) (few : n ≤ most_events) (g : RevisionsUpTo n s.kept.files) (who : Who) (low : who.inc ≤ n + 1) (line : HostRow) where
   not-attach : (r : Request) (seq : ℕ) → seq ≤ most_sent → goes_out s who r line (Some seq) ≡ false
   not-attach r seq below =
       stays-in (who.inc == line.inc) (nat_lt line.seq seq) (can_be_kept (row_after who seq (decide s who r)))
