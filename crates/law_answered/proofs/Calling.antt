@@ -17,7 +17,7 @@ use Rattle.walk_steps.proofs.RepliedCases.{replied-cases}
 use Rattle.walk_steps.proofs.SendCases.{send-cases}
 use Rattle.walk_steps.proofs.SettleCases.{settle-cases}
 use Rattle.walk_steps.proofs.StepCases.{evicted-cases, heard-cases}
-use Rattle.law_calm.proofs.EffortReplies.{Goes, start, optional-goes, pushed-goes, refused-goes, read-goes, write-goes, known-goes, attached-goes, start-same}
+use Rattle.law_rounds.proofs.EffortReplies.{Goes, start, optional-goes, pushed-goes, refused-goes, read-goes, write-goes, known-goes, attached-goes, start-same}
 
 -- a call that is open now was open before
 abbrev pub StillOpen : (before after : Option UnderWay) → Type 0

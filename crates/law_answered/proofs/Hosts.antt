@@ -8,8 +8,8 @@ use Rattle.nq_model.specs.Hear.{hear}
 use Rattle.nq_model.specs.Lines.{Play, play, play_flow, flow_first, play_hosts, play_rounds}
 use Rattle.nq_model.specs.Message.{Message}
 use Rattle.nq_model.specs.World.{Head, World, after_client, after_server, at_client, step}
-use Rattle.law_progress.specs.CalmRoundsAreLawful.{IsLawful}
-use Rattle.law_progress.proofs.CalmIsLawful.{played-quiet, flows}
+use Rattle.law_rounds.specs.CalmRoundsAreLawful.{IsLawful}
+use Rattle.law_rounds.proofs.CalmIsLawful.{played-quiet, flows}
 use Rattle.walk_steps.proofs.ClientFacts.{Alone}
 use Rattle.walk_steps.proofs.ClientMoves.{some-same, none-some}
 use Rattle.walk_steps.proofs.Worlds.{Holds, get-set-same, get-set-other, run-holds}

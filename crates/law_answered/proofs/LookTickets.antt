@@ -18,8 +18,8 @@ use Rattle.walk_steps.proofs.SendCases.{send-cases}
 use Rattle.walk_steps.proofs.SettleCases.{settle-cases, settle-settles, Settled, IsWrite, IsSync, of_sync, of_put}
 use Rattle.walk_steps.proofs.StepCases.{tick-cases, evicted-cases, heard-cases}
 use Rattle.walk_steps.proofs.Tests.{is-at-most, is-not-at-most}
-use Rattle.law_calm.proofs.Busy.{asks-next}
-use Rattle.law_calm.proofs.Meant.{replied-free}
+use Rattle.law_rounds.proofs.Busy.{asks-next}
+use Rattle.law_rounds.proofs.Meant.{replied-free}
 use Rattle.law_answered.specs.LooksAreAnswered.{looks}
 use Rattle.law_answered.proofs.Calling.{StillOpen, Keeps, settles, sends, hear-keeps}
 

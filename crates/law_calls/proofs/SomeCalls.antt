@@ -9,7 +9,7 @@ use Rattle.nq_model.specs.World.{Head, run}
 use Rattle.nq_base.specs.declared.Call.{Call}
 use Rattle.nq_base.specs.declared.Entry.{Entry}
 use Rattle.nq_base.specs.declared.Event.{Event}
-use Rattle.law_calls.specs.Met.{AreMet, went_through, is_resize, is_cached, is_counted_served}
+use Rattle.law_calls.specs.CallsMet.{AreMet, went_through, is_resize, is_cached, is_counted_served}
 use Rattle.nq_model.proofs.SkewTest.{skew-test-is-sound}
 use Rattle.nq_model.specs.JournalTest.{exists}
 use Rattle.nq_model.specs.FateTest.{is_delayed}

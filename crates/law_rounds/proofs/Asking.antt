@@ -22,8 +22,8 @@ use Rattle.nq_promises.specs.Bounds.{KeepsBounds}
 use Rattle.nq_promises.specs.RepliesAreOwed.{has_reply, is_out_of_bounds, owes, CanBe}
 use Rattle.law_bounds.proofs.WorldNumbers.{drawn-up-to}
 use Rattle.law_bounds.proofs.LeaseIntervals.{run-runs}
-use Rattle.law_owed.proofs.Owing.{replies-are-owed}
-use Rattle.law_progress.proofs.Attaching.{attach-answered}
+use Rattle.law_rounds.proofs.Owing.{replies-are-owed}
+use Rattle.law_rounds.proofs.Attaching.{attach-answered}
 use Rattle.walk_steps.proofs.ClientFacts.{fits_job, Alone}
 use Rattle.walk_steps.proofs.ClientMoves.{some-same}
 use Rattle.walk_steps.proofs.Packets.{In}

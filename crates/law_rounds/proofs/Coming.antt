@@ -14,8 +14,8 @@ use Rattle.walk_steps.proofs.Members.{filter-in}
 use Rattle.walk_steps.proofs.Packets.{In, in-left, in-right}
 use Rattle.walk_steps.proofs.Steps.{step-changes}
 use Rattle.walk_steps.proofs.Rows.{same-number}
-use Rattle.law_progress.proofs.PacketsCome.{Comes, get-kept}
-use Rattle.law_progress.proofs.QuietFlows.{grown}
+use Rattle.law_rounds.proofs.PacketsCome.{Comes, get-kept}
+use Rattle.law_rounds.proofs.QuietFlows.{grown}
 
 -- ---- lists
 

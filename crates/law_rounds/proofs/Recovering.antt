@@ -22,11 +22,11 @@ use Rattle.nq_model.specs.Server.{Phase, recovering, Server, ServerStep, last_ta
 use Rattle.nq_model.specs.ServerStep.{receive, tick, attaches, tells_later, serves, leases, vacates}
 use Rattle.nq_model.specs.Table.{Table, is_writing, find_row}
 use Rattle.nq_model.specs.World.{Head, World, after_client, after_server, sending_host, step, run}
-use Rattle.law_chains.proofs.ChainWorlds.{chain-fits}
+use Rattle.law_files.proofs.ChainWorlds.{chain-fits}
 use Rattle.law_bounds.proofs.LeaseIntervals.{run-runs}
 use Rattle.law_bounds.proofs.WorldSequences.{run-draws}
-use Rattle.law_progress.specs.CalmRoundsAreLawful.{IsLawful}
-use Rattle.law_progress.proofs.Attaching.{hear-stays}
+use Rattle.law_rounds.specs.CalmRoundsAreLawful.{IsLawful}
+use Rattle.law_rounds.proofs.Attaching.{hear-stays}
 use Rattle.walk_steps.proofs.ClientFacts.{IsTicket}
 use Rattle.walk_steps.proofs.ClientMoves.{none-some}
 use Rattle.walk_steps.proofs.ClientSteps.{KnowsOf}

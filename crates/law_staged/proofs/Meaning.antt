@@ -7,7 +7,7 @@ use Rattle.nq_base.specs.declared.Party.{Party}
 use Rattle.nq_base.specs.declared.Request.{Request}
 use Rattle.nq_base.specs.declared.Who.{Who}
 use Rattle.nq_datagrams.specs.Messages.{bytes_of}
-use Rattle.law_filled.proofs.EachOf.{each-get}
+use Rattle.law_calls.proofs.EachOf.{each-get}
 use Rattle.law_staged.proofs.Datagrams.{IsPushOf, reads-push}
 use Rattle.law_staged.proofs.KnownClient.{Bodies, Asks, Says, More}
 use Rattle.law_staged.proofs.KnownRuns.{PacketKnown, Knowing, SameWho, later-knowing}

@@ -6,7 +6,7 @@ use Rattle.nq_base.specs.declared.Party.{Party}
 use Rattle.nq_base.specs.declared.Push.{Push}
 use Rattle.nq_base.specs.declared.Who.{Who}
 use Rattle.nq_datagrams.specs.Messages.{bytes_of}
-use Rattle.law_filled.proofs.EachOf.{each-at, each-get, each-filter, each-take}
+use Rattle.law_calls.proofs.EachOf.{each-at, each-get, each-filter, each-take}
 use Rattle.law_staged.proofs.Datagrams.{request-no-stage, commit-no-stage}
 use Rattle.law_staged.proofs.KnownClient.{Bodies, Carries}
 use Rattle.law_staged.proofs.Apart.{AreApart, there-at}

@@ -4,7 +4,7 @@ use Rattle.std.specs.Prelude.{slice_get}
 use Rattle.nq_base.specs.declared.Event.{Event}
 use Rattle.nq_base.specs.declared.Party.{Party}
 use Rattle.nq_datagrams.specs.Messages.{bytes_of}
-use Rattle.law_filled.proofs.EachOf.{each-get}
+use Rattle.law_calls.proofs.EachOf.{each-get}
 use Rattle.law_staged.proofs.Datagrams.{request-no-stage, request-no-commit, stage-no-commit, commit-no-stage, reads-commit}
 use Rattle.law_staged.proofs.KnownClient.{Bodies}
 use Rattle.law_staged.proofs.KnownRuns.{PacketKnown, Knowing}
