@@ -8,7 +8,6 @@ use Rattle.nq_promises.specs.Bounds.{BootsWithin}
 use Rattle.law_bounds.specs.IntervalsMet.{IsMet, IsMetInRecovery, holds_running, is_recovering}
 use Rattle.std.specs.Prelude.{slice_get, All}
 use Rattle.nq_model.proofs.SkewTest.{skew-test-is-sound}
-use Rattle.nq_model.specs.Hear.{holds}
 use Rattle.nq_model.specs.World.{Head, run}
 use Rattle.walk_steps.proofs.GivenRuns.{given-run}
 

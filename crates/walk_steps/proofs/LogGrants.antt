@@ -8,7 +8,7 @@ use Rattle.nq_model.specs.Ask.{sharing_row, caching_row, shared_again, renewed_r
 use Rattle.nq_model.specs.Journal.{Each}
 use Rattle.nq_model.specs.Kept.{File, Kept, with_files}
 use Rattle.nq_model.specs.Server.{Phase, Server, standing_in}
-use Rattle.nq_model.specs.ServerStep.{fence, boot}
+use Rattle.nq_model.specs.ServerStep.{fence}
 use Rattle.nq_model.specs.Table.{Table, next_tag}
 use Rattle.walk_steps.proofs.AskCases.{IsGranted, shares_again, begins_sharing, begins_caching, renews_row}
 

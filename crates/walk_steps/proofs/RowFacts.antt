@@ -1,6 +1,6 @@
 -- What follows of a row after a datagram: whether it came by the datagram, how it came to cache, and that a VACATED with its tag takes it. And whoever
 -- stands in the way of a request that is put off is told.
-use Rattle.std.proofs.Common.{◌≡◌, ◌<◌, ◌⊎◌, ℕ, ◌==◌, ◌+◌, ◌%◌, nat_lt, true, false, List, [], ◌∷◌, Some, None, refl, sym, subst, ap, ◌∙◌, arith, inl, inr}
+use Rattle.std.proofs.Common.{◌≡◌, ◌<◌, ◌⊎◌, ℕ, ◌==◌, ◌+◌, ◌%◌, nat_lt, true, false, List, [], ◌∷◌, Some, None, refl, sym, ap, ◌∙◌, arith, inl, inr}
 use Rattle.std.proofs.lemmas.Bool.Decides.{nat_tests}
 use Rattle.nq_base.specs.declared.Access.{Access}
 use Rattle.nq_base.specs.declared.Question.{Question}
@@ -15,8 +15,8 @@ use Rattle.nq_model.specs.Message.{Datagram, call, request}
 use Rattle.nq_model.specs.Profile.{most_hosts, xid_end}
 use Rattle.nq_model.specs.Server.{Server, to_host, notices, quiet, with_table}
 use Rattle.nq_model.specs.ServerStep.{to_read, receive, vacates, vacated_rows}
-use Rattle.nq_model.specs.Table.{Table, caches, greater_mode, next_tag, find_row, is_row_of, drop_row, with_rows}
-use Rattle.walk_steps.proofs.AskCases.{IsGranted, shares_again, begins_sharing, begins_caching, renews_row, clash_in, own_in, is_shared, with_marked}
+use Rattle.nq_model.specs.Table.{Table, caches, next_tag, find_row, is_row_of, drop_row, with_rows}
+use Rattle.walk_steps.proofs.AskCases.{IsGranted, shares_again, begins_sharing, begins_caching, renews_row, with_marked}
 use Rattle.walk_steps.proofs.RowChanges.{find-row-dropped}
 use Rattle.walk_steps.proofs.Rows.{number-same}
 use Rattle.walk_steps.proofs.ServerOutcomes.{line_of}
@@ -65,49 +65,6 @@ there-or-comes s sender d file host row (waits w clash c own is) =
 there-or-comes s sender d file host row (granted w term c g) =
     let k = granted-new s.table (to_read s w.who w.of (Some w.want)) w.want row term g in
     inr (record { wanted = w; tag = k.0; stays = k.1 })
-
--- how a row that lets its holder cache came to stand: it was there; or it begins, where no row of another conflicts with it and nobody else shares the
--- file; or its holder's own row is renewed, which cached before, where no row of another conflicts
-pub data CachesBy (s : Server) (sender : ℕ) (d : Datagram) (file host : ℕ) (row : Row) : Type 0 where
-  cached_before : (was : Row) → find_row file host s.table.rows ≡ Some was → GoesOn was row → CachesBy s sender d file host row
-  begins_now :
-      (w : IsWanted s sender d file host)
-      → clash_in s.table (to_read s w.who w.of (Some w.want)) ≡ None
-      → own_in s.table (to_read s w.who w.of (Some w.want)) ≡ None
-      → is_shared s.table (to_read s w.who w.of (Some w.want)) ≡ false
-      → row.who ≡ w.who
-      → row.mode ≡ w.want.mode
-      → row.evicting ≡ false
-      → CachesBy s sender d file host row
-  renewed_now :
-      (w : IsWanted s sender d file host) (own : Row)
-      → clash_in s.table (to_read s w.who w.of (Some w.want)) ≡ None
-      → find_row file host s.table.rows ≡ Some own
-      → own.evicting ≡ false
-      → caches own.mode ≡ true
-      → row.who ≡ own.who
-      → row.mode ≡ greater_mode own.mode w.want.mode
-      → row.evicting ≡ false
-      → CachesBy s sender d file host row
-
-pub caches-by : (s : Server) (sender : ℕ) (d : Datagram) (file host : ℕ) (row : Row) → RowIs s sender d file host row → caches row.mode ≡ true
-    → CachesBy s sender d file host row
-unfolding shared_again sharing_row caching_row renewed_row
-caches-by s sender d file host row (goes_on was there same) kind = cached_before was there same
-caches-by s sender d file host row (waits w clash c own is) kind =
-    let k = waiting-new s.table (to_read s w.who w.of (Some w.want)) (term_of (to_read s w.who w.of (Some w.want)) w.want) in
-    let other : caches row.mode ≡ false = ap (λ (r : Row). caches r.mode) is ∙ k.2 in
-    absurd (cc)
-caches-by s sender d file host row (granted w term c (shares_again own has quiet alone is t)) kind = let other : caches row.mode ≡ false =
-    ap (λ (r : Row). caches r.mode) is ∙ alone in absurd (cc)
-caches-by s sender d file host row (granted w term c (begins_sharing none room some is t)) kind = let other : caches row.mode ≡ false =
-    ap (λ (r : Row). caches r.mode) is in absurd (cc)
-caches-by s sender d file host row (granted w term c (begins_caching none room unshared is t)) kind =
-    begins_now w c none unshared (ap (λ (r : Row). r.who) is) (ap (λ (r : Row). r.mode) is) (ap (λ (r : Row). r.evicting) is)
-caches-by s sender d file host row (granted w term c (renews_row own has quiet caching is t)) kind =
-    let there : find_row file host s.table.rows ≡ Some own =
-    subst (λ f. find_row f host s.table.rows ≡ Some own) (sym w.at) (subst (λ h. find_row w.of.id h s.table.rows ≡ Some own) (sym w.from) has) in
-    renewed_now w own c there quiet caching (ap (λ (r : Row). r.who) is) (ap (λ (r : Row). r.mode) is) (ap (λ (r : Row). r.evicting) is ∙ quiet)
 
 -- ---- a VACATED
 

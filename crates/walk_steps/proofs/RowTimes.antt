@@ -1,21 +1,13 @@
 -- The times of the rows that stand: no row was heard later than now, and while the server serves none runs that is over.
 use Rattle.std.proofs.Common.{◌≡◌, ◌<◌, ◌≤◌, ◌⊎◌, ℕ, ◌+◌, ◌==◌, Bool, true, false, List, Some, sym, subst, arith, inl, inr, if◌then◌else◌}
 use Rattle.std.specs.Prelude.{Option}
-use Rattle.nq_base.specs.declared.Request.{Request}
 use Rattle.nq_base.specs.declared.Row.{Row}
-use Rattle.nq_base.specs.declared.Want.{Want}
 use Rattle.nq_model.specs.Kept.{Kept}
-use Rattle.nq_model.specs.Message.{Datagram, request}
 use Rattle.nq_model.specs.Profile.{shortest_term, granted_term}
 use Rattle.nq_model.specs.Server.{Phase, serving, recovering, Server, last_table}
 use Rattle.nq_model.specs.ServerStep.{boot}
 use Rattle.nq_model.specs.Table.{Table, caches, is_writing, is_row_of, find_row, put_row, empty_table}
 use Rattle.walk_steps.proofs.RowChanges.{found-put}
-use Rattle.walk_steps.proofs.ServerOutcomes.{wanted_by}
-
--- a datagram wants leases that let their holder cache alone
-abbrev pub WantsCaching : Datagram → Type 0
-WantsCaching d = (xid : ℕ) (r : Request) (want : Want) → d ≡ request xid r → wanted_by r ≡ Some want → caches want.mode ≡ true
 
 -- a row was heard by now; where it does not let its holder write it ends later than now; and where it does not let him cache
 -- it ends within the longest term

@@ -10,7 +10,6 @@ use Rattle.walk_steps.proofs.ServerTables.{BootsFitOf, StandingFitsOf, NoneRecov
 use Rattle.walk_steps.proofs.Unrowed.{IsUnrowed}
 use Rattle.nq_model.specs.Client.{Client}
 use Rattle.nq_model.specs.Server.{Server}
-use Rattle.nq_model.specs.ServerStep.{boot}
 use Rattle.nq_model.specs.World.{World}
 
 -- what holds of the server alone: some boot served, terms are no longer than this
