@@ -26,7 +26,25 @@ use Rattle.walk_steps.proofs.Worlds.{IsAt, given-by}
 use Rattle.walk_steps.proofs.Rows.{same-number, number-same}
 use Rattle.nq_model.proofs.ClientLists.{other-notice-dropped, other-notice-put, put-notice-found}
 use Rattle.law_answered.proofs.ClientHopes.{Leaves, gives_up as leaves_gives_up, notes as leaves_notes}
-use Rattle.law_answered.proofs.HearerAt.{later-of-two, later-of-old}
+
+-- ---- tags
+
+pub tag-one : (a b : Tag) → tag_below a b ≡ false → tag_below b a ≡ false → a ≡ b
+tag-one a b e f =
+    let boots : a.boot ≡ b.boot = grind (arith, nat_tests) in
+    let numbers : a.number ≡ b.number = grind (arith, nat_tests) in
+    ap (λ n. record { boot = n; number = a.number }) boots ∙ ap (λ n. record { boot = b.boot; number = n }) numbers
+
+-- the later of a row's tag and one that is no later is the row's
+pub later-of-two : (a b : Tag) → tag_below b a ≡ false → later_tag a b ≡ b
+later-of-two a b e = by (tag_below a b) refl
+  where
+    by : (t : Bool) → tag_below a b ≡ t → later_tag a b ≡ b
+    by true f = rw f refl
+    by false f = rw f (tag-one a b f e)
+
+pub later-of-old : (a b : Tag) → tag_below a b ≡ false → later_tag a b ≡ a
+later-of-old a b e = rw e refl
 
 -- ---- notices
 
