@@ -12,7 +12,7 @@ use nq_chart::draw;
 use nq_keeper::{Keeper, ListKeeper};
 use nq_play::Delivered;
 use nq_record::{Record, picture, tell, why};
-use nq_replay::begin;
+use nq_play::begin;
 use nq_script::{Script, parse};
 use nq_world::{NewFault, Stepped, World};
 use std::alloc::Global;
