@@ -1,5 +1,5 @@
 -- What a stop within the boot and the turns of a server that serves on leaves.
-use Rattle.std.proofs.Common.{◌≡◌, ◌⊎◌, ◌<◌, ℕ, zero, suc, [], Option, Some, None, Result, Ok, Err, inl, inr, refl, sym, subst}
+use Rattle.std.proofs.Common.{◌≡◌, ◌⊎◌, ◌<◌, ℕ, zero, suc, [], Option, None, Result, Ok, Err, inl, inr, refl, sym, subst}
 use Rattle.std.specs.Option.{ForSome}
 use Rattle.nq_base.specs.Entries.{EntryList}
 use Rattle.nq_boot.specs.Booting.{LeavesThen}
@@ -7,7 +7,6 @@ use Rattle.nq_daemon.specs.Leaving.{AreInOrder, IsLeftInGoes, IsLeftInTurns, IsL
 use Rattle.nq_daemon.specs.Turning.{Goes, Standing, borne, standing}
 use Rattle.nq_daemon.proofs.Telling.{goes_tells}
 use Rattle.nq_ending.specs.declared.Halt.{Halt}
-use Rattle.nq_hosts.specs.Leaving.{IsBeforeEnd, IsLeftByBoot}
 use Rattle.nq_hosts.specs.Serving.{Booted, NoBoot, halt_of}
 use Rattle.nq_hosts.proofs.Joining.{besides, by_boot, further, gone, join}
 use Rattle.nq_hosts.proofs.Runs.{none}

@@ -3,7 +3,7 @@ use Rattle.std.proofs.Common.{◌≡◌, ◌⊎◌, ◌<◌, ℕ, zero, suc, Opt
 use Rattle.std.specs.Option.{ForSome}
 use Rattle.nq_boot.specs.Booting.{LeavesThen}
 use Rattle.nq_ending.specs.declared.Halt.{Halt}
-use Rattle.nq_hosts.specs.Leaving.{AreInOrder, IsBeforeEnd, IsLeftByBoot, IsLeftGoing, IsLeftInGoes, IsLeftInTurns, IsLeftStopping, LeavesTaking, LeavesTurns, LeavesRunning, LeavesRuns, ended_of}
+use Rattle.nq_hosts.specs.Leaving.{AreInOrder, IsLeftGoing, IsLeftInGoes, IsLeftInTurns, IsLeftStopping, LeavesTaking, LeavesTurns, LeavesRunning, LeavesRuns, ended_of}
 use Rattle.nq_hosts.specs.Serving.{Between, Booted, Goes, GoesOn, NoBoot, between, halt_of}
 use Rattle.nq_model.specs.Kept.{Kept}
 use Rattle.nq_model.specs.ServerStep.{boot, booted}
