@@ -9,10 +9,13 @@ use Rattle.nq_names_run.specs.declared.NameEvent.{NameEvent}
 use Rattle.nq_names_run.specs.Outside.{found, outside_run}
 use Rattle.nq_names_run.specs.Theorem.{kept_as}
 use Rattle.nq_naming.proofs.Inside.{GoesOn, run-on}
-use Rattle.nq_naming.proofs.Keeping.{Ends, keeps-event, keeps-plain}
+use Rattle.nq_asides.proofs.Keeping.{Ends}
+use Rattle.nq_naming.proofs.Keeping.{keeps-event, keeps-plain}
 use Rattle.nq_naming.specs.Finding.{FindsAreTrue, IsTrueFind, find_line, lines_of}
-use Rattle.nq_naming.specs.Going.{Goes, IsAt, IsAtEnd, IsAtMoment}
-use Rattle.nq_naming.specs.Playing.{Moment, Played as Due, Sought, play_event, play_plain, refused, took, with_find, with_finds}
+use Rattle.nq_asides.specs.Going.{Goes}
+use Rattle.nq_naming.specs.Going.{IsAt, IsAtEnd, IsAtMoment}
+use Rattle.nq_asides.specs.Playing.{Played as Due, refused, took}
+use Rattle.nq_naming.specs.Playing.{Moment, Sought, play_event, play_plain, with_find, with_finds}
 use Rattle.nq_script.specs.declared.lines.Line.{Line}
 use Rattle.nq_world.specs.declared.stepped.Stepped.{Stepped}
 

@@ -3,8 +3,9 @@ use Rattle.std.proofs.Common.{◌≡◌, inl, inr, ℕ, List, Option, refl, sym,
 use Rattle.nq_base.specs.declared.SkewBroken.{SkewBroken}
 use Rattle.nq_ending.specs.declared.Ending.{Ending}
 use Rattle.nq_model.specs.Stepped.{Stepped as Answer, done, no_packet, out_of_skew, too_many_events, too_many_packets}
-use Rattle.nq_naming.specs.Going.{Comes, StoppedAt}
-use Rattle.nq_naming.specs.Playing.{Ended, Moment, play, ran, stopped}
+use Rattle.nq_asides.specs.Going.{Comes, StoppedAt}
+use Rattle.nq_asides.specs.Playing.{Ended, ran, stopped}
+use Rattle.nq_naming.specs.Playing.{Moment, play}
 use Rattle.nq_play.specs.declared.Played.{Played}
 use Rattle.nq_replay.specs.Ending.{IsUnlessFault}
 use Rattle.nq_naming.specs.Running.{EndsNamesPlayed, EndsNamesText, FaultyNames, PassesNames, RunsNames, StopsNames}
@@ -62,7 +63,7 @@ text_of_stop end head line too_many_events text held now w w' stops tells = text
 text_of_stop end head line too_many_packets text held now w w' stops tells = text_of_packets end line text held now w w' stops tells
 
 -- a schedule that was read
-text_of_due : (end : Ending) (head : Head) (lines : List NamesLine) (due : Ended) (text : List ℕ) (held now : Option (List ℕ)) (w w' : ℕ) → SpellsNames head lines text → play head lines ≡ due → EndsNamesPlayed end head due held now w w' → EndsNamesText end text held now w w'
+text_of_due : (end : Ending) (head : Head) (lines : List NamesLine) (due : Ended Moment) (text : List ℕ) (held now : Option (List ℕ)) (w w' : ℕ) → SpellsNames head lines text → play head lines ≡ due → EndsNamesPlayed end head due held now w w' → EndsNamesText end text held now w w'
 text_of_due end head lines (ran m) text held now w w' spelled is ends = text_of_run end head m text held now w w' (record { lines = lines; spelled = spelled; played = is }) ends
 text_of_due end head lines (stopped line answer) text held now w w' spelled is ends = text_of_stop end head line answer text held now w w' (record { head = head; lines = lines; spelled = spelled; stopped = is }) ends
 
@@ -99,7 +100,7 @@ done_unless other head m held now w w' (inl p) = absurd p.printed
 done_unless other head m held now w w' (inr none) = let e = none.0 in absurd (cc)
 
 -- the schedule that was read is the one that is spelled
-pub is_due : (head h : Head) (lines ls : List NamesLine) (due : Ended) → (head ≡ h) × (lines ≡ ls) → play h ls ≡ due → play head lines ≡ due
+pub is_due : (head h : Head) (lines ls : List NamesLine) (due : Ended Moment) → (head ≡ h) × (lines ≡ ls) → play h ls ≡ due → play head lines ≡ due
 is_due head h lines ls due same is = rw (same.0, same.1) is
 
 pub ends_script : (end : Ending) (head : Head) (lines : List NamesLine) (number : ℕ) (held now : Option (List ℕ)) (w w' : ℕ) → EndsNamesPlayed end head (play head lines) held now w w' → play head lines ≡ stopped number no_packet → IsUnlessFault end Ending.Script 0 0 w w'
@@ -138,12 +139,12 @@ passes_none text number Bound.Packets none passes = none passes.head passes.line
 -- ---- what was played
 
 -- where memory was wanting before anything was printed
-pub memory_before : (head : Head) (due : Ended) (held : Option (List ℕ)) (w : ℕ) → EndsNamesPlayed Ending.Memory head due held held w w
+pub memory_before : (head : Head) (due : Ended Moment) (held : Option (List ℕ)) (w : ℕ) → EndsNamesPlayed Ending.Memory head due held held w w
 memory_before head (ran m) held w = inr (refl, refl)
 memory_before head (stopped line answer) held w = refl
 
 -- where it stopped
-stop_memory : (end : Ending) (head : Head) (due : Ended) (held now : Option (List ℕ)) (w w' : ℕ) → (end ≡ Ending.Memory) × (now ≡ held) → EndsNamesPlayed end head due held now w w'
+stop_memory : (end : Ending) (head : Head) (due : Ended Moment) (held now : Option (List ℕ)) (w w' : ℕ) → (end ≡ Ending.Memory) × (now ≡ held) → EndsNamesPlayed end head due held now w w'
 stop_memory end head (ran m) held now w w' is = inr is
 stop_memory end head (stopped number answer) held now w w' is = rw is.0 is.1
 
@@ -155,12 +156,12 @@ silent-memory : (end : Ending) (line : ℕ) (held now : Option (List ℕ)) (w w'
 silent-memory Ending.Memory line held now w w' tells = (refl, tells)
 silent-memory other line held now w w' tells = absurd tells
 
-stop_at : (end : Ending) (head : Head) (line : ℕ) (said : Stepped) (due : Ended) (held now : Option (List ℕ)) (w w' : ℕ) → StoppedAt due line said → TellsStop end line said held now w w' → EndsNamesPlayed end head due held now w w'
+stop_at : (end : Ending) (head : Head) (line : ℕ) (said : Stepped) (due : Ended Moment) (held now : Option (List ℕ)) (w w' : ℕ) → StoppedAt due line said → TellsStop end line said held now w w' → EndsNamesPlayed end head due held now w w'
 stop_at end head line said (ran m) held now w w' is tells = absurd is
 stop_at end head line said (stopped number answer) held now w w' is tells =
     subst (λ s. TellsStop end number s held now w w') (sym is.1) (subst (λ n. TellsStop end n said held now w w') is.0 tells)
 
-pub stop_ends : (end : Ending) (head : Head) (line : ℕ) (said : Stepped) (due : Ended) (P : Moment → Type 0) (held now : Option (List ℕ)) (w w' : ℕ) → Comes (Played.Stopped line said) due P → TellsStop end line said held now w w' → EndsNamesPlayed end head due held now w w'
+pub stop_ends : (end : Ending) (head : Head) (line : ℕ) (said : Stepped) (due : Ended Moment) (P : Moment → Type 0) (held now : Option (List ℕ)) (w w' : ℕ) → Comes (Played.Stopped line said) due P → TellsStop end line said held now w w' → EndsNamesPlayed end head due held now w w'
 stop_ends end head line Stepped.Done due P held now w w' comes tells = absurd comes
 stop_ends end head line Stepped.NoPacket due P held now w w' comes tells = stop_at end head line Stepped.NoPacket due held now w w' comes tells
 stop_ends end head line (Stepped.SkewBroken broken) due P held now w w' comes tells = stop_at end head line (Stepped.SkewBroken broken) due held now w w' comes tells
@@ -169,6 +170,6 @@ stop_ends end head line Stepped.Fault due P held now w w' comes tells = stop_mem
 stop_ends end head line Stepped.Memory due P held now w w' comes tells = stop_memory end head due held now w w' (silent-memory end line held now w w' tells)
 
 -- where it was played to its end
-pub run_ends : (end : Ending) (head : Head) (due : Ended) (P : Moment → Type 0) (held now : Option (List ℕ)) (w w' : ℕ) → Comes Played.All due P → ((m : Moment) → P m → EndsNamesPlayed end head (ran m) held now w w') → EndsNamesPlayed end head due held now w w'
+pub run_ends : (end : Ending) (head : Head) (due : Ended Moment) (P : Moment → Type 0) (held now : Option (List ℕ)) (w w' : ℕ) → Comes Played.All due P → ((m : Moment) → P m → EndsNamesPlayed end head (ran m) held now w w') → EndsNamesPlayed end head due held now w w'
 run_ends end head (ran m) P held now w w' comes prints = prints m comes
 run_ends end head (stopped number answer) P held now w w' comes prints = absurd comes
