@@ -1,7 +1,7 @@
 -- One thing after another.
-use Rattle.std.proofs.Common.{◌≡◌, ℕ, ◌+◌, ◌-◌, ◌<◌, ◌≤◌, List, [], ◌∷◌, drop, length, slice_get, Option, Some, None, zero, suc, refl, sym, ap, subst, ◌∙◌, arith}
+use Rattle.std.proofs.Common.{◌≡◌, ℕ, ◌+◌, ◌-◌, ◌<◌, ◌≤◌, List, [], ◌∷◌, drop, length, slice_get, Some, zero, suc, refl, sym, subst, arith}
 use Rattle.nq_asides.specs.Going.{Comes, Goes, RanTo, StoppedAt, WasRefused, WentTo}
-use Rattle.nq_asides.specs.Playing.{Ended, Played as Due, and_then, at_line, play_each, ran, refused, repeated, stopped, took}
+use Rattle.nq_asides.specs.Playing.{Ended, Played as Due, and_then, at_line, play_each, ran, refused, repeated, took}
 use Rattle.nq_play.specs.declared.Played.{Played}
 use Rattle.nq_world.specs.declared.Stepped.{Stepped}
 

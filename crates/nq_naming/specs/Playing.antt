@@ -1,9 +1,9 @@
 -- How the lines of a schedule with lists are played, event by event. The events of a run are told with the newest first.
-use Rattle.std.specs.Prelude.{ℕ, ◌+◌, List, [], ◌∷◌, length, Option, Some, None, zero, suc}
+use Rattle.std.specs.Prelude.{ℕ, ◌+◌, List, [], ◌∷◌, length, Option, zero, suc}
 use Rattle.nq_asides.specs.Playing.{Ended, Played, and_then, answered, play_each, refused, repeated, took, with_packet}
 use Rattle.nq_asides.specs.Text.{beside, plain}
 use Rattle.nq_base.specs.declared.Event.{Event}
-use Rattle.nq_model.specs.Stepped.{Stepped, done, too_many_events, most_events}
+use Rattle.nq_model.specs.Stepped.{too_many_events, most_events}
 use Rattle.nq_model.specs.World.{Head as Beginning}
 use Rattle.nq_name_script.specs.Text.{NamesLine}
 use Rattle.nq_name_script.specs.declared.Aside.{Aside}

@@ -1,15 +1,12 @@
 -- What is left to be played, one further.
-use Rattle.std.proofs.Common.{◌≡◌, ℕ, ◌+◌, ◌-◌, ◌<◌, ◌≤◌, List, [], ◌∷◌, drop, length, slice_get, Option, Some, None, zero, suc, refl, sym, ap, subst, ◌∙◌, arith}
+use Rattle.std.proofs.Common.{◌≡◌, ℕ, ◌+◌, ◌-◌, ◌<◌, List, Option, Some, None, suc, sym, ap, ◌∙◌, arith}
 use Rattle.nq_base.specs.declared.Event.{Event}
 use Rattle.nq_staged_run.specs.declared.StagedEvent.{StagedEvent}
 use Rattle.nq_model.specs.World.{Head}
 use Rattle.nq_asides.proofs.Onward.{then-took}
-use Rattle.nq_asides.specs.Playing.{Played as Due, and_then, at_line, ran, refused, repeated, took, with_packet}
-use Rattle.nq_staged.specs.Playing.{next_packet, play_event, play_flow, play_line, play_lines, play_plain, play_ticks}
-use Rattle.nq_play.specs.declared.Played.{Played}
+use Rattle.nq_asides.specs.Playing.{Played as Due, and_then, took, with_packet}
+use Rattle.nq_staged.specs.Playing.{next_packet, play_event, play_flow, play_plain, play_ticks}
 use Rattle.nq_script.specs.declared.lines.Line.{Line}
-use Rattle.nq_staged.specs.Text.{StagedLine}
-use Rattle.nq_world.specs.declared.stepped.Stepped.{Stepped}
 
 pub played-once : (head : Head) (most : ℕ) (line : Line) (event : Event) (events : List StagedEvent) → line ≡ Line.Events event 1
     → play_event head (StagedEvent.Plain event) events ≡ play_plain head most line events

@@ -1,17 +1,13 @@
 -- What playing over a staged world does, beside what it is to do by the protocol. Below, `told` is what the world's keeper tells of its
 -- content, and `flags` tells which packets were delivered.
-use Rattle.std.specs.Prelude.{◌≡◌, ◌<◌, ℕ, Bool, List, Option}
+use Rattle.std.specs.Prelude.{◌<◌, ℕ, Bool, List, Option}
 use Rattle.nq_base.specs.declared.Event.{Event}
 use Rattle.nq_commit.specs.Playing.{PlaysOutside, StagedOver}
 use Rattle.nq_model.specs.Kept.{Kept}
 use Rattle.nq_model.specs.World.{Head}
 use Rattle.nq_play.specs.Delivering.{Marks}
-use Rattle.nq_play.specs.declared.Played.{Played}
-use Rattle.nq_asides.specs.Playing.{Ended, Played as Due, ran, refused, stopped, took}
 use Rattle.nq_staged.specs.Playing.{plain_events}
 use Rattle.nq_staged_run.specs.declared.StagedEvent.{StagedEvent}
-use Rattle.nq_world.specs.Answering.{told as answer_of}
-use Rattle.nq_world.specs.declared.Stepped.{Stepped}
 
 -- a world plays the staged run of these events, and the flags tell which packets were delivered in it
 pub record IsAt {K : Type 0} (head : Head) (events : List StagedEvent) (w : StagedOver K) (told : Option Kept) (flags : List Bool) : Type 0 where

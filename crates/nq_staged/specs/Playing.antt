@@ -1,10 +1,10 @@
 -- How the lines of a staged schedule are played, event by event. The events of a run are told with the newest first.
-use Rattle.std.specs.Prelude.{ℕ, ◌+◌, List, [], ◌∷◌, length, Option, Some, None, zero, suc}
+use Rattle.std.specs.Prelude.{ℕ, ◌+◌, List, [], ◌∷◌, length, Option, zero, suc}
 use Rattle.nq_asides.specs.Playing.{Ended, Played, and_then, answered, play_each, refused, repeated, took, with_packet}
 use Rattle.nq_asides.specs.Text.{beside, plain}
 use Rattle.nq_base.specs.declared.Event.{Event}
 use Rattle.nq_commit.specs.Playing.{stepped_outside}
-use Rattle.nq_model.specs.Stepped.{Stepped, done, too_many_events, most_events}
+use Rattle.nq_model.specs.Stepped.{too_many_events, most_events}
 use Rattle.nq_model.specs.World.{Head as Beginning}
 use Rattle.nq_play.specs.Delivering.{least_undelivered}
 use Rattle.nq_play.specs.Playing.{beginning}
