@@ -17,7 +17,8 @@ went-on : {S : Type 0} (first : Due S) (next : S → Due S) (P : S → Type 0) (
 went-on (took reached) next P due here same = record { reached = reached; here = here; same = same }
 went-on (refused answer) next P due here same = absurd here
 
-pub goes-on : {S : Type 0} (first : Due S) (next : S → Due S) (P : S → Type 0) (due : Due S) → Goes Stepped.Done first P → and_then first next ≡ due → IsOn P next due
+pub goes-on : {S : Type 0} (first : Due S) (next : S → Due S) (P : S → Type 0) (due : Due S) → Goes Stepped.Done first P → and_then first next ≡ due
+    → IsOn P next due
 goes-on first next P due here same = went-on first next P due here same
 
 pub done-here : {S : Type 0} (P : S → Type 0) (reached : S) (due : Due S) → P reached → took reached ≡ due → Goes Stepped.Done due P
@@ -78,7 +79,8 @@ stops-line line number first next Stepped.Memory P Q n is other = tt
 pub ran-here : {S : Type 0} (P : S → Type 0) (reached : S) (due : Ended S) → P reached → ran reached ≡ due → Comes Played.All due P
 ran-here P reached due here same = subst (λ d. RanTo d P) same here
 
-pub comes-here : {S : Type 0} (played stop : Played) (due first : Ended S) (P : S → Type 0) → played ≡ stop → first ≡ due → Comes stop first P → Comes played due P
+pub comes-here : {S : Type 0} (played stop : Played) (due first : Ended S) (P : S → Type 0) → played ≡ stop → first ≡ due → Comes stop first P
+    → Comes played due P
 comes-here played stop due first P is same comes = subst (λ d. Comes played d P) same (subst (λ p. Comes p first P) (sym is) comes)
 
 -- ---- what is left to be played, one further

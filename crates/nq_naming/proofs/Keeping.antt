@@ -24,17 +24,21 @@ use Rattle.nq_model.specs.World.{Head as Beginning}
 use Rattle.nq_asides.specs.Playing.{Ended, Played, took, refused, answered, at_line, ran, repeated, stopped}
 use Rattle.nq_naming.specs.Playing.{Moment, Sought, first_moment, with_finds, play, play_event, play_flow, play_line, play_lines, play_plain, play_round, play_ticks}
 
-pub keeps-ticks : (P : List NameEvent → Type 0) (head : Beginning) (host count : ℕ) → host + count ≤ head.hosts → ((h : ℕ) → h < head.hosts → Keeps P (play_event head (NameEvent.Plain (Event.ClientTick h)))) → Keeps P (play_ticks head host count)
+pub keeps-ticks : (P : List NameEvent → Type 0) (head : Beginning) (host count : ℕ) → host + count ≤ head.hosts
+    → ((h : ℕ) → h < head.hosts → Keeps P (play_event head (NameEvent.Plain (Event.ClientTick h)))) → Keeps P (play_ticks head host count)
 keeps-ticks P head host zero less keeps events here = here
 keeps-ticks P head host (suc count) less keeps events here =
     ends-then P (play_event head (NameEvent.Plain (Event.ClientTick host)) events) (play_ticks head (host + 1) count) (keeps host (omega arith) events here) (keeps-ticks P head (host + 1) count (omega arith) keeps)
 
-pub keeps-round : (P : List NameEvent → Type 0) (head : Beginning) → ((h : ℕ) → h < head.hosts → Keeps P (play_event head (NameEvent.Plain (Event.ClientTick h)))) → Keeps P (play_event head (NameEvent.Plain Event.ServerTick)) → Keeps P (play_round head)
+pub keeps-round : (P : List NameEvent → Type 0) (head : Beginning)
+    → ((h : ℕ) → h < head.hosts → Keeps P (play_event head (NameEvent.Plain (Event.ClientTick h))))
+    → Keeps P (play_event head (NameEvent.Plain Event.ServerTick)) → Keeps P (play_round head)
 unfolding play_round
 keeps-round P head ticks tick events here =
     ends-then P (play_ticks head 0 head.hosts events) (play_event head (NameEvent.Plain Event.ServerTick)) (keeps-ticks P head 0 head.hosts (omega arith) ticks events here) tick
 
-pub keeps-flow : (P : List NameEvent → Type 0) (head : Beginning) (most : ℕ) → ((k : ℕ) → Keeps P (play_event head (NameEvent.Plain (Event.Deliver k)))) → Keeps P (play_flow head most)
+pub keeps-flow : (P : List NameEvent → Type 0) (head : Beginning) (most : ℕ) → ((k : ℕ) → Keeps P (play_event head (NameEvent.Plain (Event.Deliver k))))
+    → Keeps P (play_flow head most)
 keeps-flow P head zero keeps events here = tt
 keeps-flow P head (suc most) keeps events here =
     ends-packet P _ events _ here (λ k. ends-then P (play_event head (NameEvent.Plain (Event.Deliver k)) events) (λ es. play_flow head most es) (keeps k events here) (keeps-flow P head most keeps))
@@ -91,11 +95,13 @@ module _ (head : Head) (second : head.version ≡ 2) where
   keeps_aside most (Aside.List host prefix) m so = ends_finds (AreTold head) m.finds (play_event (beginning head) (NameEvent.List host prefix) m.events) (keeps_list host prefix m.events so)
   keeps_aside most (Aside.Find host name) m so = so
 
-  ran_on : (line : ℕ) (played : Played Moment) (next : Moment → Ended Moment) (n : Moment) → EndsAt (AreTold head) played → ((m : Moment) → AreTold head m.events → next m ≡ ran n → AreTold head n.events) → at_line line played next ≡ ran n → AreTold head n.events
+  ran_on : (line : ℕ) (played : Played Moment) (next : Moment → Ended Moment) (n : Moment) → EndsAt (AreTold head) played
+      → ((m : Moment) → AreTold head m.events → next m ≡ ran n → AreTold head n.events) → at_line line played next ≡ ran n → AreTold head n.events
   ran_on line (took m) next n so on is = on m so is
   ran_on line (refused answer) next n so on is = absurd (cc)
 
-  lines_told : (most number : ℕ) (asides : List (Option Aside)) (lines : List Line) (texts : List (List ℕ)) (m n : Moment) → SpellsLines head lines texts → AreTold head m.events → play_lines (beginning head) most number (mixed asides lines) m ≡ ran n → AreTold head n.events
+  lines_told : (most number : ℕ) (asides : List (Option Aside)) (lines : List Line) (texts : List (List ℕ)) (m n : Moment) → SpellsLines head lines texts
+      → AreTold head m.events → play_lines (beginning head) most number (mixed asides lines) m ≡ ran n → AreTold head n.events
   lines_told most number asides [] texts m n spelled so is = let same : m ≡ n = cc in subst (λ (k : Moment). AreTold head k.events) same so
   lines_told most number asides (line ∷ lines) [] m n spelled so is = absurd spelled
   lines_told most number [] (line ∷ lines) (text ∷ texts) m n spelled so is =
@@ -111,7 +117,8 @@ module _ (head : Head) (second : head.version ≡ 2) where
       (keeps_aside most aside m so)
       (λ k here on. lines_told most (number + 1) asides lines texts k n spelled.2 here on) is
 
-  pub events_told : (asides : List (Option Aside)) (lines : List Line) (text : List ℕ) (m : Moment) → SpellsSchedule head lines text → play head (mixed asides lines) ≡ ran m → AreTold head m.events
+  pub events_told : (asides : List (Option Aside)) (lines : List Line) (text : List ℕ) (m : Moment) → SpellsSchedule head lines text
+      → play head (mixed asides lines) ≡ ran m → AreTold head m.events
   unfolding play
   events_told asides lines text m spelled is = lines_told (most_events + 1) (length (head_lines head) + 1) asides lines spelled.1.1.0 first_moment m spelled.1.1.1 tt is
 

@@ -13,7 +13,9 @@ pub played-once : (head : Head) (most : ℕ) (line : Line) (event : Event) (even
 played-once head most line event events is =
     sym (ap (λ l. play_plain head most l events) is ∙ then-took (play_event head (NameEvent.Plain event) events) (play_event head (NameEvent.Plain event)))
 
-pub ticks-step : (head : Head) (hosts host : ℕ) (events : List NameEvent) (due : Due (List NameEvent)) → host < hosts → play_ticks head host (hosts - host) events ≡ due → and_then (play_event head (NameEvent.Plain (Event.ClientTick host)) events) (play_ticks head (host + 1) (hosts - (host + 1))) ≡ due
+pub ticks-step : (head : Head) (hosts host : ℕ) (events : List NameEvent) (due : Due (List NameEvent)) → host < hosts
+    → play_ticks head host (hosts - host) events ≡ due
+    → and_then (play_event head (NameEvent.Plain (Event.ClientTick host)) events) (play_ticks head (host + 1) (hosts - (host + 1))) ≡ due
 ticks-step head hosts host events due below same =
     let further : hosts - host ≡ suc (hosts - (host + 1)) = omega arith in
     rw further at same
@@ -24,13 +26,16 @@ flow-step head most turn events due below same =
     let further : most - turn ≡ suc (most - (turn + 1)) = omega arith in
     rw further at same
 
-pub flow-none : (head : Head) (most turn : ℕ) (events : List NameEvent) (due : Due (List NameEvent)) (next : Option ℕ) → turn < most → play_flow head (most - turn) events ≡ due → next_packet head events ≡ next → next ≡ None → took events ≡ due
+pub flow-none : (head : Head) (most turn : ℕ) (events : List NameEvent) (due : Due (List NameEvent)) (next : Option ℕ) → turn < most
+    → play_flow head (most - turn) events ≡ due → next_packet head events ≡ next → next ≡ None → took events ≡ due
 flow-none head most turn events due next below same is none =
     let here : next_packet head events ≡ None = is ∙ none in
     let said = flow-step head most turn events due below same in
     rw here at said
 
-pub flow-some : (head : Head) (most turn packet : ℕ) (events : List NameEvent) (due : Due (List NameEvent)) (next : Option ℕ) → turn < most → play_flow head (most - turn) events ≡ due → next_packet head events ≡ next → next ≡ Some packet → and_then (play_event head (NameEvent.Plain (Event.Deliver packet)) events) (λ es. play_flow head (most - (turn + 1)) es) ≡ due
+pub flow-some : (head : Head) (most turn packet : ℕ) (events : List NameEvent) (due : Due (List NameEvent)) (next : Option ℕ) → turn < most
+    → play_flow head (most - turn) events ≡ due → next_packet head events ≡ next → next ≡ Some packet
+    → and_then (play_event head (NameEvent.Plain (Event.Deliver packet)) events) (λ es. play_flow head (most - (turn + 1)) es) ≡ due
 flow-some head most turn packet events due next below same is some =
     let here : next_packet head events ≡ Some packet = is ∙ some in
     let said = flow-step head most turn events due below same in

@@ -23,17 +23,21 @@ use Rattle.nq_model.specs.World.{Head as Beginning}
 use Rattle.nq_asides.specs.Playing.{Ended, Played, took, refused, answered, at_line, ran, repeated, stopped}
 use Rattle.nq_staged.specs.Playing.{play, play_event, play_flow, play_lines, play_plain, play_round, play_ticks}
 
-pub keeps-ticks : (P : List StagedEvent → Type 0) (head : Beginning) (host count : ℕ) → host + count ≤ head.hosts → ((h : ℕ) → h < head.hosts → Keeps P (play_event head (StagedEvent.Plain (Event.ClientTick h)))) → Keeps P (play_ticks head host count)
+pub keeps-ticks : (P : List StagedEvent → Type 0) (head : Beginning) (host count : ℕ) → host + count ≤ head.hosts
+    → ((h : ℕ) → h < head.hosts → Keeps P (play_event head (StagedEvent.Plain (Event.ClientTick h)))) → Keeps P (play_ticks head host count)
 keeps-ticks P head host zero less keeps events here = here
 keeps-ticks P head host (suc count) less keeps events here =
     ends-then P (play_event head (StagedEvent.Plain (Event.ClientTick host)) events) (play_ticks head (host + 1) count) (keeps host (omega arith) events here) (keeps-ticks P head (host + 1) count (omega arith) keeps)
 
-pub keeps-round : (P : List StagedEvent → Type 0) (head : Beginning) → ((h : ℕ) → h < head.hosts → Keeps P (play_event head (StagedEvent.Plain (Event.ClientTick h)))) → Keeps P (play_event head (StagedEvent.Plain Event.ServerTick)) → Keeps P (play_round head)
+pub keeps-round : (P : List StagedEvent → Type 0) (head : Beginning)
+    → ((h : ℕ) → h < head.hosts → Keeps P (play_event head (StagedEvent.Plain (Event.ClientTick h))))
+    → Keeps P (play_event head (StagedEvent.Plain Event.ServerTick)) → Keeps P (play_round head)
 unfolding play_round
 keeps-round P head ticks tick events here =
     ends-then P (play_ticks head 0 head.hosts events) (play_event head (StagedEvent.Plain Event.ServerTick)) (keeps-ticks P head 0 head.hosts (omega arith) ticks events here) tick
 
-pub keeps-flow : (P : List StagedEvent → Type 0) (head : Beginning) (most : ℕ) → ((k : ℕ) → Keeps P (play_event head (StagedEvent.Plain (Event.Deliver k)))) → Keeps P (play_flow head most)
+pub keeps-flow : (P : List StagedEvent → Type 0) (head : Beginning) (most : ℕ) → ((k : ℕ) → Keeps P (play_event head (StagedEvent.Plain (Event.Deliver k))))
+    → Keeps P (play_flow head most)
 keeps-flow P head zero keeps events here = tt
 keeps-flow P head (suc most) keeps events here =
     ends-packet P _ events _ here (λ k. ends-then P (play_event head (StagedEvent.Plain (Event.Deliver k)) events) (λ es. play_flow head most es) (keeps k events here) (keeps-flow P head most keeps))
@@ -64,11 +68,15 @@ module _ (head : Head) (second : head.version ≡ 2) where
   keeps_line most Line.Flow text spelled = keeps-flow (AreTold head) (beginning head) most (λ k. keeps_event (Event.Deliver k) (tt, tt))
   keeps_line most Line.End text spelled = λ events so. so
 
-  ran_on : (line : ℕ) (played : Played (List StagedEvent)) (next : List StagedEvent → Ended (List StagedEvent)) (events : List StagedEvent) → Ends (AreTold head) played → ((es : List StagedEvent) → AreTold head es → next es ≡ ran events → AreTold head events) → at_line line played next ≡ ran events → AreTold head events
+  ran_on : (line : ℕ) (played : Played (List StagedEvent)) (next : List StagedEvent → Ended (List StagedEvent)) (events : List StagedEvent)
+      → Ends (AreTold head) played → ((es : List StagedEvent) → AreTold head es → next es ≡ ran events → AreTold head events)
+      → at_line line played next ≡ ran events → AreTold head events
   ran_on line (took es) next events so on is = on es so is
   ran_on line (refused answer) next events so on is = absurd (cc)
 
-  lines_told : (most number : ℕ) (asides : List (Option Offer)) (lines : List Line) (texts : List (List ℕ)) (earlier events : List StagedEvent) → SpellsLines head lines texts → AreTold head earlier → play_lines (beginning head) most number (mixed asides lines) earlier ≡ ran events → AreTold head events
+  lines_told : (most number : ℕ) (asides : List (Option Offer)) (lines : List Line) (texts : List (List ℕ)) (earlier events : List StagedEvent)
+      → SpellsLines head lines texts → AreTold head earlier → play_lines (beginning head) most number (mixed asides lines) earlier ≡ ran events
+      → AreTold head events
   lines_told most number asides [] texts earlier events spelled so is = let same : earlier ≡ events = cc in subst (AreTold head) same so
   lines_told most number asides (line ∷ lines) [] earlier events spelled so is = absurd spelled
   lines_told most number [] (line ∷ lines) (text ∷ texts) earlier events spelled so is =
@@ -84,7 +92,8 @@ module _ (head : Head) (second : head.version ≡ 2) where
       (keeps_stage offer.host earlier so)
       (λ es here on. lines_told most (number + 1) asides lines texts es events spelled.2 here on) is
 
-  pub events_told : (asides : List (Option Offer)) (lines : List Line) (text : List ℕ) (events : List StagedEvent) → SpellsSchedule head lines text → play head (mixed asides lines) ≡ ran events → AreTold head events
+  pub events_told : (asides : List (Option Offer)) (lines : List Line) (text : List ℕ) (events : List StagedEvent) → SpellsSchedule head lines text
+      → play head (mixed asides lines) ≡ ran events → AreTold head events
   unfolding play
   events_told asides lines text events spelled is = lines_told (most_events + 1) (length (head_lines head) + 1) asides lines spelled.1.1.0 [] events spelled.1.1.1 tt is
 
