@@ -16,5 +16,4 @@ mod storms;
 
 pub use laws::storms_are_lawful;
 pub use running::run_storm;
-pub use schedules::{schedule_text, storm_head};
 pub use stormed::Stormed;
