@@ -21,7 +21,7 @@ use Rattle.nq_base.specs.declared.Event.{Event}
 use Rattle.nq_names_run.specs.declared.NameEvent.{NameEvent}
 use Rattle.nq_model.specs.Stepped.{done, most_events}
 use Rattle.nq_model.specs.World.{Head as Beginning}
-use Rattle.nq_asides.specs.Playing.{Ended, Played, took, refused, answered, at_line, ran, repeated, stopped}
+use Rattle.nq_asides.specs.Playing.{Ended, Played, took, refused, at_line, ran, stopped}
 use Rattle.nq_naming.specs.Playing.{Moment, Sought, first_moment, with_finds, play, play_event, play_flow, play_line, play_lines, play_plain, play_round, play_ticks}
 
 pub keeps-ticks : (P : List NameEvent → Type 0) (head : Beginning) (host count : ℕ) → host + count ≤ head.hosts

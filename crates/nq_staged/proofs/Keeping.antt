@@ -20,7 +20,7 @@ use Rattle.nq_base.specs.declared.Event.{Event}
 use Rattle.nq_staged_run.specs.declared.StagedEvent.{StagedEvent}
 use Rattle.nq_model.specs.Stepped.{done, most_events}
 use Rattle.nq_model.specs.World.{Head as Beginning}
-use Rattle.nq_asides.specs.Playing.{Ended, Played, took, refused, answered, at_line, ran, repeated, stopped}
+use Rattle.nq_asides.specs.Playing.{Ended, Played, took, refused, at_line, ran, stopped}
 use Rattle.nq_staged.specs.Playing.{play, play_event, play_flow, play_lines, play_plain, play_round, play_ticks}
 
 pub keeps-ticks : (P : List StagedEvent → Type 0) (head : Beginning) (host count : ℕ) → host + count ≤ head.hosts
