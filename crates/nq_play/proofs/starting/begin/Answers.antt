@@ -1,7 +1,7 @@
 use Rattle.nq_keeper.specs.StoredKeeper.{empty_kept}
 use Rattle.nq_play.specs.Playing.{beginning}
-use Rattle.nq_replay.proofs.Begun.{begun_counts, begun_plays, begun_settings}
-use Rattle.nq_replay.proofs.schedules.begin.Goals as goal
+use Rattle.nq_play.proofs.Begun.{begun_counts, begun_plays, begun_settings}
+use Rattle.nq_play.proofs.starting.begin.Goals as goal
 
 pub returns : goal.returns
 returns g c = record {

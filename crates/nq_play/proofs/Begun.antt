@@ -2,7 +2,7 @@
 use Rattle.std.proofs.Common.{◌≡◌, ℕ, [], Option, Some, Result, Ok, Err, IfOk}
 use Rattle.nq_model.specs.Kept.{Kept}
 use Rattle.nq_model.specs.World.{Head as Beginning}
-use Rattle.nq_replay.specs.Schedules.{CountsBegin}
+use Rattle.nq_play.specs.Beginning.{CountsBegin}
 use Rattle.nq_world.specs.Playing.{Begins, HasSettings, Plays, WorldOver, keeper_in}
 use Rattle.nq_world.specs.declared.starting.NewFault.{NewFault}
 use Rattle.nq_world.specs.declared.starting.NewFault.TheVariants as fault

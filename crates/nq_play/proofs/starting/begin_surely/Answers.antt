@@ -1,4 +1,4 @@
-use Rattle.nq_replay.proofs.schedules.begin_surely.Goals as goal
+use Rattle.nq_play.proofs.starting.begin_surely.Goals as goal
 
 pub returns-in-Ok-clause-never : goal.returns-in-Ok-clause-never
 returns-in-Ok-clause-never g c = λ later follows.
