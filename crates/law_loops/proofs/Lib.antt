@@ -6,3 +6,5 @@ pub mod Loops
 pub mod Room
 pub mod PrintedLoops
 pub mod SomeLoop
+pub mod SomeTurns
+pub mod SomePrinted

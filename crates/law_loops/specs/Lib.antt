@@ -3,3 +3,4 @@ pub mod LoopTurns
 pub mod LoopsAreAnswered
 pub mod Met
 pub mod PrintedLoops
+pub mod PrintedMet

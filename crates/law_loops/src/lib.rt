@@ -4,6 +4,7 @@
 
 ghost use Rattle.law_loops.specs.LoopsAreAnswered.{LoopsAreAnswered};
 ghost use Rattle.law_loops.specs.Met.{LoopsAreMet};
+ghost use Rattle.law_loops.specs.PrintedMet.{PrintedLoopsAreMet};
 ghost use Rattle.law_loops.specs.PrintedLoops.{EndedLoopsAreAnswered, PrintedLoopsAreAnswered};
 
 /// In each loop of at most 64 hosts, where every datagram arrived before the clocks ticked next, and each link kept its order: the three calls of each
@@ -26,4 +27,9 @@ pub fn ended_loops_are_answered()
 /// The events of three turns of a loop of one host come in time, and its calls are answered by them.
 pub fn loops_are_met()
     ensures { LoopsAreMet }
+{}
+
+/// A loop of one host ends with all printed behind three turns, in which all came in time, and its calls are answered by then.
+pub fn printed_loops_are_met()
+    ensures { PrintedLoopsAreMet }
 {}
