@@ -3,4 +3,8 @@ pub mod Counts
 pub mod Windows
 pub mod Turns
 pub mod Loops
+pub mod Room
+pub mod PrintedLoops
 pub mod SomeLoop
+pub mod SomeTurns
+pub mod SomePrinted
