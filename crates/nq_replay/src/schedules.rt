@@ -166,7 +166,12 @@ fn print_entries<K: Sink>(alloc: Global, journal: &Journal, version: u32, out: &
 }
 
 /// Prints a journal in a version. `Memory` is the answer too where the version has no spelling for one of its entries.
-pub(crate) fn print_journal<K: Sink>(alloc: Global, journal: &Journal, version: u32, out: &mut K) -> Ending
+pub(crate) fn print_journal<K: Sink>(
+    alloc: Global,
+    journal: &Journal,
+    version: u32,
+    out: &mut K,
+) -> Ending
     requires { IsVersion version }
     ensures { (entries : List Entry) → map plain journal.now.entries ≡ entries
         → PrintsEntries result version entries (K.held out.old) (K.held out.new) (K.faults out.old) (K.faults out.new) }
