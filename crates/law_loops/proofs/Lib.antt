@@ -3,4 +3,9 @@ pub mod Counts
 pub mod Windows
 pub mod Turns
 pub mod Loops
+pub mod Room
+pub mod PrintedLoops
+pub mod ToldAnswers
 pub mod SomeLoop
+pub mod SomeTurns
+pub mod SomePrinted

@@ -6,6 +6,7 @@ pub mod Calls
 pub mod Events
 pub mod Hearing
 pub mod Turned
+pub mod Going
 pub mod Kept
 pub mod Spelling
 pub mod Counting

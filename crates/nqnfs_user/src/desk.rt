@@ -1,6 +1,6 @@
 //! A client at work, call by call.
 
-use nq_base::{Answer, Call, Host, Inc, Journal, Who};
+use nq_base::{Answer, Call, Inc, Journal, Who};
 use nq_client::Client;
 use nq_clock::{Clock, StdClock};
 use nq_ending::Halt;
@@ -18,15 +18,6 @@ const TERM: u32 = 30;
 /// After how many ticks without an answer the leases are not given back.
 const FAREWELL: u64 = 10;
 
-/// How a client works.
-#[derive(Clone, Copy)]
-pub(crate) struct Terms {
-    /// The host and its incarnation, which no start before this one had.
-    pub(crate) who: Who,
-    /// After how many ticks without an answer a call is given up.
-    pub(crate) patience: u64,
-}
-
 /// A client at work, with its link and its clock. A turn that the link stopped is borne: what was not sent is sent again later.
 /// It has to be closed in the end.
 pub(crate) struct UserDesk {
@@ -38,14 +29,16 @@ pub(crate) struct UserDesk {
 }
 
 impl UserDesk {
-    /// A client that begins an incarnation and is attached.
+    /// A client that begins an incarnation, which no start before this one had, and is attached. A call is given up after so many ticks
+    /// without an answer.
     ///
     /// # Errors
     ///
     /// `NoAnswer` where the server did not attach it in time, and `Memory` where memory was wanting.
     pub(crate) fn open(
         alloc: Global,
-        terms: Terms,
+        who: Who,
+        patience: u64,
         link: UdpLink<HostRuntime>,
         clock: StdClock<HostRuntime>,
     ) -> Result<UserDesk, Halt> {
@@ -53,40 +46,24 @@ impl UserDesk {
         let mut link = link;
         let now = clock.now();
         let mut out = Outbox::new(alloc, 0).unwrap();
-        let who = terms.who;
         let Ok(client) = Client::start(alloc, who.host, who.inc, TERM, now, &mut out) else {
             return Err(Halt::Memory);
         };
         let _sent = send_all(&mut link, &out);
         let mut desk = UserDesk {
             client,
-            patience: terms.patience,
+            patience,
             next: 0,
             link,
             clock,
         };
-        match desk.attach(alloc) {
-            Ok(()) => Ok(desk),
+        match desk.wait(alloc) {
+            Ok(_) => Ok(desk),
             Err(why) => {
                 desk.close();
                 Err(why)
             }
         }
-    }
-
-    /// Takes turns until the server attaches the client.
-    fn attach(&mut self, alloc: Global) -> Result<(), Halt> {
-        let began = self.client.time().0;
-        for _turn in 0..MOST_TURNS {
-            if self.client.is_attached() {
-                return Ok(());
-            }
-            self.take_turn(alloc)?;
-            if self.client.time().0.saturating_sub(began) > self.patience {
-                return Err(Halt::NoAnswer);
-            }
-        }
-        Err(Halt::NoAnswer)
     }
 
     /// Makes a call, and takes turns until it is answered.
@@ -101,48 +78,42 @@ impl UserDesk {
         let answer = self.client.call(call, &mut out, &mut log);
         let _sent = send_all(&mut self.link, &out);
         match answer {
-            Answer::Pending => self.wait(alloc),
+            Answer::Pending => match self.wait(alloc)? {
+                Some(answer) => Ok(answer),
+                None => Err(Halt::NoAnswer),
+            },
             Answer::Memory => Err(Halt::Memory),
             Answer::Spent => Err(Halt::Spent),
             answer => Ok(answer),
         }
     }
 
-    /// Takes turns until the call under way is answered.
-    fn wait(&mut self, alloc: Global) -> Result<Answer, Halt> {
+    /// Takes turns until the call under way is answered or, where there is none, the client is attached.
+    fn wait(&mut self, alloc: Global) -> Result<Option<Answer>, Halt> {
         let began = self.client.time().0;
         for _turn in 0..MOST_TURNS {
-            if let Some(answer) = self.take_turn(alloc)? {
-                return Ok(answer);
+            let mut log = Journal::new(alloc).unwrap();
+            match client_turn(
+                alloc,
+                &mut self.client,
+                &mut self.link,
+                &mut self.clock,
+                &mut self.next,
+                &mut log,
+            ) {
+                ClientTurn::Quiet | ClientTurn::Link => {}
+                ClientTurn::Answered(answer) => return Ok(Some(answer)),
+                ClientTurn::Memory => return Err(Halt::Memory),
+                ClientTurn::Spent => return Err(Halt::Spent),
+            }
+            if self.client.is_attached() && self.client.call_under_way().is_none() {
+                return Ok(None);
             }
             if self.client.time().0.saturating_sub(began) > self.patience {
                 return Err(Halt::NoAnswer);
             }
         }
         Err(Halt::NoAnswer)
-    }
-
-    /// Takes a turn; the answer that it brought, if any.
-    fn take_turn(&mut self, alloc: Global) -> Result<Option<Answer>, Halt> {
-        let mut log = Journal::new(alloc).unwrap();
-        match client_turn(
-            alloc,
-            &mut self.client,
-            &mut self.link,
-            &mut self.clock,
-            &mut self.next,
-            &mut log,
-        ) {
-            ClientTurn::Quiet | ClientTurn::Link => Ok(None),
-            ClientTurn::Answered(answer) => Ok(Some(answer)),
-            ClientTurn::Memory => Err(Halt::Memory),
-            ClientTurn::Spent => Err(Halt::Spent),
-        }
-    }
-
-    /// The host.
-    pub(crate) fn host(&self) -> Host {
-        self.client.who().host
     }
 
     /// Gives all leases back: the host begins this incarnation, and the server ends the leases of those before as it attaches it. What
@@ -161,11 +132,7 @@ impl UserDesk {
         } = self;
         let host = client.who().host;
         client.stop();
-        let terms = Terms {
-            who: Who { host, inc },
-            patience: FAREWELL,
-        };
-        let desk = UserDesk::open(alloc, terms, link, clock)?;
+        let desk = UserDesk::open(alloc, Who { host, inc }, FAREWELL, link, clock)?;
         desk.close();
         Ok(())
     }

@@ -1,12 +1,10 @@
 //! Whole files of the machine, in blocks.
 
-ghost use Rattle.std.specs.Prelude.{◌<◌};
-
 use crate::desk::UserDesk;
 use nq_base::{Answer, Block, BlockNo, Call, FileId, Name, NoMemory, Value};
 use nq_ending::Halt;
 use nq_prompt::{MOST_BYTES, blocks_for, cut_to, first_block, length_in, piece, push_body};
-use std::alloc::{AllocError, Global};
+use std::alloc::Global;
 
 /// Why a file was not put or not got.
 #[derive(Drop)]
@@ -26,12 +24,6 @@ pub(crate) enum FileFault {
 impl From<Halt> for FileFault {
     fn from(why: Halt) -> FileFault {
         FileFault::Halted(why)
-    }
-}
-
-impl From<AllocError> for FileFault {
-    fn from(_: AllocError) -> FileFault {
-        FileFault::Halted(Halt::Memory)
     }
 }
 
@@ -61,33 +53,32 @@ pub(crate) fn put_file(
     let pieces = bytes.len().div_ceil(Block::SIZE);
     for place in 0..pieces {
         let body = piece(alloc, bytes, place)?;
-        put(alloc, desk, file, block_of(place), body)?;
+        put(alloc, desk, file, 1 + place as u32, body)?;
     }
-    for place in 0..pieces {
-        let found = fetch(alloc, desk, file, block_of(place))?;
-        if !are_same(alloc, &found, &piece(alloc, bytes, place)?)? {
-            return Err(FileFault::Differs);
-        }
+    let found = fetch_all(alloc, desk, file, blocks_for(bytes.len()), bytes.len())?;
+    if found.as_slice() != bytes {
+        return Err(FileFault::Differs);
     }
     let first = first_block(alloc, bytes.len())?;
     put(alloc, desk, file, 0, first)?;
     Ok(file)
 }
 
-/// In which block a piece of a file stands.
-fn block_of(place: usize) -> u32
-    requires { place < 1024 }
-{
-    1 + place as u32
-}
-
-/// Whether two blocks have the same bytes.
-fn are_same(alloc: Global, one: &Block, other: &Block) -> Result<bool, NoMemory> {
-    let mut first = Vec::with_capacity(alloc, Block::SIZE)?;
-    push_body(&mut first, one)?;
-    let mut second = Vec::with_capacity(alloc, Block::SIZE)?;
-    push_body(&mut second, other)?;
-    Ok(first.as_slice() == second.as_slice())
+/// So many bytes of a file, behind its first block. Each block is read from the server.
+fn fetch_all(
+    alloc: Global,
+    desk: &mut UserDesk,
+    file: FileId,
+    blocks: u32,
+    length: usize,
+) -> Result<Vec<u8>, FileFault> {
+    let mut bytes = Vec::new(alloc);
+    for block in 1..blocks {
+        let body = fetch(alloc, desk, file, block)?;
+        push_body(&mut bytes, &body)?;
+    }
+    cut_to(&mut bytes, length);
+    Ok(bytes)
 }
 
 /// The bytes of the file of this name, which was put as a whole file. Each block is read from the server.
@@ -105,16 +96,10 @@ pub(crate) fn get_file(
         return Err(FileFault::NotWhole);
     }
     let first = fetch(alloc, desk, file, 0)?;
-    let Some(length) = length_in(&first, blocks) else {
-        return Err(FileFault::NotWhole);
-    };
-    let mut bytes = Vec::with_capacity(alloc, Block::SIZE)?;
-    for block in 1..blocks {
-        let body = fetch(alloc, desk, file, block)?;
-        push_body(&mut bytes, &body)?;
+    match length_in(&first, blocks) {
+        Some(length) => fetch_all(alloc, desk, file, blocks, length),
+        None => Err(FileFault::NotWhole),
     }
-    cut_to(&mut bytes, length);
-    Ok(bytes)
 }
 
 /// The file of this name with so many blocks; it is made where there is none.
@@ -137,17 +122,9 @@ fn look_up(alloc: Global, desk: &mut UserDesk, name: Name) -> Result<FileId, Fil
 
 /// The file that an answer brings.
 fn file_in(answer: Answer) -> Result<FileId, FileFault> {
-    match file_of(&answer) {
-        Some(file) => Ok(file),
-        None => Err(FileFault::Answered(answer)),
-    }
-}
-
-/// The file that an answer brings, if it brings one.
-fn file_of(answer: &Answer) -> Option<FileId> {
     match answer {
-        Answer::Ok(Value::File(file)) => Some(*file),
-        _ => None,
+        Answer::Ok(Value::File(file)) => Ok(file),
+        answer => Err(FileFault::Answered(answer)),
     }
 }
 

@@ -6,8 +6,8 @@ mod files;
 mod prompting;
 mod starts;
 
-use crate::desk::{Terms, UserDesk};
-use crate::prompting::Prompt;
+use crate::desk::UserDesk;
+use crate::prompting::serve_lines;
 use crate::starts::next_inc;
 use nq_base::{Host, Party, Who};
 use nq_clock::StdClock;
@@ -34,47 +34,23 @@ fn main(rt: HostRuntime) -> ExitCode {
     }
 }
 
-/// Does what the words say; how that ends.
+/// Does what the words behind the program's name say; how that ends.
 fn obey(rt: &HostRuntime) -> Result<Ending, AllocError> {
-    match order_of(rt)? {
-        Order::Host(host) => be_host(rt, host),
-        Order::Help => {
-            let _told = print!(rt; "{HELP}");
-            Ok(Ending::Done)
-        }
-        Order::Usage => {
-            let _told = eprintln!(rt; "usage: nqnfs_user HOST");
-            Ok(Ending::Usage)
-        }
-    }
-}
-
-/// What the words say.
-#[derive(Clone, Copy)]
-enum Order {
-    Host(Host),
-    Help,
-    Usage,
-}
-
-/// What the words behind the program's name say.
-fn order_of(rt: &HostRuntime) -> Result<Order, AllocError> {
     let Ok(args) = env::args(rt) else {
         return Err(AllocError);
     };
     let mut words = args.skip(1);
-    let order = match words.next() {
-        Some(word) if word.as_str() == "--help" => Order::Help,
-        Some(word) => match number(word.as_str().as_bytes(), 63) {
-            Some(host) => Order::Host(Host(host as u32)),
-            None => Order::Usage,
-        },
-        None => Order::Usage,
-    };
-    match words.next() {
-        Some(_) => Ok(Order::Usage),
-        None => Ok(order),
+    if let (Some(word), None) = (words.next(), words.next()) {
+        if word.as_str() == "--help" {
+            let _told = print!(rt; "{HELP}");
+            return Ok(Ending::Done);
+        }
+        if let Some(host) = number(word.as_str().as_bytes(), 63) {
+            return be_host(rt, Host(host as u32));
+        }
     }
+    let _told = eprintln!(rt; "usage: nqnfs_user HOST");
+    Ok(Ending::Usage)
 }
 
 /// Is this host until its input ends.
@@ -93,49 +69,29 @@ fn be_host(rt: &HostRuntime, host: Host) -> Result<Ending, AllocError> {
         );
         return Ok(Ending::KeepFault);
     };
-    let terms = Terms {
-        who: Who { host, inc },
-        patience: PATIENCE,
-    };
     let clock = StdClock::new(rt.clone()?);
-    Ok(work(rt, UserDesk::open(rt.alloc(), terms, link, clock)))
-}
-
-/// Reads lines at a desk, if it was opened.
-fn work(rt: &HostRuntime, desk: Result<UserDesk, Halt>) -> Ending {
-    let ended = match desk {
-        Ok(desk) => sit(rt, desk),
+    let ended = match UserDesk::open(rt.alloc(), Who { host, inc }, PATIENCE, link, clock) {
+        Ok(desk) => sit(rt, host, desk),
         Err(why) => Err(why),
     };
     match ended {
-        Ok(()) => Ending::Done,
+        Ok(()) => Ok(Ending::Done),
         Err(why) => {
             let (words, ending) = halt_words(why);
             let _told = eprintln!(rt; "nqnfs_user: {words}");
-            ending
+            Ok(ending)
         }
     }
 }
 
-/// Reads lines at a desk to their end, and gives the leases back behind them.
-fn sit(rt: &HostRuntime, desk: UserDesk) -> Result<(), Halt> {
+/// Reads lines at a desk to their end, and gives the leases back behind them. It is said where that did not go well.
+fn sit(rt: &HostRuntime, host: Host, desk: UserDesk) -> Result<(), Halt> {
     let mut desk = desk;
-    let ended = Prompt::new(rt).serve_lines(&mut desk);
-    match ended {
-        Ok(()) => {
-            leave(rt, desk);
-            Ok(())
-        }
-        Err(why) => {
-            desk.close();
-            Err(why)
-        }
+    if let Err(why) = serve_lines(rt, &mut desk) {
+        desk.close();
+        return Err(why);
     }
-}
-
-/// Gives the leases of a desk back, and says where that did not go well.
-fn leave(rt: &HostRuntime, desk: UserDesk) {
-    let is_given = match next_inc(rt, desk.host()) {
+    let is_given = match next_inc(rt, host) {
         Ok(inc) => desk.give_back(rt.alloc(), inc).is_ok(),
         Err(_) => {
             desk.close();
@@ -147,6 +103,7 @@ fn leave(rt: &HostRuntime, desk: UserDesk) {
             "nqnfs_user: the leases were not given back; whoever comes next may wait for 38 seconds"
         );
     }
+    Ok(())
 }
 
 /// Why a run has ended before its input, in words, and how it ends.

@@ -2,11 +2,12 @@
 
 use crate::desk::UserDesk;
 use crate::files::{FileFault, get_file, put_file};
-use nq_base::{Answer, Call, FileId, Name};
+use crate::starts::write_synced;
+use nq_base::{Answer, Call, Name};
 use nq_ending::Halt;
 use nq_prompt::{Line, MOST_BYTES, answer_text, line_of};
 use std::fs::{self, File};
-use std::io::{self, BufRead, BufReader, ErrorKind, Write};
+use std::io::{BufRead, BufReader, ErrorKind};
 use std::str;
 
 const HELP: &str =
@@ -20,111 +21,61 @@ get NAME PATH        get it again, as a new file of this machine
 help, quit
 ";
 
-/// Who sits at the prompt, and the files that they wrote.
-#[derive(Drop)]
-pub(crate) struct Prompt<'a> {
-    rt: &'a HostRuntime,
-    written: Vec<FileId>,
+/// Reads lines to the end of the input and does what each says. The answer stands behind it before the next is read.
+pub(crate) fn serve_lines(rt: &HostRuntime, desk: &mut UserDesk) -> Result<(), Halt> {
+    let Ok(reader) = BufReader::new(rt.alloc(), rt.reader()) else {
+        return Err(Halt::Memory);
+    };
+    ask(rt);
+    for line in reader.lines(rt.alloc()) {
+        let Ok(line) = line else {
+            return Ok(());
+        };
+        match line_of(rt.alloc(), line.as_str().trim().as_bytes()) {
+            Line::Quit => return Ok(()),
+            other => serve_line(rt, desk, other)?,
+        }
+        ask(rt);
+    }
+    Ok(())
 }
 
-impl<'a> Prompt<'a> {
-    /// A prompt where nothing was written yet.
-    pub(crate) fn new(rt: &'a HostRuntime) -> Prompt<'a> {
-        Prompt {
-            rt,
-            written: Vec::new(rt.alloc()),
+/// Does what a line says.
+fn serve_line(rt: &HostRuntime, desk: &mut UserDesk, line: Line<'_>) -> Result<(), Halt> {
+    match line {
+        Line::Empty | Line::Quit => Ok(()),
+        Line::Help => {
+            let _told = print!(rt; "{HELP}");
+            Ok(())
         }
+        Line::Unknown => {
+            let _told = println!(rt; "no such line; help tells what there is");
+            Ok(())
+        }
+        Line::Call(call) => serve_call(rt, desk, &call),
+        Line::Put { path, name } => match str::from_utf8(path) {
+            Ok(path) => serve_put(rt, desk, path, name),
+            Err(_) => Ok(()),
+        },
+        Line::Get { name, path } => match str::from_utf8(path) {
+            Ok(path) => serve_get(rt, desk, name, path),
+            Err(_) => Ok(()),
+        },
     }
+}
 
-    /// Reads lines to the end of the input and does what each says. The answer stands behind it before the next is read.
-    pub(crate) fn serve_lines(&mut self, desk: &mut UserDesk) -> Result<(), Halt> {
-        let rt = self.rt;
-        let Ok(reader) = BufReader::new(rt.alloc(), rt.reader()) else {
-            return Err(Halt::Memory);
-        };
-        ask(rt);
-        for line in reader.lines(rt.alloc()) {
-            let Ok(line) = line else {
-                return self.finish(desk);
-            };
-            match line_of(rt.alloc(), line.as_str().trim().as_bytes()) {
-                Line::Quit => return self.finish(desk),
-                other => self.serve_line(desk, other)?,
-            }
-            ask(rt);
-        }
-        self.finish(desk)
-    }
-
-    /// Does what a line says.
-    fn serve_line(&mut self, desk: &mut UserDesk, line: Line<'_>) -> Result<(), Halt> {
-        let rt = self.rt;
-        match line {
-            Line::Empty | Line::Quit => Ok(()),
-            Line::Help => {
-                let _told = print!(rt; "{HELP}");
-                Ok(())
-            }
-            Line::Unknown => {
-                let _told = println!(rt; "no such line; help tells what there is");
-                Ok(())
-            }
-            Line::Call(call) => self.serve_call(desk, &call),
-            Line::Put { path, name } => match str::from_utf8(path) {
-                Ok(path) => serve_put(rt, desk, path, name),
-                Err(_) => Ok(()),
-            },
-            Line::Get { name, path } => match str::from_utf8(path) {
-                Ok(path) => serve_get(rt, desk, name, path),
-                Err(_) => Ok(()),
-            },
+/// Makes a call and tells its answer. What a write delays is stored before the next line, and where that does not go well it is told.
+fn serve_call(rt: &HostRuntime, desk: &mut UserDesk, call: &Call) -> Result<(), Halt> {
+    let answer = desk.ask(rt.alloc(), call)?;
+    tell_answer(rt, &answer);
+    if let (Call::Write { file, .. }, Answer::Ok(_)) = (call, &answer) {
+        let stored = desk.ask(rt.alloc(), &Call::Sync { file: *file })?;
+        if !matches!(stored, Answer::Ok(_)) {
+            let _told = print!(rt; "file {}: ", file.0);
+            tell_answer(rt, &stored);
         }
     }
-
-    /// Makes a call and tells its answer. What a write delays is stored before the next line.
-    fn serve_call(&mut self, desk: &mut UserDesk, call: &Call) -> Result<(), Halt> {
-        let answer = desk.ask(self.rt.alloc(), call)?;
-        tell_answer(self.rt, &answer);
-        match (call, &answer) {
-            (Call::Write { file, .. }, Answer::Ok(_)) => {
-                self.note(*file)?;
-                self.store(desk, *file)
-            }
-            _ => Ok(()),
-        }
-    }
-
-    /// Notes that a file was written.
-    fn note(&mut self, file: FileId) -> Result<(), Halt> {
-        if self.written.iter().any(|other| *other == file) {
-            return Ok(());
-        }
-        match self.written.push(file) {
-            Ok(()) => Ok(()),
-            Err(_) => Err(Halt::Memory),
-        }
-    }
-
-    /// Stores what is delayed of a file, and tells where that did not go well.
-    fn store(&self, desk: &mut UserDesk, file: FileId) -> Result<(), Halt> {
-        match desk.ask(self.rt.alloc(), &Call::Sync { file })? {
-            Answer::Ok(_) => Ok(()),
-            answer => {
-                let number = file.0;
-                let _told = print!(self.rt; "file {number}: ");
-                tell_answer(self.rt, &answer);
-                Ok(())
-            }
-        }
-    }
-
-    /// Stores all that is delayed of the files that were written, and tells what was lost.
-    fn finish(&self, desk: &mut UserDesk) -> Result<(), Halt> {
-        for file in self.written.iter() {
-            self.store(desk, *file)?;
-        }
-        Ok(())
-    }
+    Ok(())
 }
 
 /// Shows that a line can be written.
@@ -184,7 +135,11 @@ fn serve_get(rt: &HostRuntime, desk: &mut UserDesk, name: Name, path: &str) -> R
         Ok(bytes) => bytes,
         Err(fault) => return tell_fault(rt, fault),
     };
-    match write_new(rt, path, &bytes) {
+    let written = match File::create_new(rt, path) {
+        Ok(file) => write_synced(file, &bytes),
+        Err(error) => Err(error),
+    };
+    match written {
         Ok(()) => {
             let count = bytes.len();
             let _told = println!(rt; "ok, {count} bytes");
@@ -192,13 +147,6 @@ fn serve_get(rt: &HostRuntime, desk: &mut UserDesk, name: Name, path: &str) -> R
         Err(error) => tell_machine(rt, path, error.kind()),
     }
     Ok(())
-}
-
-/// Writes a file that was not there.
-fn write_new(rt: &HostRuntime, path: &str, bytes: &[u8]) -> io::Result<()> {
-    let mut file = File::create_new(rt, path)?;
-    file.write_all(bytes)?;
-    file.sync_all()
 }
 
 /// Tells why the machine did not do something with a file.

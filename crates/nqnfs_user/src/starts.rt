@@ -19,7 +19,7 @@ pub(crate) fn next_inc(rt: &HostRuntime, host: Host) -> io::Result<Inc> {
     let Ok(line) = start_text(rt.alloc(), next) else {
         return Err(io::Error::from(ErrorKind::OutOfMemory));
     };
-    write_synced(rt, fresh.as_str(), &line)?;
+    write_synced(File::create(rt, fresh.as_str())?, &line)?;
     fs::rename(rt, fresh.as_str(), name.as_str())?;
     File::open(rt, ".")?.sync_all()?;
     Ok(Inc(next))
@@ -39,8 +39,8 @@ fn start_after(rt: &HostRuntime, name: &str) -> io::Result<u32> {
 }
 
 /// Writes a file and syncs it.
-fn write_synced(rt: &HostRuntime, name: &str, bytes: &[u8]) -> io::Result<()> {
-    let mut file = File::create(rt, name)?;
+pub(crate) fn write_synced(file: File, bytes: &[u8]) -> io::Result<()> {
+    let mut file = file;
     file.write_all(bytes)?;
     file.sync_all()
 }

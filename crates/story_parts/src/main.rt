@@ -1,92 +1,95 @@
-//! Worked stories of the parts: what they read, a server, clients, and what no clause can say, since it is the machine's. The expected bytes
-//! are written from RFC 1014, from RFC 1057 section 8 and from the table of procedures, not from what a part sent.
+//! Worked stories of the parts: what they read, a server, clients, images of disks, and what no clause can say, since it is the machine's. The
+//! expected bytes are written from RFC 1014, from RFC 1057 section 8, from the table of procedures and from the page on images, not from what
+//! a part gave.
 //!
-//! The stories stand in the standard input; a line behind a `#` is for the reader. A line that begins with `=` begins one of a server that
-//! booted for the first time and keeps nothing. Each line behind it happens to the server and is printed with what comes of it: `tick` or
-//! `crash` with its time; or a host and the words of its datagram, answered by the host and the words of each datagram that the server sends,
-//! with `|` between two, or by why it drops what came. `fronts` brings each front of a datagram in turn. `tell` prints the journal.
+//! The stories stand in the standard input, a line for each thing that happens; a line behind a `#` is for the reader. Bytes are words in
+//! hexadecimal, the highest byte first: `N*WORD` stands for N times a word, and `+XX` for a single byte. Where bytes are printed, `*WORD` is a
+//! block that repeats a word.
+//!
+//! A line that begins with `file`, `message`, `request` or `reply` is read as one, the last two behind the number of a procedure. What was read
+//! is written again, and `again` says that this gives the same.
+//!
+//! A line that begins with `=` begins the story of a server that booted for the first time and keeps nothing. Behind it `tick` or `crash` comes
+//! with its time, or a host with the bytes of its datagram, answered by the host and the bytes of each datagram that the server sends, with `|`
+//! between two, or by a word where it sends none. `tell` prints the journal.
 //!
 //! A line that begins with `client` is a whole story of a client: its name, whether the client of incarnation 1 is `attached` at time 0 or
 //! `start`s there, its host and the term that it wants, and what happens, parted by `;`. A user calls; `receive` brings a datagram in the
-//! packet of a number; `ticks` lets the clock tick so often; and `cached` reads a cached block. Printed is what comes of each, then the number
-//! and the procedure of each datagram that was sent, and then the journal.
+//! packet of a number; `ticks` lets the clock tick so often, or until something comes of it; and `cached` reads a cached block. Printed is what
+//! `cached` gives, then the number and the procedure of each datagram that was sent, and then the journal.
 //!
-//! A line that begins with `file`, `message`, `request` or `reply` is read as one: its numbers, and words in hexadecimal. What was read is
-//! written again, and `again` says that this gives the same.
+//! `base NAME` begins an image of no bytes, and `image NAME` one with the bytes that were kept last. `size LENGTH` cuts it, or adds zeros, `put
+//! PLACE BYTES` writes bytes, and `keep` keeps them. `open` opens a disk of the image, prints for what it stands, and leaves what the disk has.
 //!
-//! A line that begins with `machine` says which part of the machine is tried: sources over its readers, sinks over its writers, its clock, what
-//! comes over UDP, or a disk in one of its files.
+//! A line that begins with `machine` says which part of the machine is tried: its clock, what comes over UDP, or a disk in one of its files.
 #![tactic(auto)]
 
-mod client;
-mod datagrams;
-mod disks;
-mod items;
-mod journals;
-mod messages;
-mod server;
-mod strangers;
-mod streams;
-mod watch;
+mod clients;
+mod codecs;
+mod images;
+mod machine;
+mod servers;
 mod words;
 
-use crate::server::Story;
-use anyhow::Result;
+use crate::images::Bench;
+use crate::servers::Story;
+use crate::words::{bytes_of, number_of};
+use anyhow::{Context, Result, bail};
+use nq_base::Journal;
+use nq_io::MemSink;
+use nq_journal::{is_in, print};
 use std::str;
+
+/// The most bytes of what a party tells.
+const ROOM: usize = 100_000;
 
 fn main(rt: HostRuntime) -> Result<()> {
     let mut story = Story::begin(rt.alloc())?;
+    let mut bench = Bench::new(rt.alloc());
     for line in rt.lines(rt.alloc()) {
         let line = line?;
-        if line.starts_with('=') {
-            story = Story::begin(rt.alloc())?;
-            println!(rt; "{line}")?;
-        } else if !line.starts_with('#') {
-            let (verb, rest) = line.split_once(' ').unwrap_or((&line, ""));
-            play(&rt, &mut story, verb, rest)?;
-        }
-    }
-    journals::long(&rt)
-}
-
-/// Plays a line, and prints what comes of it.
-fn play(rt: &HostRuntime, story: &mut Story, verb: &str, rest: &str) -> Result<()> {
-    match verb {
-        "client" => client::play(rt, rest)?,
-        "machine" => machine(rt, rest)?,
-        "tell" => {
-            let journal = journals::told(rt.alloc(), story.log())?;
-            print!(rt; "{}", str::from_utf8(journal.bytes())?)?;
-        }
-        "tick" | "crash" => {
-            let time = u64::from_str_radix(rest, 10)?;
-            println!(rt; "{verb} {rest}: {}", story.goes_on(verb == "tick", time)?)?;
-        }
-        _ => println!(rt; "{verb} {rest} -> {}", said_of(rt, story, verb, rest)?)?,
+        play(&rt, &mut story, &mut bench, &line)?;
     }
     Ok(())
 }
 
-/// Tries a part of the machine.
-fn machine(rt: &HostRuntime, part: &str) -> Result<()> {
-    match part {
-        "sources" => streams::sources(rt),
-        "sinks" => streams::sinks(rt),
-        "clock" => watch::clocks(rt),
-        "UDP" => strangers::strangers(rt),
-        _ => disks::disks(rt),
+/// Plays a line, and prints what comes of it.
+fn play(rt: &HostRuntime, story: &mut Story, bench: &mut Bench, line: &str) -> Result<()> {
+    let words: Vec<&str> = line.split_whitespace().collect(rt.alloc())?;
+    let (verb, rest) = words.split_first().context("an empty line")?;
+    match *verb {
+        "#" => {}
+        "=" => {
+            *story = Story::begin(rt.alloc())?;
+            println!(rt; "{line}")?;
+        }
+        "client" => clients::play(rt, line)?,
+        "machine" => machine::try_part(rt, rest)?,
+        "base" | "image" | "size" | "put" | "keep" | "open" => bench.carry_out(rt, verb, rest)?,
+        "tell" => tell(rt, story.log())?,
+        "tick" | "crash" => {
+            let time = number_of(rest.first(), 10)?;
+            println!(rt; "{line}: {}", story.goes_on(*verb == "tick", time)?)?;
+        }
+        "file" | "message" | "request" | "reply" => {
+            println!(rt; "{line} -> {}", codecs::said_of(rt.alloc(), verb, rest)?)?;
+        }
+        host => {
+            let host = number_of(Some(&host), 16)?;
+            let datagram = bytes_of(rt.alloc(), rest)?;
+            println!(rt; "{line} -> {}", story.answer(host, &datagram)?)?;
+        }
     }
+    Ok(())
 }
 
-/// What a line is read as, or what the server answers to it.
-fn said_of(rt: &HostRuntime, story: &mut Story, verb: &str, rest: &str) -> Result<String> {
-    let alloc = rt.alloc();
-    match verb {
-        "file" => items::file(alloc, rest),
-        "message" => messages::message(alloc, rest),
-        "request" => datagrams::request(alloc, rest),
-        "reply" => datagrams::reply(alloc, rest),
-        "fronts" => story.fronts(rest),
-        _ => story.answer(verb, rest),
+/// Prints what a party told, in version 2.
+pub(crate) fn tell(rt: &HostRuntime, log: &Journal) -> Result<()> {
+    if !is_in(log, 2) {
+        bail!("no journal of this version");
     }
+    let mut sink = MemSink::new(rt.alloc(), ROOM, Vec::new(rt.alloc()))?;
+    print(rt.alloc(), log, 2, &mut sink);
+    print!(rt; "{}", str::from_utf8(sink.bytes())?)?;
+    Ok(())
 }

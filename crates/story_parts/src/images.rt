@@ -1,0 +1,132 @@
+//! An image of a disk that is built and opened.
+
+use crate::words::{bytes_of, number_of, push_words};
+use anyhow::{Context, Result, bail};
+use nq_base::Verdict;
+use nq_disk::{MemDisk, Room};
+use nq_image::{FoundFile, KeptImage, read_kept};
+use nq_store::{OpenFault, Store};
+use std::alloc::Global;
+use std::str;
+
+/// How much a disk takes.
+const ROOM: Room = Room {
+    size: 4_000_000,
+    calls: 10_000,
+    written: 16_000_000,
+};
+
+/// The image that is being built, and the one that was kept last.
+#[derive(Drop)]
+pub(crate) struct Bench {
+    image: Vec<u8>,
+    kept: Vec<u8>,
+}
+
+impl Bench {
+    /// Nothing is built, and nothing kept.
+    pub(crate) fn new(alloc: Global) -> Bench {
+        Bench {
+            image: Vec::new(alloc),
+            kept: Vec::new(alloc),
+        }
+    }
+
+    /// Carries out a line: a verb, and what stands behind it.
+    pub(crate) fn carry_out(&mut self, rt: &HostRuntime, verb: &str, rest: &[&str]) -> Result<()> {
+        match verb {
+            "base" => self.image.clear(),
+            "image" => {
+                println!(rt; "{}", rest.first().context("no name")?)?;
+                self.image = self.kept.to_vec(rt.alloc())?;
+            }
+            "size" => self.image.resize(number_of(rest.first(), 10)? as usize, 0)?,
+            "put" => {
+                let place = number_of(rest.first(), 10)? as usize;
+                let bytes = bytes_of(rt.alloc(), rest.get(1..).context("no bytes")?)?;
+                for (own, byte) in self.image.iter_mut().skip(place).zip(bytes.iter()) {
+                    *own = *byte;
+                }
+            }
+            "keep" => self.kept = self.image.to_vec(rt.alloc())?,
+            _ => self.open(rt)?,
+        }
+        Ok(())
+    }
+
+    /// Opens a disk of the image as a store, and prints for what it stands, or where the first wrong field is.
+    fn open(&mut self, rt: &HostRuntime) -> Result<()> {
+        let alloc = rt.alloc();
+        let bytes = self.image.to_vec(alloc)?;
+        if bytes.len() > 4_000_000 {
+            bail!("too many bytes");
+        }
+        let disk = MemDisk::new(alloc, bytes, ROOM, Vec::new(alloc), None)?;
+        match Store::open(alloc, disk) {
+            Ok(store) => self.image = store.into_disk().bytes().to_vec(alloc)?,
+            Err(OpenFault::NotAnImage(_)) => return Ok(println!(rt; "image byte 0")?),
+            Err(OpenFault::BadField(_, place)) => return Ok(println!(rt; "image byte {place}")?),
+            Err(_) => bail!("the disk failed, or memory was wanting"),
+        }
+        match read_kept(alloc, &self.image) {
+            Ok(kept) => tell(rt, &kept, &self.image),
+            Err(_) => bail!("no image behind its opening"),
+        }
+    }
+}
+
+/// Prints the numbers of the server, the rows of hosts that sent something, and the files with their blocks.
+fn tell(rt: &HostRuntime, kept: &KeptImage, bytes: &[u8]) -> Result<()> {
+    let heads = &kept.heads;
+    println!(rt;
+        "ok\n  heads boot {} opened {} longest {} next {}",
+        heads.boot, heads.opened, heads.longest, heads.next
+    )?;
+    for (host, row) in kept.hosts.iter().enumerate() {
+        if row.inc.0 > 0 || row.seq.0 > 0 {
+            println!(rt;
+                "  host {host} inc {} seq {} verdict {} value {}",
+                row.inc.0,
+                row.seq.0,
+                number_in(row.verdict),
+                row.value
+            )?;
+        }
+    }
+    for file in &kept.files {
+        tell_file(rt, file, &kept.blocks, bytes)?;
+    }
+    Ok(())
+}
+
+/// The number of a verdict in an image.
+fn number_in(verdict: Verdict) -> u8 {
+    match verdict {
+        Verdict::Done => 0,
+        Verdict::Fenced => 1,
+        Verdict::Exist => 2,
+        Verdict::NoSpace => 3,
+        Verdict::Invalid => 4,
+        Verdict::Stale => 5,
+        Verdict::TryLater => 6,
+    }
+}
+
+/// Prints a file and its blocks.
+fn tell_file(rt: &HostRuntime, file: &FoundFile, blocks: &[u32], bytes: &[u8]) -> Result<()> {
+    let row = &file.row;
+    let (id, name) = (row.id.0, str::from_utf8(row.name.as_bytes())?);
+    println!(rt;
+        "  file {id} name {name} blocks {} rev {}",
+        row.blocks, row.rev.0
+    )?;
+    let own = blocks.get(file.start as usize..).context("no blocks")?;
+    for (number, block) in own.iter().take(row.blocks as usize).enumerate() {
+        let place = 40960 + 4096 * *block as usize;
+        let body = bytes.get(place..).context("no body")?;
+        let mut text = String::new(rt.alloc());
+        push_words(&mut text, body.get(..4096).context("no whole body")?)?;
+        println!(rt; "  block {id} {number}{text}")?;
+    }
+    Ok(())
+}
