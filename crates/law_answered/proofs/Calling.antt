@@ -10,14 +10,14 @@ use Rattle.nq_model.specs.Hear.{hear, reply_counts, is_put_off, answers_call, ma
 use Rattle.nq_model.specs.Message.{Message, reply}
 use Rattle.nq_model.specs.Send.{sends_request, after_seq, after_number, takes_push, gives_up, send_next}
 use Rattle.nq_model.specs.Settle.{answers, after_read, reads_cached, after_write, marks_written, settle}
-use Rattle.walk_client.proofs.ClientFacts.{Alone}
-use Rattle.walk_client.proofs.ClientMoves.{some-same, none-some}
-use Rattle.walk_client.proofs.PartCases.{answers-call-cases, lease-done-cases}
-use Rattle.walk_client.proofs.RepliedCases.{replied-cases}
-use Rattle.walk_client.proofs.SendCases.{send-cases}
-use Rattle.walk_client.proofs.SettleCases.{settle-cases}
-use Rattle.walk_client.proofs.StepCases.{evicted-cases, heard-cases}
-use Rattle.law_calm.proofs.EffortReplies.{Goes, start, optional-goes, pushed-goes, refused-goes, read-goes, write-goes, known-goes, attached-goes, start-same}
+use Rattle.walk_steps.proofs.ClientFacts.{Alone}
+use Rattle.walk_steps.proofs.ClientMoves.{some-same, none-some}
+use Rattle.walk_steps.proofs.PartCases.{answers-call-cases, lease-done-cases}
+use Rattle.walk_steps.proofs.RepliedCases.{replied-cases}
+use Rattle.walk_steps.proofs.SendCases.{send-cases}
+use Rattle.walk_steps.proofs.SettleCases.{settle-cases}
+use Rattle.walk_steps.proofs.StepCases.{evicted-cases, heard-cases}
+use Rattle.law_rounds.proofs.EffortReplies.{Goes, start, optional-goes, pushed-goes, refused-goes, read-goes, write-goes, known-goes, attached-goes, start-same}
 
 -- a call that is open now was open before
 abbrev pub StillOpen : (before after : Option UnderWay) → Type 0

@@ -15,29 +15,29 @@ use Rattle.nq_model.specs.Skew.{IsWithinSkew}
 use Rattle.nq_model.specs.Table.{caches, is_writing}
 use Rattle.nq_model.specs.World.{Head, World, run}
 use Rattle.nq_promises.specs.Bounds.{KeepsBounds}
-use Rattle.law_calm.proofs.ClientCount.{client-count}
-use Rattle.law_calm.proofs.HostsBelow.{get-below}
-use Rattle.law_deliveries.specs.DeliveryEnds.{calmed, enough_deliveries}
-use Rattle.law_leases.proofs.LeaseIntervals.{run-runs}
-use Rattle.law_progress.specs.CallsAreAnswered.{IsAnswered}
-use Rattle.law_progress.specs.CalmRound.{calm_round, calm_rounds}
-use Rattle.law_progress.specs.CalmRoundsAreLawful.{IsLawful}
-use Rattle.law_progress.specs.EverythingIsStored.{HasStored}
-use Rattle.law_progress.proofs.AllAttached.{rounds-more}
-use Rattle.law_progress.proofs.CalmEnds.{IsRising, rounds-rising, calmed-rising, lawful-delivers}
-use Rattle.law_progress.proofs.CalmIsLawful.{flows, rounds}
-use Rattle.law_progress.proofs.IdleSteps.{Rests, hear-idles}
-use Rattle.law_progress.proofs.IdleWorlds.{answers-stay, stores-stay}
-use Rattle.walk_client.proofs.ClientMoves.{some-same, none-some}
-use Rattle.walk_leases.proofs.ServerLives.{between}
-use Rattle.walk_run.proofs.Worlds.{run-holds}
-use Rattle.walk_server.proofs.Rows.{number-same}
-use Rattle.walk_tables.proofs.ServerTables.{BootsFit, StandingFits}
+use Rattle.law_rounds.proofs.ClientCount.{client-count}
+use Rattle.law_rounds.proofs.HostsBelow.{get-below}
+use Rattle.law_rounds.specs.DeliveryEnds.{calmed, enough_deliveries}
+use Rattle.law_bounds.proofs.LeaseIntervals.{run-runs}
+use Rattle.law_rounds.specs.CallsAreAnswered.{IsAnswered}
+use Rattle.law_rounds.specs.CalmRound.{calm_round, calm_rounds}
+use Rattle.law_rounds.specs.CalmRoundsAreLawful.{IsLawful}
+use Rattle.law_rounds.specs.EverythingIsStored.{HasStored}
+use Rattle.law_rounds.proofs.AllAttached.{rounds-more}
+use Rattle.law_rounds.proofs.CalmEnds.{IsRising, rounds-rising, calmed-rising, lawful-delivers}
+use Rattle.law_rounds.proofs.CalmIsLawful.{flows, rounds}
+use Rattle.law_rounds.proofs.IdleSteps.{Rests, hear-idles}
+use Rattle.law_rounds.proofs.IdleWorlds.{answers-stay, stores-stay}
+use Rattle.walk_steps.proofs.ClientMoves.{some-same, none-some}
+use Rattle.walk_steps.proofs.ServerLives.{between}
+use Rattle.walk_steps.proofs.Worlds.{run-holds}
+use Rattle.walk_steps.proofs.Rows.{number-same}
+use Rattle.walk_steps.proofs.ServerTables.{BootsFit, StandingFits}
 use Rattle.law_rounds.specs.RoundsEndQuiet.{IsSmall, all_delivered, IsQuiet}
 use Rattle.law_rounds.proofs.Flows.{flow-small, round-small, rounds-small, Covered, third-covers}
 use Rattle.law_rounds.proofs.Quiet.{ends-quiet}
 use Rattle.law_answered.specs.StoredOnceAnswered.{StoredOnceAnswered}
-use Rattle.law_answered.proofs.Ends.{EndsWithin, hear-ends, tick-ends}
+use Rattle.law_answered.proofs.LeaseEnds.{EndsWithin, hear-ends, tick-ends}
 use Rattle.law_answered.proofs.Hosts.{all-found, all-get, At, flow-keeps, ticked}
 
 -- ---- how long a lease runs

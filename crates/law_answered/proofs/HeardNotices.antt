@@ -12,11 +12,11 @@ use Rattle.nq_model.specs.Skew.{IsWithinSkew}
 use Rattle.nq_model.specs.Table.{same_who, tag_below, find_row}
 use Rattle.nq_model.specs.World.{Head, run}
 use Rattle.nq_promises.specs.Bounds.{KeepsBounds}
-use Rattle.law_leases.proofs.LeaseIntervals.{run-runs}
-use Rattle.walk_client.proofs.ClientMoves.{some-same}
-use Rattle.walk_run.proofs.Worlds.{run-holds}
-use Rattle.walk_server.proofs.Rows.{found-row, number-same}
-use Rattle.walk_tables.proofs.ServerFacts.{IncsFit, AreCurrent}
+use Rattle.law_bounds.proofs.LeaseIntervals.{run-runs}
+use Rattle.walk_steps.proofs.ClientMoves.{some-same}
+use Rattle.walk_steps.proofs.Worlds.{run-holds}
+use Rattle.walk_steps.proofs.Rows.{found-row, number-same}
+use Rattle.walk_steps.proofs.ServerFacts.{IncsFit, AreCurrent}
 use Rattle.law_answered.specs.NoticesAreHeard.{RunsOn, NoticesAreHeard}
 
 module _ (most : ℕ) (head : Head) (events : List Event) (bounds : KeepsBounds most head events) (within : IsWithinSkew head.hosts most events) (host file : ℕ) (c : Client) (row : Row) (serves : (run head events).server.phase ≡ serving) (at : slice_get (run head events).clients host ≡ Some c) (found : find_row file host (run head events).server.table.rows ≡ Some row) where

@@ -8,12 +8,12 @@ use Rattle.nq_model.specs.Hear.{hear}
 use Rattle.nq_model.specs.Lines.{Play, play, play_flow, flow_first, play_hosts, play_rounds}
 use Rattle.nq_model.specs.Message.{Message}
 use Rattle.nq_model.specs.World.{Head, World, after_client, after_server, at_client, step}
-use Rattle.law_progress.specs.CalmRoundsAreLawful.{IsLawful}
-use Rattle.law_progress.proofs.CalmIsLawful.{played-quiet, flows}
-use Rattle.walk_client.proofs.ClientFacts.{Alone}
-use Rattle.walk_client.proofs.ClientMoves.{some-same, none-some}
-use Rattle.walk_run.proofs.Worlds.{Holds, get-set-same, get-set-other, run-holds}
-use Rattle.walk_server.proofs.Rows.{same-number, number-same}
+use Rattle.law_rounds.specs.CalmRoundsAreLawful.{IsLawful}
+use Rattle.law_rounds.proofs.CalmIsLawful.{played-quiet, flows}
+use Rattle.walk_steps.proofs.ClientFacts.{Alone}
+use Rattle.walk_steps.proofs.ClientMoves.{some-same, none-some}
+use Rattle.walk_steps.proofs.Worlds.{Holds, get-set-same, get-set-other, run-holds}
+use Rattle.walk_steps.proofs.Rows.{same-number, number-same}
 use Rattle.law_rounds.specs.WholeRounds.{play_order}
 use Rattle.law_rounds.proofs.Coming.{Delivery, no_packet, at_server, at_host, ignored, no_client, delivery}
 

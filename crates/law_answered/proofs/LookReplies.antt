@@ -20,21 +20,21 @@ use Rattle.nq_model.specs.Profile.{xid_end}
 use Rattle.nq_model.specs.Server.{Server, to_host, notices, after_notices, keeping, keeping_with, with_table, quiet, drops, says}
 use Rattle.nq_model.specs.ServerStep.{attaches, vacates, tells_later, serves, leases, receive}
 use Rattle.nq_model.specs.World.{Head, World, from_host, after_client, after_server, sending_host, step, run}
-use Rattle.law_calm.proofs.HostsBelow.{get-below}
-use Rattle.law_leases.proofs.LeaseIntervals.{run-runs}
-use Rattle.law_progress.specs.CalmRoundsAreLawful.{IsLawful}
-use Rattle.law_progress.specs.QuietDeliveries.{recovers}
-use Rattle.law_progress.proofs.PacketsCome.{Comes}
-use Rattle.law_progress.proofs.Attaching.{hear-stays}
-use Rattle.law_progress.proofs.CalmIsLawful.{played-quiet}
-use Rattle.law_progress.proofs.QuietFlows.{delivered-phase}
-use Rattle.law_requests.proofs.WorldSequences.{run-draws}
-use Rattle.walk_client.proofs.ClientMoves.{none-some}
-use Rattle.walk_run.proofs.Members.{in-filter}
-use Rattle.walk_run.proofs.Packets.{In, in-left, in-append, in-last, in-get, Asked, Told, reply-same}
-use Rattle.walk_run.proofs.Worlds.{Holds, run-holds, to-server, to-told}
-use Rattle.walk_server.proofs.ServerCases.{server-hears}
-use Rattle.walk_server.proofs.ServerOutcomes.{error-no-reply, IsPlain, unattached, attached_again, not_yet, no_entry, entry, no_attributes, attributes, no_file, no_block, decided_again, is_old, line_of}
+use Rattle.law_rounds.proofs.HostsBelow.{get-below}
+use Rattle.law_bounds.proofs.LeaseIntervals.{run-runs}
+use Rattle.law_rounds.specs.CalmRoundsAreLawful.{IsLawful}
+use Rattle.law_rounds.specs.QuietDeliveries.{recovers}
+use Rattle.law_rounds.proofs.PacketsCome.{Comes}
+use Rattle.law_rounds.proofs.Attaching.{hear-stays}
+use Rattle.law_rounds.proofs.CalmIsLawful.{played-quiet}
+use Rattle.law_rounds.proofs.QuietFlows.{delivered-phase}
+use Rattle.law_bounds.proofs.WorldSequences.{run-draws}
+use Rattle.walk_steps.proofs.ClientMoves.{none-some}
+use Rattle.walk_steps.proofs.Members.{in-filter}
+use Rattle.walk_steps.proofs.Packets.{In, in-left, in-append, in-last, in-get, Asked, Told, reply-same}
+use Rattle.walk_steps.proofs.Worlds.{Holds, run-holds, to-server, to-told}
+use Rattle.walk_steps.proofs.ServerCases.{server-hears}
+use Rattle.walk_steps.proofs.ServerOutcomes.{error-no-reply, IsPlain, unattached, attached_again, not_yet, no_entry, entry, no_attributes, attributes, no_file, no_block, decided_again, is_old, line_of}
 use Rattle.law_rounds.proofs.Coming.{Delivery, no_packet, at_server, at_host, ignored, no_client, delivery}
 use Rattle.law_answered.proofs.Hosts.{At, stepped}
 use Rattle.law_answered.proofs.LookTickets.{is_look, Looking, hear-looking}

@@ -11,22 +11,22 @@ use Rattle.nq_model.specs.Profile.{skew, write_slack}
 use Rattle.nq_model.specs.Server.{Server, ServerStep, quiet, keeping_with, with_table}
 use Rattle.nq_model.specs.ServerStep.{tick, at_time, opens, ends_writing}
 use Rattle.nq_model.specs.World.{Head, World, from_host, after_client, after_server, at_client, step}
-use Rattle.law_calm.proofs.ClientCount.{client-count}
-use Rattle.law_calm.proofs.HostsBelow.{get-below}
-use Rattle.law_deliveries.specs.DeliveryEnds.{calmed, enough_deliveries}
-use Rattle.law_progress.specs.CalmRound.{calm_round, calm_rounds}
-use Rattle.law_progress.specs.CalmRoundsAreLawful.{IsLawful}
-use Rattle.law_progress.specs.QuietDeliveries.{recovers}
-use Rattle.law_progress.proofs.AllAttached.{rounds-more}
-use Rattle.law_progress.proofs.PacketsCome.{Comes}
-use Rattle.law_progress.proofs.Attaching.{tick-stays}
-use Rattle.law_progress.proofs.CalmEnds.{IsRising, rounds-rising, calmed-rising, lawful-delivers}
-use Rattle.law_progress.proofs.CalmIsLawful.{flows, calm-round, rounds}
-use Rattle.walk_client.proofs.ClientFacts.{Alone}
-use Rattle.walk_client.proofs.ClientMoves.{none-some}
-use Rattle.walk_run.proofs.Packets.{In}
-use Rattle.walk_run.proofs.Worlds.{run-holds}
-use Rattle.walk_server.proofs.ServerCases.{server-ticks}
+use Rattle.law_rounds.proofs.ClientCount.{client-count}
+use Rattle.law_rounds.proofs.HostsBelow.{get-below}
+use Rattle.law_rounds.specs.DeliveryEnds.{calmed, enough_deliveries}
+use Rattle.law_rounds.specs.CalmRound.{calm_round, calm_rounds}
+use Rattle.law_rounds.specs.CalmRoundsAreLawful.{IsLawful}
+use Rattle.law_rounds.specs.QuietDeliveries.{recovers}
+use Rattle.law_rounds.proofs.AllAttached.{rounds-more}
+use Rattle.law_rounds.proofs.PacketsCome.{Comes}
+use Rattle.law_rounds.proofs.Attaching.{tick-stays}
+use Rattle.law_rounds.proofs.CalmEnds.{IsRising, rounds-rising, calmed-rising, lawful-delivers}
+use Rattle.law_rounds.proofs.CalmIsLawful.{flows, calm-round, rounds}
+use Rattle.walk_steps.proofs.ClientFacts.{Alone}
+use Rattle.walk_steps.proofs.ClientMoves.{none-some}
+use Rattle.walk_steps.proofs.Packets.{In}
+use Rattle.walk_steps.proofs.Worlds.{run-holds}
+use Rattle.walk_steps.proofs.ServerCases.{server-ticks}
 use Rattle.law_rounds.specs.RoundsEndQuiet.{IsSmall, all_delivered, IsQuiet}
 use Rattle.law_rounds.proofs.Flows.{round-small, rounds-small}
 use Rattle.law_rounds.proofs.RecoveryRounds.{recoveries-end}

@@ -12,14 +12,14 @@ use Rattle.nq_model.specs.Hear.{hear, inc_of, is_put_off, refusal_counts, reply_
 use Rattle.nq_model.specs.Message.{Message, call, reply}
 use Rattle.nq_model.specs.Send.{is_asking, sends_request, after_seq, after_number, takes_push, gives_up, send_next}
 use Rattle.nq_model.specs.Settle.{answers, reads_cached, after_read, after_write, marks_written, settle}
-use Rattle.walk_client.proofs.ClientFacts.{Alone}
-use Rattle.walk_client.proofs.ClientMoves.{some-same, none-some, keeps-or-cancels}
-use Rattle.walk_client.proofs.SendCases.{send-cases}
-use Rattle.walk_client.proofs.SettleCases.{settle-cases, settle-settles, Settled, IsWrite, IsSync, of_sync, of_put}
-use Rattle.walk_client.proofs.StepCases.{tick-cases, evicted-cases, heard-cases}
-use Rattle.walk_server.proofs.Tests.{is-at-most, is-not-at-most}
-use Rattle.law_calm.proofs.Busy.{asks-next}
-use Rattle.law_calm.proofs.Meant.{replied-free}
+use Rattle.walk_steps.proofs.ClientFacts.{Alone}
+use Rattle.walk_steps.proofs.ClientMoves.{some-same, none-some, keeps-or-cancels}
+use Rattle.walk_steps.proofs.SendCases.{send-cases}
+use Rattle.walk_steps.proofs.SettleCases.{settle-cases, settle-settles, Settled, IsWrite, IsSync, of_sync, of_put}
+use Rattle.walk_steps.proofs.StepCases.{tick-cases, evicted-cases, heard-cases}
+use Rattle.walk_steps.proofs.Tests.{is-at-most, is-not-at-most}
+use Rattle.law_rounds.proofs.Busy.{asks-next}
+use Rattle.law_rounds.proofs.Meant.{replied-free}
 use Rattle.law_answered.specs.LooksAreAnswered.{looks}
 use Rattle.law_answered.proofs.Calling.{StillOpen, Keeps, settles, sends, hear-keeps}
 

@@ -15,10 +15,10 @@ use Rattle.nq_model.specs.LeaseInterval.{requested_file}
 use Rattle.nq_model.specs.Message.{Message, Packet, reply, request, asker, sequence_of}
 use Rattle.nq_model.specs.Server.{serving, recovering, Server, to_host, notices, after_notices, keeping, keeping_with, with_table, quiet, drops, says}
 use Rattle.nq_model.specs.ServerStep.{access_of, attaches, vacates, tells_later, serves, leases, receive}
-use Rattle.walk_client.proofs.ClientMoves.{some-same, none-some}
-use Rattle.walk_run.proofs.Packets.{told-same, reply-same}
-use Rattle.walk_server.proofs.ServerCases.{server-hears}
-use Rattle.walk_server.proofs.ServerOutcomes.{error_for, file_changed_by, wanted_by, IsRecovering, IsPlain, unattached, attached_again, not_yet, no_entry, entry, no_attributes, attributes, no_file, no_block, decided_again, is_old, IsDeclined, bad_length, name_taken, no_room, not_kept, outside, no_row, not_under, not_over, not_while_recovering, bad_size, no_room_to_grow}
+use Rattle.walk_steps.proofs.ClientMoves.{some-same, none-some}
+use Rattle.walk_steps.proofs.Packets.{told-same, reply-same}
+use Rattle.walk_steps.proofs.ServerCases.{server-hears}
+use Rattle.walk_steps.proofs.ServerOutcomes.{error_for, file_changed_by, wanted_by, IsRecovering, IsPlain, unattached, attached_again, not_yet, no_entry, entry, no_attributes, attributes, no_file, no_block, decided_again, is_old, IsDeclined, bad_length, name_taken, no_room, not_kept, outside, no_row, not_under, not_over, not_while_recovering, bad_size, no_room_to_grow}
 use Rattle.law_answered.specs.PutOff.{file_of, access_by, put_off_reply, IsPutOff, by_others, by_own, PutOffForRows}
 
 -- ---- replies that put nothing off

@@ -11,18 +11,18 @@ use Rattle.nq_model.specs.Lines.{Play}
 use Rattle.nq_model.specs.Skew.{is_within_skew}
 use Rattle.nq_model.specs.Stepped.{most_events, most_sent}
 use Rattle.nq_model.proofs.SkewTest.{skew-test-is-sound}
-use Rattle.walk_client.proofs.ClientMoves.{some-same, none-some}
-use Rattle.walk_run.proofs.GivenRuns.{given-run}
-use Rattle.walk_run.proofs.NoCrash.{one-first}
-use Rattle.walk_server.proofs.Tests.{is-at-most}
-use Rattle.law_deliveries.specs.DeliveryEnds.{calmed}
-use Rattle.law_progress.specs.CallsAreAnswered.{IsAnswered}
-use Rattle.law_progress.specs.CalmRoundsAreLawful.{IsLawful}
-use Rattle.law_progress.specs.SomeNeedHalf.{late_head, is_open}
-use Rattle.law_progress.proofs.CalmEnds.{IsRising, calmed-rising}
-use Rattle.law_progress.proofs.SoonRounds.{soon_rounds, soon_ends, all-soon}
+use Rattle.walk_steps.proofs.ClientMoves.{some-same, none-some}
+use Rattle.walk_steps.proofs.GivenRuns.{given-run}
+use Rattle.walk_steps.proofs.NoCrash.{one-first}
+use Rattle.walk_steps.proofs.Tests.{is-at-most}
+use Rattle.law_rounds.specs.DeliveryEnds.{calmed}
+use Rattle.law_rounds.specs.CallsAreAnswered.{IsAnswered}
+use Rattle.law_rounds.specs.CalmRoundsAreLawful.{IsLawful}
+use Rattle.law_rounds.specs.SomeNeedHalf.{late_head, is_open}
+use Rattle.law_rounds.proofs.CalmEnds.{IsRising, calmed-rising}
+use Rattle.law_rounds.proofs.SoonRounds.{soon_rounds, soon_ends, all-soon}
 use Rattle.law_rounds.specs.RoundsEndQuiet.{IsSmall}
-use Rattle.law_answered.specs.Met.{held_events, has_delayed, AnswersAreMet}
+use Rattle.law_answered.specs.AnswersMet.{held_events, has_delayed, AnswersAreMet}
 use Rattle.law_answered.proofs.Hosts.{all-found}
 
 held-boots : All (BootsWithin 6) held_events

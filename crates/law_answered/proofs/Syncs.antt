@@ -11,19 +11,19 @@ use Rattle.nq_model.specs.Profile.{patience}
 use Rattle.nq_model.specs.Send.{send_next}
 use Rattle.nq_model.specs.Settle.{answers, settle}
 use Rattle.nq_model.specs.World.{Head, World, from_host, after_client, at_client, step, run}
-use Rattle.law_deliveries.specs.DeliveryEnds.{calmed, enough_deliveries}
-use Rattle.law_progress.specs.CallsAreAnswered.{IsAnswered}
-use Rattle.law_progress.specs.CalmRound.{calm_rounds}
-use Rattle.law_progress.specs.CalmRoundsAreLawful.{IsLawful}
-use Rattle.law_progress.proofs.AllAttached.{rounds-more}
-use Rattle.law_progress.proofs.CalmEnds.{IsRising, played-rising, rounds-rising, calmed-rising}
-use Rattle.law_progress.proofs.CalmIsLawful.{played-quiet, rounds}
-use Rattle.law_progress.proofs.IdleWorlds.{answers-stay}
-use Rattle.walk_client.proofs.ClientMoves.{some-same, none-some}
-use Rattle.walk_client.proofs.StepCases.{call-cases, unless-cached-cases}
-use Rattle.walk_run.proofs.Packets.{In}
-use Rattle.walk_run.proofs.Worlds.{get-set-other, set-there, run-holds}
-use Rattle.walk_server.proofs.Rows.{same-number, number-same}
+use Rattle.law_rounds.specs.DeliveryEnds.{calmed, enough_deliveries}
+use Rattle.law_rounds.specs.CallsAreAnswered.{IsAnswered}
+use Rattle.law_rounds.specs.CalmRound.{calm_rounds}
+use Rattle.law_rounds.specs.CalmRoundsAreLawful.{IsLawful}
+use Rattle.law_rounds.proofs.AllAttached.{rounds-more}
+use Rattle.law_rounds.proofs.CalmEnds.{IsRising, played-rising, rounds-rising, calmed-rising}
+use Rattle.law_rounds.proofs.CalmIsLawful.{played-quiet, rounds}
+use Rattle.law_rounds.proofs.IdleWorlds.{answers-stay}
+use Rattle.walk_steps.proofs.ClientMoves.{some-same, none-some}
+use Rattle.walk_steps.proofs.StepCases.{call-cases, unless-cached-cases}
+use Rattle.walk_steps.proofs.Packets.{In}
+use Rattle.walk_steps.proofs.Worlds.{get-set-other, set-there, run-holds}
+use Rattle.walk_steps.proofs.Rows.{same-number, number-same}
 use Rattle.law_rounds.specs.RoundsEndQuiet.{IsSmall, all_delivered, waits_to_store, IsQuiet}
 use Rattle.law_rounds.proofs.ClientTickets.{TicketIs, kept, resent, fresh, Renewed, call-renews}
 use Rattle.law_rounds.proofs.Coming.{in-map, keeps-coming, adds-coming}

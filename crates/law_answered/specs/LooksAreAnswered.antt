@@ -7,8 +7,8 @@ use Rattle.nq_model.specs.Client.{Client, UnderWay}
 use Rattle.nq_model.specs.Profile.{skew, write_slack}
 use Rattle.nq_model.specs.Skew.{IsWithinSkew}
 use Rattle.nq_model.specs.World.{Head, run}
-use Rattle.law_deliveries.specs.DeliveryEnds.{AreUnderWay, calmed}
-use Rattle.law_progress.specs.CalmRound.{calm_rounds}
+use Rattle.law_rounds.specs.DeliveryEnds.{AreUnderWay, calmed}
+use Rattle.law_rounds.specs.CalmRound.{calm_rounds}
 use Rattle.law_rounds.specs.RoundsEndQuiet.{IsSmall}
 
 -- whether a call looks up a name, or asks for the attributes of a file

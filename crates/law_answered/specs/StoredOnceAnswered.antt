@@ -6,10 +6,10 @@ use Rattle.nq_promises.specs.Bounds.{KeepsBounds}
 use Rattle.nq_model.specs.Lines.{play}
 use Rattle.nq_model.specs.Skew.{IsWithinSkew}
 use Rattle.nq_model.specs.World.{Head, run}
-use Rattle.law_deliveries.specs.DeliveryEnds.{AreUnderWay, calmed}
-use Rattle.law_progress.specs.CallsAreAnswered.{IsAnswered}
-use Rattle.law_progress.specs.CalmRound.{calm_rounds}
-use Rattle.law_progress.specs.EverythingIsStored.{HasStored}
+use Rattle.law_rounds.specs.DeliveryEnds.{AreUnderWay, calmed}
+use Rattle.law_rounds.specs.CallsAreAnswered.{IsAnswered}
+use Rattle.law_rounds.specs.CalmRound.{calm_rounds}
+use Rattle.law_rounds.specs.EverythingIsStored.{HasStored}
 use Rattle.law_rounds.specs.RoundsEndQuiet.{IsSmall, all_delivered}
 
 -- after every schedule within skew, whatever is under way: where after two calm rounds or more no call is open, no client has delayed writes

@@ -1,44 +1,29 @@
-//! Who is answered once the network is calm: each `lookup` and each `attr`, as soon as the server serves. And what is delayed is stored, and who
-//! syncs is answered, as soon as no call is open any more. The statements stand in `specs/`, and their proofs in `proofs/`.
+//! Answers: what they tell, and that every call is answered once the network is calm. The statements stand in `specs/`, and their
+//! proofs in `proofs/`.
 #![tactic(auto)]
 
-ghost use Rattle.law_answered.specs.LooksAreAnswered.{LooksAreAnswered};
-ghost use Rattle.law_answered.specs.Met.{AnswersAreMet};
-ghost use Rattle.law_answered.specs.NoticesAreHeard.{NoticesAreHeard};
-ghost use Rattle.law_answered.specs.PutOff.{PutOffForRows};
-ghost use Rattle.law_answered.specs.StoredOnceAnswered.{StoredOnceAnswered, SyncsAnsweredOnce};
+mod answered;
+mod open_calls;
+mod queues;
+mod shared;
+mod terms;
+mod told;
 
-/// In every run, whatever is under way: where from the third calm round on no call is open, no client has delayed writes after as many calm
-/// rounds more as the longest term of all boots has ticks, and one, and after any number more.
-pub fn stored_once_answered()
-    ensures { StoredOnceAnswered }
-{}
-
-/// In every run, whatever is under way: where from the third calm round on no call is open, a `sync` of any file by any host is answered in the
-/// next calm round.
-pub fn syncs_answered_once()
-    ensures { SyncsAnsweredOnce }
-{}
-
-/// In every state of a server that serves: no request is put off but for a row of another host that conflicts with it, or for the asker's own
-/// row, which is to go; and whoever holds such a row is told first, in the same step.
-pub fn put_off_for_rows()
-    ensures { PutOffForRows }
-{}
-
-/// In every run, while the server serves: a client does not ignore a notice that names its row of a file with its latest tag, where it holds no
-/// lease on the file, or one that lets it cache and runs.
-pub fn notices_are_heard()
-    ensures { NoticesAreHeard }
-{}
-
-/// In every run, whatever is under way: no `lookup` and no `attr` is open after as many calm rounds as the longest term of all boots and 11
-/// more, and after any number more.
-pub fn looks_are_answered()
-    ensures { LooksAreAnswered }
-{}
-
-/// A schedule with a recovery meets all premises of these laws: a `lookup` is open in it, and a write is delayed once no call is open.
-pub fn answers_are_met()
-    ensures { AnswersAreMet }
-{}
+pub use answered::{
+    answers_are_met, looks_are_answered, notices_are_heard, put_off_for_rows, stored_once_answered,
+    syncs_answered_once,
+};
+pub use open_calls::{
+    calls_answered, few_calls_answered, links_matter, open_calls_are_met, served_calls_answered,
+    stored_in_time, syncs_in_time, whole_calls_answered, whole_rounds_are_met, whole_stored,
+};
+pub use queues::{no_tag_is_later, row_notices_are_heard};
+pub use shared::{
+    leaseless_answered, leaseless_in_time, leaseless_is_met, shared_files_answered,
+    shared_files_are_met, waiters_share,
+};
+pub use terms::{answered_in_terms, long_terms_answered, terms_are_met};
+pub use told::{
+    answers_have_causes, answers_tell_what_was, no_room_is_met, refusals_are_met,
+    refusals_have_causes, replies_tell_what_was, tellings_are_met,
+};

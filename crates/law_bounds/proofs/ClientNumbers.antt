@@ -12,13 +12,13 @@ use Rattle.nq_model.specs.ClientStep.{client_call, client_tick, at_time, restart
 use Rattle.nq_model.specs.Hear.{inc_of, is_reply_to, reply_counts, hear, hear_reply, hear_notice, hear_call, goes_on, replied, holds_later, evicted, cancels}
 use Rattle.nq_model.specs.Message.{Message, Packet, call, reply, error, asker, sequence_of}
 use Rattle.nq_model.specs.Table.{same_who}
-use Rattle.walk_client.proofs.ClientCases.{Core, core_of, Closed, Both}
-use Rattle.walk_client.proofs.ClientMoves.{some-same, none-some, keeps-or-cancels}
-use Rattle.walk_client.proofs.ClientWalk.{Replying, reply-keeps, notice-keeps, call-keeps, tick-keeps}
-use Rattle.walk_run.proofs.Packets.{In, in-last, call-same, Told}
-use Rattle.walk_run.proofs.ServerKnows.{NoneHeard, NoneGiven}
-use Rattle.walk_run.proofs.Worlds.{IsAt, given-by}
-use Rattle.walk_server.proofs.Rows.{choice, same-number}
+use Rattle.walk_steps.proofs.ClientCases.{Core, core_of, Closed, Both}
+use Rattle.walk_steps.proofs.ClientMoves.{some-same, none-some, keeps-or-cancels}
+use Rattle.walk_steps.proofs.ClientWalk.{Replying, reply-keeps, notice-keeps, call-keeps, tick-keeps}
+use Rattle.walk_steps.proofs.Packets.{In, in-last, call-same, Told}
+use Rattle.walk_steps.proofs.ServerKnows.{NoneHeard, NoneGiven}
+use Rattle.walk_steps.proofs.Worlds.{IsAt, given-by}
+use Rattle.walk_steps.proofs.Rows.{choice, same-number}
 
 -- in the middle of a step: the incarnation is the same, each sequence that was drawn is below this number and the number of
 -- messages so far, and what was sent is of the incarnation

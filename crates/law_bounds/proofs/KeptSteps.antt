@@ -9,7 +9,7 @@ use Rattle.nq_model.specs.Server.{Server, ServerStep, quiet, drops, says, keepin
 use Rattle.nq_model.specs.ServerStep.{attaches, vacates, tells_later, serves, leases, receive, ends_writing, opens, at_time, tick, boot, crash}
 use Rattle.nq_model.specs.Stepped.{most_events}
 use Rattle.nq_model.proofs.EachChange.{bounds-are-kept}
-use Rattle.walk_server.proofs.ServerCases.{server-hears, server-ticks}
+use Rattle.walk_steps.proofs.ServerCases.{server-hears, server-ticks}
 use Rattle.law_bounds.specs.Within.{GrewTo, IsServerAfter}
 use Rattle.law_bounds.proofs.KeptNumbers.{grew-on, grew-row, grew-changed, written-next, resized-next, grew-dropped, grew-created, grew-fenced, grew-booted}
 

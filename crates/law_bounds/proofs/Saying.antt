@@ -16,7 +16,7 @@ use Rattle.nq_model.specs.Message.{Message, Packet, Datagram, call, reply}
 use Rattle.nq_model.specs.Profile.{xid_end}
 use Rattle.nq_model.specs.Server.{Server, to_host, notices, quiet, drops, says}
 use Rattle.nq_model.specs.ServerStep.{grants, attaches, vacates, tells_later, serves, leases, receive, ends_writing, opens, tick, crash}
-use Rattle.walk_server.proofs.ServerCases.{server-hears, server-ticks}
+use Rattle.walk_steps.proofs.ServerCases.{server-hears, server-ticks}
 use Rattle.law_bounds.specs.Says.{SaysPlainly, ServerSaysPlainly}
 
 -- packets of the server

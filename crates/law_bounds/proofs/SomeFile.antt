@@ -9,9 +9,9 @@ use Rattle.nq_base.specs.declared.Event.{Event}
 use Rattle.nq_base.specs.declared.Request.{Request}
 use Rattle.nq_model.specs.Message.{Packet, call}
 use Rattle.nq_model.specs.World.{Head, from_host, start, run}
-use Rattle.walk_client.proofs.ClientMoves.{some-same}
+use Rattle.walk_steps.proofs.ClientMoves.{some-same}
 use Rattle.law_bounds.specs.Within.{CarriesText, NumbersAreMet}
-use Rattle.walk_run.proofs.GivenRuns.{given-run}
+use Rattle.walk_steps.proofs.GivenRuns.{given-run}
 
 -- one host, and no file
 abbrev one-host : Head

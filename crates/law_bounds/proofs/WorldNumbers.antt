@@ -15,13 +15,13 @@ use Rattle.nq_model.specs.Message.{Message, Datagram, request, Packet, call, ask
 use Rattle.nq_model.specs.Server.{ServerStep}
 use Rattle.nq_model.specs.Stepped.{most_events}
 use Rattle.nq_model.specs.World.{Head, World, from_host, after_server, after_client, at_client, after_hearing, sending_host, deliver_to_client, deliver_to, deliver, step, start, run}
-use Rattle.walk_run.proofs.Mail.{sent-calls}
-use Rattle.walk_run.proofs.Packets.{In, in-append, in-get, Asked}
-use Rattle.walk_run.proofs.Sequences.{asked-before-server}
-use Rattle.walk_run.proofs.ServerSays.{AllSaid}
-use Rattle.walk_run.proofs.Worlds.{Holds, get-set-same, get-set-other, to-told, received-said, tick-said, crash-said, first-client, run-holds}
-use Rattle.walk_server.proofs.Rows.{same-number, number-same}
-use Rattle.walk_server.proofs.ServerCases.{request-sent}
+use Rattle.walk_steps.proofs.Mail.{sent-calls}
+use Rattle.walk_steps.proofs.Packets.{In, in-append, in-get, Asked}
+use Rattle.walk_steps.proofs.Sequences.{asked-before-server}
+use Rattle.walk_steps.proofs.ServerSays.{AllSaid}
+use Rattle.walk_steps.proofs.Worlds.{Holds, get-set-same, get-set-other, to-told, received-said, tick-said, crash-said, first-client, run-holds}
+use Rattle.walk_steps.proofs.Rows.{same-number, number-same}
+use Rattle.walk_steps.proofs.ServerCases.{request-sent}
 use Rattle.law_bounds.specs.Within.{CarriesText, IsGiven, IsServerAfter, NumbersStayWithin}
 use Rattle.law_bounds.proofs.ClientNumbers.{HasDrawn, DrewUpTo, DrewIf, call-draws, tick-draws, restart-draws, hear-draws}
 use Rattle.law_bounds.proofs.FirstNumbers.{first-within}

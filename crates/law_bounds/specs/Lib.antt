@@ -1,2 +1,5 @@
+pub mod RecoveriesAreMet
+pub mod IntervalsMet
 pub mod Within
 pub mod Says
+pub mod RequestsMet

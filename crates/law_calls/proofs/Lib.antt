@@ -1,3 +1,14 @@
 pub mod RunCalls
 pub mod OrderedCalls
 pub mod SomeCalls
+pub mod Answered
+pub mod AnsweredWorlds
+pub mod WorldWrites
+pub mod RunningWrites
+pub mod FateLaws
+pub mod SomeFates
+pub mod EachOf
+pub mod FilledServer
+pub mod FilledClient
+pub mod FilledRuns
+pub mod SomeFilled

@@ -3,17 +3,17 @@ use Rattle.std.proofs.Common.{◌≡◌, Bool, true, ◌&&◌, List, [], ◌∷�
 use Rattle.std.specs.Prelude.{IsTrue}
 use Rattle.std.proofs.lemmas.Bool.{and_parts}
 use Rattle.nq_base.specs.Block.{filled, zeros}
-use Rattle.walk_run.proofs.NoCrash.{no-crash-within}
+use Rattle.walk_steps.proofs.NoCrash.{no-crash-within}
 use Rattle.nq_model.specs.ServerStep.{at_time as at_time_of_serverstep, boot, crash}
 use Rattle.nq_model.specs.World.{Head, run}
 use Rattle.nq_base.specs.declared.Call.{Call}
 use Rattle.nq_base.specs.declared.Entry.{Entry}
 use Rattle.nq_base.specs.declared.Event.{Event}
-use Rattle.law_calls.specs.Met.{AreMet, went_through, is_resize, is_cached, is_counted_served}
+use Rattle.law_calls.specs.CallsMet.{AreMet, went_through, is_resize, is_cached, is_counted_served}
 use Rattle.nq_model.proofs.SkewTest.{skew-test-is-sound}
 use Rattle.nq_model.specs.JournalTest.{exists}
 use Rattle.nq_model.specs.FateTest.{is_delayed}
-use Rattle.walk_run.proofs.GivenRuns.{given-run}
+use Rattle.walk_steps.proofs.GivenRuns.{given-run}
 
 -- one host, one file of one block
 abbrev one-host : Head

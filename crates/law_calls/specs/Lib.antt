@@ -1,1 +1,3 @@
-pub mod Met
+pub mod CallsMet
+pub mod FatesMet
+pub mod FilledMet

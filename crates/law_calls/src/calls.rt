@@ -1,6 +1,6 @@
 //! The order of calls.
 
-ghost use Rattle.law_calls.specs.Met.{AreMet};
+ghost use Rattle.law_calls.specs.CallsMet.{AreMet};
 ghost use Rattle.nq_promises.specs.CallsAreOrdered.{OrderedInEveryRun, ReadsAreOfTheirCallInEveryRun};
 
 /// After every schedule within skew the calls of each incarnation stand in the order of their numbers and have one answer at

@@ -1,3 +1,13 @@
+pub mod Parts
+pub mod Same
+pub mod Rows
+pub mod Tables
+pub mod Ids
+pub mod Numbers
+pub mod Two
+pub mod Written
+pub mod Leaving
+pub mod Saying
 pub mod Zeroing
 pub mod Files
 pub mod Seats

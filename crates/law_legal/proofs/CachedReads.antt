@@ -18,25 +18,25 @@ use Rattle.nq_base.specs.declared.Tag.{Tag}
 use Rattle.nq_base.specs.declared.Verdict.{Verdict}
 use Rattle.nq_base.specs.declared.Who.{Who}
 use Rattle.nq_promises.specs.Chained.{IsChained, is_done, has_done, has_done_write, due, KnowsFile}
-use Rattle.walk_client.proofs.ClientFacts.{push_in, fits_job, IsPush}
-use Rattle.walk_client.proofs.ClientMoves.{none-some, some-same}
-use Rattle.law_contents.proofs.Laws.{clean-in-every-run, done-in-every-run}
-use Rattle.law_contents.proofs.RunContents.{run-fits}
+use Rattle.walk_steps.proofs.ClientFacts.{push_in, fits_job, IsPush}
+use Rattle.walk_steps.proofs.ClientMoves.{none-some, some-same}
+use Rattle.law_files.proofs.Laws.{clean-in-every-run, done-in-every-run}
+use Rattle.law_files.proofs.RunContents.{run-fits}
 use Rattle.nq_promises.specs.RevisionsHaveOneContent.{first_length, IsOfRevision}
 use Rattle.nq_promises.specs.Contents.{content_at}
 use Rattle.nq_promises.specs.Told.{HasValue, IsDoneAs}
-use Rattle.walk_fates.proofs.FactPushes.{dirty-clear}
-use Rattle.walk_fates.proofs.JournalMoves.{store-covers}
-use Rattle.walk_fates.proofs.PushLists.{is-at, at-is}
-use Rattle.walk_fates.proofs.WritesFit.{CoversNumber, IsClear, IsDirty, IsDecidedAs, PushStands, waits, stored, LiesWithin, in_list, under_way, WritesFit}
+use Rattle.walk_calls.proofs.FactPushes.{dirty-clear}
+use Rattle.walk_calls.proofs.JournalMoves.{store-covers}
+use Rattle.walk_calls.proofs.PushLists.{is-at, at-is}
+use Rattle.walk_calls.proofs.WritesFit.{CoversNumber, IsClear, IsDirty, IsDecidedAs, PushStands, waits, stored, LiesWithin, in_list, under_way, WritesFit}
 use Rattle.nq_promises.specs.Bounds.{KeepsBounds}
-use Rattle.walk_legal.proofs.EarlierStores.{Earlier, push-behind}
-use Rattle.walk_legal.proofs.Entries.{stored-covered}
-use Rattle.law_held.proofs.HeldRuns.{held-blocks}
-use Rattle.law_held.proofs.RestingRuns.{run-rests}
-use Rattle.walk_legal.proofs.Held.{HasHeld}
-use Rattle.walk_legal.proofs.ReaderValues.{NoneWaits, held-stands, unsaved-stands, covered-either}
-use Rattle.walk_legal.proofs.Stores.{lost-covered, stored-value}
+use Rattle.walk_files.proofs.EarlierStores.{Earlier, push-behind}
+use Rattle.walk_files.proofs.Entries.{stored-covered}
+use Rattle.law_legal.proofs.HeldRuns.{held-blocks}
+use Rattle.law_legal.proofs.RestingRuns.{run-rests}
+use Rattle.walk_files.proofs.Held.{HasHeld}
+use Rattle.walk_files.proofs.ReaderValues.{NoneWaits, held-stands, unsaved-stands, covered-either}
+use Rattle.walk_files.proofs.Stores.{lost-covered, stored-value}
 use Rattle.nq_model.specs.Client.{Client, Clean, Job, for_call, Lease, Ticket, lease_on, revision_of, revision_or_zero, is_push_at, dirty_at, clean_at, lets_read}
 use Rattle.nq_model.specs.Journal.{IsStored, IsLost}
 use Rattle.nq_model.specs.Kept.{host_row}
@@ -48,11 +48,11 @@ use Rattle.nq_model.specs.Skew.{IsWithinSkew}
 use Rattle.nq_model.specs.Stands.{IsStandingValue}
 use Rattle.nq_model.specs.Table.{caches}
 use Rattle.nq_model.specs.World.{Head, World, run}
-use Rattle.walk_run.proofs.Members.{find-in}
-use Rattle.walk_run.proofs.Packets.{In}
-use Rattle.walk_server.proofs.Rows.{same-number, number-same, find-passes}
-use Rattle.walk_undisturbed.proofs.Holders.{KnownOf}
-use Rattle.law_undisturbed.proofs.UndisturbedRuns.{run-still}
+use Rattle.walk_steps.proofs.Members.{find-in}
+use Rattle.walk_steps.proofs.Packets.{In}
+use Rattle.walk_steps.proofs.Rows.{same-number, number-same, find-passes}
+use Rattle.walk_files.proofs.Holders.{KnownOf}
+use Rattle.law_legal.proofs.UndisturbedRuns.{run-still}
 use Rattle.nq_promises.specs.Undisturbed.{IsUndisturbed}
 
 -- ---- the row of a lease that runs

@@ -11,17 +11,17 @@ use Rattle.nq_base.specs.declared.Who.{Who}
 use Rattle.walk_calls.proofs.Placed.{ordered, of-their-call}
 use Rattle.law_calls.proofs.RunCalls.{calls-known}
 use Rattle.nq_promises.specs.Bounds.{KeepsBounds}
-use Rattle.walk_legal.proofs.ReadFacts.{IsBacked, reads_nothing, counted_read, IsGood}
+use Rattle.walk_files.proofs.ReadFacts.{IsBacked, reads_nothing, counted_read, IsGood}
 use Rattle.law_legal.proofs.ReadRuns.{run-reads}
-use Rattle.walk_legal.proofs.Places.{IsPlaced, placed-in, throughout-of}
+use Rattle.walk_files.proofs.Places.{IsPlaced, placed-in, throughout-of}
 use Rattle.nq_model.specs.Journal.{Each, Exists, AtMostOne, AtEachPlace, IsCounted, call_of}
 use Rattle.nq_model.specs.Legal.{IsReading, GivesValue, IsCountedBy, IsCountedWith, IsLegalRead, IsLegalAnswer, IsLegalAt, IsLegal}
 use Rattle.nq_model.specs.OfTheirCall.{Reads, IsOfItsCall, AreOfTheirCall}
 use Rattle.nq_model.specs.Ordered.{IsReadInOrder, IsInOrder, IsOrdered}
 use Rattle.nq_model.specs.Skew.{IsWithinSkew}
 use Rattle.nq_model.specs.World.{Head, run}
-use Rattle.walk_run.proofs.Packets.{In}
-use Rattle.walk_undisturbed.proofs.Holders.{KnownOf}
+use Rattle.walk_steps.proofs.Packets.{In}
+use Rattle.walk_files.proofs.Holders.{KnownOf}
 
 -- ---- of an ordered journal
 

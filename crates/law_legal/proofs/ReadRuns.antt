@@ -14,26 +14,26 @@ use Rattle.nq_base.specs.declared.Want.{Want}
 use Rattle.nq_base.specs.declared.Who.{Who}
 use Rattle.walk_calls.proofs.Entries.{IsOpenAsTold}
 use Rattle.law_calls.proofs.RunCalls.{calls-known}
-use Rattle.walk_client.proofs.SendCases.{least-passes}
-use Rattle.walk_client.proofs.ClientFacts.{push_in}
-use Rattle.walk_client.proofs.ClientMoves.{none-some, some-same}
-use Rattle.walk_contents.proofs.ServerDelays.{Never, receive-never, tick-never, crash-never}
-use Rattle.walk_fates.proofs.PushLists.{at-is}
-use Rattle.walk_fates.proofs.WritesFit.{in_list, under_way, IsRising}
+use Rattle.walk_steps.proofs.SendCases.{least-passes}
+use Rattle.walk_steps.proofs.ClientFacts.{push_in}
+use Rattle.walk_steps.proofs.ClientMoves.{none-some, some-same}
+use Rattle.walk_files.proofs.ServerDelays.{Never, receive-never, tick-never, crash-never}
+use Rattle.walk_calls.proofs.PushLists.{at-is}
+use Rattle.walk_calls.proofs.WritesFit.{in_list, under_way, IsRising}
 use Rattle.nq_promises.specs.Bounds.{KeepsBounds}
 use Rattle.law_legal.proofs.CachedReads.{cached-stands, none-waits, NoneEncloses, find-none}
-use Rattle.law_held.proofs.HeldRuns.{kept-held}
-use Rattle.walk_legal.proofs.ReadAdds.{step-adds}
-use Rattle.walk_legal.proofs.ReadClient.{Adds, reads-after}
-use Rattle.walk_legal.proofs.ReadFacts.{ReadsOf, ReadsFit, told-packet}
-use Rattle.walk_legal.proofs.ReadServer.{reads-after-server}
-use Rattle.law_held.proofs.RestingRuns.{rests-on}
-use Rattle.walk_legal.proofs.ServerReads.{ServesRead, receive-reads, tick-reads, crash-reads}
-use Rattle.walk_run.proofs.Steps.{ClientActs, called, ticked, restarted, heard, ServerActs, received, ticks, crashes, Changes, nothing, by_client, by_server, run-goes}
-use Rattle.walk_legal.proofs.ReaderValues.{NoneWaits}
-use Rattle.walk_legal.proofs.ReadParts.{IsDull, MadeFor}
-use Rattle.walk_legal.proofs.ReadSteps.{Done, NewRead, ValuedBy, NoneValued, IsCachedIn, call-done, tick-done, hear-done}
-use Rattle.walk_legal.proofs.Stores.{Rests}
+use Rattle.law_legal.proofs.HeldRuns.{kept-held}
+use Rattle.walk_files.proofs.ReadAdds.{step-adds}
+use Rattle.walk_files.proofs.ReadClient.{Adds, reads-after}
+use Rattle.walk_files.proofs.ReadFacts.{ReadsOf, ReadsFit, told-packet}
+use Rattle.walk_files.proofs.ReadServer.{reads-after-server}
+use Rattle.law_legal.proofs.RestingRuns.{rests-on}
+use Rattle.walk_files.proofs.ServerReads.{ServesRead, receive-reads, tick-reads, crash-reads}
+use Rattle.walk_steps.proofs.Steps.{ClientActs, called, ticked, restarted, heard, ServerActs, received, ticks, crashes, Changes, nothing, by_client, by_server, run-goes}
+use Rattle.walk_files.proofs.ReaderValues.{NoneWaits}
+use Rattle.walk_files.proofs.ReadParts.{IsDull, MadeFor}
+use Rattle.walk_files.proofs.ReadSteps.{Done, NewRead, ValuedBy, NoneValued, IsCachedIn, call-done, tick-done, hear-done}
+use Rattle.walk_files.proofs.Stores.{Rests}
 use Rattle.nq_model.specs.Client.{Client, ClientStep, Lease, Ticket, UnderWay, lease_on, lets_read, first_dirty, dirty_at, clean_at, is_push_of, is_push_at, push_passes, is_clean, Job, file_of_lease}
 use Rattle.nq_model.specs.ClientStep.{restart, starts, fresh_client, attached_client, next_incarnation}
 use Rattle.nq_model.specs.Journal.{Throughout}
@@ -47,15 +47,15 @@ use Rattle.nq_model.specs.Skew.{IsWithinSkew}
 use Rattle.nq_model.specs.Table.{caches, is_writing}
 use Rattle.nq_model.specs.Stands.{IsStandingValue}
 use Rattle.nq_model.specs.World.{Head, World, after_server, after_client, sending_host, start, run}
-use Rattle.walk_run.proofs.RunCases.{During}
-use Rattle.walk_run.proofs.Packets.{In, in-get}
-use Rattle.walk_run.proofs.ServerSays.{AllSaid}
-use Rattle.walk_run.proofs.Worlds.{IsAt, to-server, received-said, tick-said, crash-said, first-client, set-there}
-use Rattle.walk_server.proofs.Modes.{writing-caches}
-use Rattle.walk_undisturbed.proofs.Accesses.{Accesses, IsHeld, call-accesses, tick-accesses, hear-accesses}
-use Rattle.walk_undisturbed.proofs.Holders.{KnownOf}
-use Rattle.walk_undisturbed.proofs.Tags.{unclean-entry}
-use Rattle.walk_server.proofs.Rows.{same-number, find-passes}
+use Rattle.walk_steps.proofs.RunCases.{During}
+use Rattle.walk_steps.proofs.Packets.{In, in-get}
+use Rattle.walk_steps.proofs.ServerSays.{AllSaid}
+use Rattle.walk_steps.proofs.Worlds.{IsAt, to-server, received-said, tick-said, crash-said, first-client, set-there}
+use Rattle.walk_steps.proofs.Modes.{writing-caches}
+use Rattle.walk_files.proofs.Accesses.{Accesses, IsHeld, call-accesses, tick-accesses, hear-accesses}
+use Rattle.walk_files.proofs.Holders.{KnownOf}
+use Rattle.walk_files.proofs.Tags.{unclean-entry}
+use Rattle.walk_steps.proofs.Rows.{same-number, find-passes}
 use Rattle.std.proofs.lemmas.Bool.Decides.{nat_tests}
 use Rattle.std.proofs.lemmas.Bool.{and_parts, not-true}
 

@@ -1,11 +1,11 @@
 -- A client reads its own delayed write, stores it, gives its lease up, and reads it from the server.
 use Rattle.std.proofs.Common.{◌≡◌, true, refl}
 use Rattle.nq_base.specs.Block.{filled, zeros}
-use Rattle.law_held.proofs.SomeHeld.{one-host, some-events, bounds, within}
+use Rattle.law_legal.proofs.SomeHeld.{one-host, some-events, bounds, within}
 use Rattle.nq_model.specs.ServerStep.{at_time as at_time_of_serverstep, boot, crash}
 use Rattle.nq_model.specs.World.{run}
-use Rattle.law_legal.specs.Met.{ReadsAreMet, has_reads}
-use Rattle.walk_run.proofs.GivenRuns.{given-run}
+use Rattle.law_legal.specs.LegalMet.{ReadsAreMet, has_reads}
+use Rattle.walk_steps.proofs.GivenRuns.{given-run}
 
 all-there : has_reads (run one-host some-events).journal ≡ true
 unfolding filled zeros given-run

@@ -1,7 +1,7 @@
 //! Reads are legal.
 
 ghost use Rattle.nq_promises.specs.ReadsAreLegal.{ReadsAreLegalInEveryRun};
-ghost use Rattle.law_legal.specs.Met.{ReadsAreMet};
+ghost use Rattle.law_legal.specs.LegalMet.{ReadsAreMet};
 
 /// After every schedule within skew the journal is legal: each counted read gives the value of the last write before it that
 /// stands for it, one that went through, that was stored at any time, or that its own incarnation delayed and did not find lost;

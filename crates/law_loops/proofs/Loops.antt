@@ -14,14 +14,14 @@ use Rattle.nq_model.specs.Skew.{IsWithinSkew}
 use Rattle.nq_model.specs.World.{Head, World, run, start, step}
 use Rattle.nq_play.specs.Playing.{beginning}
 use Rattle.nq_promises.specs.Bounds.{KeepsBounds}
-use Rattle.law_calm.proofs.ClientCount.{client-count}
-use Rattle.law_deliveries.specs.DeliveryEnds.{calmed}
-use Rattle.law_progress.specs.CalmRoundsAreLawful.{IsLawful}
+use Rattle.law_rounds.proofs.ClientCount.{client-count}
+use Rattle.law_rounds.specs.DeliveryEnds.{calmed}
+use Rattle.law_rounds.specs.CalmRoundsAreLawful.{IsLawful}
 use Rattle.law_rounds.specs.RoundsEndQuiet.{IsSmall}
-use Rattle.walk_server.proofs.Tests.{is-below, is-not-below}
-use Rattle.law_open_calls.specs.WholeCallsAnswered.{served_rounds_for}
-use Rattle.law_open_calls.proofs.Counts.{none-open}
-use Rattle.law_open_calls.proofs.Queue.{there-is}
+use Rattle.walk_steps.proofs.Tests.{is-below, is-not-below}
+use Rattle.law_answered.specs.WholeCallsAnswered.{served_rounds_for}
+use Rattle.law_answered.proofs.Counts.{none-open}
+use Rattle.law_answered.proofs.Queue.{there-is}
 use Rattle.law_loops.specs.InTime.{played}
 use Rattle.law_loops.specs.LoopTurns.{MakesTurns}
 use Rattle.law_loops.specs.LoopsAreAnswered.{first_moment, most_due, ticks_enough, LoopsAreAnswered}

@@ -14,11 +14,11 @@ use Rattle.nq_model.specs.Stepped.{done, no_packet, too_many_events, too_many_pa
 use Rattle.nq_model.specs.World.{Head, World, after_client, after_server, at_client, run, step}
 use Rattle.nq_net.specs.Packets.{Datagram}
 use Rattle.nq_node.specs.Links.{Letter}
-use Rattle.law_deliveries.specs.DeliveryEnds.{calmed}
+use Rattle.law_rounds.specs.DeliveryEnds.{calmed}
 use Rattle.law_rounds.specs.RoundsEndQuiet.{IsSmall}
 use Rattle.law_rounds.proofs.RecoveryRounds.{delivered-now}
-use Rattle.walk_server.proofs.ServerCases.{server-ticks}
-use Rattle.walk_server.proofs.Tests.{is-below, is-not-below}
+use Rattle.walk_steps.proofs.ServerCases.{server-ticks}
+use Rattle.walk_steps.proofs.Tests.{is-below, is-not-below}
 use Rattle.law_loops.specs.InTime.{played, comes_in_time, all_in_time}
 use Rattle.law_loops.specs.LoopsAreAnswered.{most_due}
 use Rattle.law_loops.specs.LoopTurns.{MakesTurn}

@@ -3,9 +3,9 @@ use Rattle.std.proofs.Common.{◌≡◌, true, false, nat_le, length, refl}
 use Rattle.nq_base.specs.Block.{filled, zeros}
 use Rattle.nq_loop.specs.Turning.{all_answered}
 use Rattle.nq_model.specs.Stepped.{most_events, most_sent}
-use Rattle.walk_run.proofs.GivenRuns.{given-run}
-use Rattle.walk_server.proofs.Tests.{is-at-most}
-use Rattle.law_deliveries.specs.DeliveryEnds.{calmed}
+use Rattle.walk_steps.proofs.GivenRuns.{given-run}
+use Rattle.walk_steps.proofs.Tests.{is-at-most}
+use Rattle.law_rounds.specs.DeliveryEnds.{calmed}
 use Rattle.law_loops.specs.InTime.{played, all_in_time}
 use Rattle.law_loops.specs.Met.{one_head, two_turns, three_turns, LoopsAreMet}
 

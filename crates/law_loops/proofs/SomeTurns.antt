@@ -27,8 +27,8 @@ use Rattle.nq_wire.specs.Parts.{head as who_bytes, tag_bytes, want_bytes, grant_
 use Rattle.nq_wire.specs.Reply.{ok, results}
 use Rattle.nq_wire.specs.Request.{arguments}
 use Rattle.nq_xdr.specs.Item.{word, hyper, boolean, padding, opaque}
-use Rattle.walk_run.proofs.GivenRuns.{given-run}
-use Rattle.walk_server.proofs.Tests.{is-at-most}
+use Rattle.walk_steps.proofs.GivenRuns.{given-run}
+use Rattle.walk_steps.proofs.Tests.{is-at-most}
 use Rattle.law_loops.specs.Met.{one_head, two_turns, three_turns}
 use Rattle.law_loops.specs.PrintedMet.{slow_clock, asked}
 use Rattle.law_loops.proofs.SomeLoop.{loops-are-met}

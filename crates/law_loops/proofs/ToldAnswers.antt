@@ -15,9 +15,9 @@ use Rattle.nq_model.specs.JournalTest.{exists, is_answer}
 use Rattle.nq_model.specs.World.{run}
 use Rattle.nq_play.specs.Playing.{beginning}
 use Rattle.law_calls.proofs.RunCalls.{calls-fit}
-use Rattle.law_calm.proofs.ClientCount.{client-count}
+use Rattle.law_rounds.proofs.ClientCount.{client-count}
 use Rattle.walk_calls.proofs.CallsFit.{CallsFit}
-use Rattle.walk_client.proofs.ClientMoves.{none-some}
+use Rattle.walk_steps.proofs.ClientMoves.{none-some}
 use Rattle.law_loops.specs.ToldAnswers.{TellsAnswers, AnsweredLoopsTellAnswers}
 
 each-below : (count : ℕ) (test : ℕ → Bool) → all_below count test ≡ true → (h : ℕ) → h < count → test h ≡ true

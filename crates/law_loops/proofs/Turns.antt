@@ -13,13 +13,13 @@ use Rattle.nq_model.specs.Server.{Server}
 use Rattle.nq_model.specs.World.{Head, World}
 use Rattle.nq_net.specs.Packets.{Datagram}
 use Rattle.nq_node.specs.Links.{Letter}
-use Rattle.law_calm.proofs.ClientCount.{client-count}
-use Rattle.law_progress.specs.CalmRoundsAreLawful.{IsLawful}
+use Rattle.law_rounds.proofs.ClientCount.{client-count}
+use Rattle.law_rounds.specs.CalmRoundsAreLawful.{IsLawful}
 use Rattle.law_rounds.specs.RoundsEndQuiet.{IsSmall}
 use Rattle.law_rounds.proofs.Flows.{small-before}
 use Rattle.law_rounds.proofs.RecoveryRounds.{delivered-now, round-now}
-use Rattle.walk_server.proofs.Rows.{same-number}
-use Rattle.law_open_calls.specs.WholeCallsAnswered.{served_rounds_for}
+use Rattle.walk_steps.proofs.Rows.{same-number}
+use Rattle.law_answered.specs.WholeCallsAnswered.{served_rounds_for}
 use Rattle.law_loops.specs.InTime.{played, none_under_way, comes_in_time, all_in_time}
 use Rattle.law_loops.specs.LoopsAreAnswered.{most_due}
 use Rattle.law_loops.proofs.Counts.{begun_all, all-same, begins-own, begins-other, one-more, due-some}

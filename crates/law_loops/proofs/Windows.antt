@@ -9,20 +9,20 @@ use Rattle.nq_model.specs.ClientStep.{client_call}
 use Rattle.nq_model.specs.Lines.{Play, play, play_rounds}
 use Rattle.nq_model.specs.Server.{Server}
 use Rattle.nq_model.specs.World.{Head, World, after_client, at_client, step}
-use Rattle.law_calm.proofs.ClientCount.{client-count}
-use Rattle.law_progress.specs.CalmRoundsAreLawful.{IsLawful}
-use Rattle.law_progress.specs.QuietDeliveries.{recovers}
-use Rattle.law_progress.proofs.CalmEnds.{IsRising, played-rising}
-use Rattle.law_progress.proofs.CalmIsLawful.{played-quiet}
+use Rattle.law_rounds.proofs.ClientCount.{client-count}
+use Rattle.law_rounds.specs.CalmRoundsAreLawful.{IsLawful}
+use Rattle.law_rounds.specs.QuietDeliveries.{recovers}
+use Rattle.law_rounds.proofs.CalmEnds.{IsRising, played-rising}
+use Rattle.law_rounds.proofs.CalmIsLawful.{played-quiet}
 use Rattle.law_rounds.specs.RoundsEndQuiet.{IsSmall}
 use Rattle.law_rounds.specs.WholeRounds.{is_next, play_order, IsInOrder, whole_round, whole_rounds, AreWhole, LinksKeepOrder}
 use Rattle.law_rounds.proofs.Flows.{order-small}
 use Rattle.law_rounds.proofs.Orders.{order-lawful, wholes-lawful, order-rising, wholes-rising, rounds-append}
 use Rattle.law_rounds.proofs.RecoveryRounds.{order-phase, serving-rounds}
-use Rattle.law_open_calls.specs.CallsAnswered.{one_if_open, open_calls}
-use Rattle.law_open_calls.specs.WholeCallsAnswered.{served_rounds_for}
-use Rattle.law_open_calls.proofs.AllAnswered.{served-from}
-use Rattle.law_open_calls.proofs.Counts.{order-less, at-most-all}
+use Rattle.law_answered.specs.CallsAnswered.{one_if_open, open_calls}
+use Rattle.law_answered.specs.WholeCallsAnswered.{served_rounds_for}
+use Rattle.law_answered.proofs.AllAnswered.{served-from}
+use Rattle.law_answered.proofs.Counts.{order-less, at-most-all}
 use Rattle.law_loops.specs.InTime.{played}
 
 -- ---- one more

@@ -3,7 +3,7 @@ use Rattle.std.specs.Prelude.{ℕ, ◌==◌, ◌&&◌, ◌||◌, not, Bool, true
 use Rattle.nq_base.specs.declared.Event.{Event}
 use Rattle.nq_model.specs.Lines.{Play, play}
 use Rattle.nq_model.specs.World.{Head}
-use Rattle.law_deliveries.specs.DeliveryEnds.{calmed}
+use Rattle.law_rounds.specs.DeliveryEnds.{calmed}
 use Rattle.law_rounds.specs.WholeRounds.{is_next}
 
 -- a run as it is played from the start, with what is under way after it

@@ -7,7 +7,7 @@ use Rattle.nq_model.specs.Profile.{most_hosts}
 use Rattle.nq_model.specs.World.{run}
 use Rattle.nq_node.specs.Links.{LinkTold}
 use Rattle.nq_play.specs.Playing.{beginning}
-use Rattle.law_open_calls.specs.WholeCallsAnswered.{served_rounds_for}
+use Rattle.law_answered.specs.WholeCallsAnswered.{served_rounds_for}
 use Rattle.law_rounds.specs.RoundsEndQuiet.{IsSmall}
 use Rattle.law_loops.specs.InTime.{played, all_in_time}
 use Rattle.law_loops.specs.LoopTurns.{MakesTurns}

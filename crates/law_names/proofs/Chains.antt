@@ -12,11 +12,11 @@ use Rattle.nq_model.specs.LeaseInterval.{claim_of, HasFitting}
 use Rattle.nq_model.specs.Profile.{same_bytes}
 use Rattle.nq_model.specs.Table.{caches, tag_below, find_row}
 use Rattle.nq_name_server.specs.Served.{Served, number_of}
-use Rattle.walk_leases.proofs.Covers.{GoesOnAt, fitting-goes-on}
-use Rattle.walk_run.proofs.Packets.{In}
-use Rattle.walk_run.proofs.TagFacts.{IsDrawn}
-use Rattle.walk_server.proofs.Rows.{decided, found-row}
-use Rattle.walk_server.proofs.TableFits.{TableFits, fits-files}
+use Rattle.walk_steps.proofs.Covers.{GoesOnAt, fitting-goes-on}
+use Rattle.walk_steps.proofs.Packets.{In}
+use Rattle.walk_steps.proofs.TagFacts.{IsDrawn}
+use Rattle.walk_steps.proofs.Rows.{decided, found-row}
+use Rattle.walk_steps.proofs.TableFits.{TableFits, fits-files}
 use Rattle.law_names.proofs.Tables.{stand_ins, stands-in, in-stand, CameFrom, went_on, is_new, Follows}
 
 -- ---- numbers of directories

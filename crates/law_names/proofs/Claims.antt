@@ -22,7 +22,7 @@ use Rattle.nq_name_cache.specs.Asking.{is_reading}
 use Rattle.nq_name_cache.specs.Names.{DirList, Names, Request}
 use Rattle.nq_name_server.specs.Served.{Served, names_behind}
 use Rattle.nq_names_run.specs.Outer.{Outer}
-use Rattle.walk_run.proofs.Packets.{In}
+use Rattle.walk_steps.proofs.Packets.{In}
 use Rattle.law_names.proofs.Chains.{Chained, HasFit, Leads, WasDrawn}
 use Rattle.law_names.proofs.Entries.{entries_in, page-same, upto-same, whole-same, behind-same}
 use Rattle.law_names.proofs.Pages.{IsPage, IsUpTo, IsWhole}

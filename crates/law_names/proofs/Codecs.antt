@@ -24,8 +24,8 @@ use Rattle.nq_wire.specs.Parts.{grant_bytes, head, optional, tag_bytes, IsGrant}
 use Rattle.nq_wire.specs.Request.{arguments, procedure_of}
 use Rattle.nq_wire.specs.declared.Garbage.{Garbage}
 use Rattle.nq_xdr.specs.Item.{boolean, opaque, word}
-use Rattle.walk_client.proofs.ClientMoves.{none-some, some-same}
-use Rattle.walk_server.proofs.Rows.{number-same, same-number}
+use Rattle.walk_steps.proofs.ClientMoves.{none-some, some-same}
+use Rattle.walk_steps.proofs.Rows.{number-same, same-number}
 use Rattle.law_names.proofs.Codec.{IsAsking, IsChange, IsCodec, IsGiving, IsNoticed, IsNoticing, IsRead, IsSame, IsTold}
 use Rattle.nq_xdr.proofs.SameNumbers.{same-hyper, same-word}
 

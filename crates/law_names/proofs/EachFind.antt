@@ -19,11 +19,11 @@ use Rattle.nq_names_run.specs.Outer.{Outside, of_boot, outside_start}
 use Rattle.nq_names_run.specs.Outside.{outside_run, outside_step}
 use Rattle.nq_names_run.specs.Theorem.{EachFindIsKept, IsNamesSchedule}
 use Rattle.law_bounds.specs.Within.{AreGiven, NumbersStayWithin}
-use Rattle.walk_client.proofs.ClientMoves.{none-some, some-same}
-use Rattle.walk_run.proofs.Clocks.{within-before}
-use Rattle.walk_run.proofs.NoCrash.{bounds-before}
-use Rattle.walk_run.proofs.Worlds.{first-client}
-use Rattle.walk_server.proofs.TableFits.{no-rows-fit}
+use Rattle.walk_steps.proofs.ClientMoves.{none-some, some-same}
+use Rattle.walk_steps.proofs.Clocks.{within-before}
+use Rattle.walk_steps.proofs.NoCrash.{bounds-before}
+use Rattle.walk_steps.proofs.Worlds.{first-client}
+use Rattle.walk_steps.proofs.TableFits.{no-rows-fit}
 use Rattle.law_names.proofs.Codec.{IsCodec}
 use Rattle.law_names.proofs.HostMoves.{no-names}
 use Rattle.law_names.proofs.InnerRuns.{IsKnown, known}

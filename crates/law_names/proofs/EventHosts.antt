@@ -16,12 +16,12 @@ use Rattle.nq_name_cache.specs.Names.{Names, before_call, new_names}
 use Rattle.nq_name_server.specs.Served.{Served}
 use Rattle.nq_names_run.specs.Outer.{Outer}
 use Rattle.nq_names_run.specs.Outside.{at_side}
-use Rattle.law_steps.proofs.OneHost.{of-one-host}
-use Rattle.walk_client.proofs.ClientMoves.{none-some, some-same}
-use Rattle.walk_leases.proofs.WorldClocks.{StillIf, call-still, hear-still, tick-still}
-use Rattle.walk_run.proofs.Packets.{In, in-get}
-use Rattle.walk_run.proofs.Worlds.{get-set-other, get-set-same, set-there, to-told}
-use Rattle.walk_server.proofs.Rows.{same-number, number-same}
+use Rattle.law_bounds.proofs.OneHost.{of-one-host}
+use Rattle.walk_steps.proofs.ClientMoves.{none-some, some-same}
+use Rattle.walk_steps.proofs.WorldClocks.{StillIf, call-still, hear-still, tick-still}
+use Rattle.walk_steps.proofs.Packets.{In, in-get}
+use Rattle.walk_steps.proofs.Worlds.{get-set-other, get-set-same, set-there, to-told}
+use Rattle.walk_steps.proofs.Rows.{same-number, number-same}
 use Rattle.law_names.proofs.Claims.{IsClaimed, IsForgotten, Shift}
 use Rattle.law_names.proofs.HostMoves.{KeepsFewer, before-fewer, before-forgets, fewer-claims, still-forgotten}
 use Rattle.law_names.proofs.InnerRuns.{IsKnown}

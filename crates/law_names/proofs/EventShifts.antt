@@ -22,14 +22,14 @@ use Rattle.nq_model.specs.World.{Head, World, from_host, sending_host}
 use Rattle.nq_name_cache.specs.Names.{Names}
 use Rattle.nq_name_server.specs.Served.{Served}
 use Rattle.nq_names_run.specs.Outer.{Outer}
-use Rattle.walk_client.proofs.ClientFacts.{fits_job}
-use Rattle.walk_client.proofs.ClientMoves.{some-same}
-use Rattle.walk_run.proofs.Clocks.{same-cover}
-use Rattle.walk_run.proofs.Packets.{in-get}
-use Rattle.walk_run.proofs.Worlds.{IsSent, by_host, by_server}
-use Rattle.walk_server.proofs.Incarnations.{who-same}
-use Rattle.walk_server.proofs.Rows.{decided, number-same}
-use Rattle.walk_server.proofs.ServerOutcomes.{IsChanging, IsFresh, IsFrom}
+use Rattle.walk_steps.proofs.ClientFacts.{fits_job}
+use Rattle.walk_steps.proofs.ClientMoves.{some-same}
+use Rattle.walk_steps.proofs.Clocks.{same-cover}
+use Rattle.walk_steps.proofs.Packets.{in-get}
+use Rattle.walk_steps.proofs.Worlds.{IsSent, by_host, by_server}
+use Rattle.walk_steps.proofs.Incarnations.{who-same}
+use Rattle.walk_steps.proofs.Rows.{decided, number-same}
+use Rattle.walk_steps.proofs.ServerOutcomes.{IsChanging, IsFresh, IsFrom}
 use Rattle.law_names.proofs.Chains.{Chained, HasFit, IsServed, same-leads}
 use Rattle.law_names.proofs.Claims.{IsClaimed, IsForgotten, Outlasts, Shift}
 use Rattle.law_names.proofs.Entries.{all-named, entries-added, entries-dropped, entries_in, entries_of}

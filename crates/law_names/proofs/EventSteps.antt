@@ -20,11 +20,11 @@ use Rattle.nq_name_cache.specs.Names.{Names, new_names}
 use Rattle.nq_name_server.specs.Served.{Served}
 use Rattle.nq_names_run.specs.Outer.{Outer, of_boot}
 use Rattle.nq_names_run.specs.Outside.{new_side}
-use Rattle.walk_leases.proofs.ServerLives.{booted-kept, booted-phase}
-use Rattle.walk_run.proofs.Clocks.{moment-past, same-cover}
-use Rattle.walk_run.proofs.Worlds.{get-set-other, get-set-same}
-use Rattle.walk_server.proofs.Rows.{number-same, same-number}
-use Rattle.walk_server.proofs.ServerMoves.{receive-keeps, server-moves}
+use Rattle.walk_steps.proofs.ServerLives.{booted-kept, booted-phase}
+use Rattle.walk_steps.proofs.Clocks.{moment-past, same-cover}
+use Rattle.walk_steps.proofs.Worlds.{get-set-other, get-set-same}
+use Rattle.walk_steps.proofs.Rows.{number-same, same-number}
+use Rattle.walk_steps.proofs.ServerMoves.{receive-keeps, server-moves}
 use Rattle.law_names.proofs.Chains.{Chained, HasFit, same-leads}
 use Rattle.law_names.proofs.Claims.{Outlasts, Shift}
 use Rattle.law_names.proofs.Entries.{entries_in}

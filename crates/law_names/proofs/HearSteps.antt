@@ -24,8 +24,8 @@ use Rattle.nq_name_cache.specs.Names.{DirList, Names, Request, empty_list, forge
 use Rattle.nq_name_server.specs.Served.{Served}
 use Rattle.nq_names_run.specs.Outer.{Outer}
 use Rattle.nq_names_run.specs.Outside.{beside, is_change, is_changing}
-use Rattle.walk_client.proofs.ClientMoves.{some-same, none-some}
-use Rattle.walk_run.proofs.Packets.{In, in-append, in-last}
+use Rattle.walk_steps.proofs.ClientMoves.{some-same, none-some}
+use Rattle.walk_steps.proofs.Packets.{In, in-append, in-last}
 use Rattle.law_names.proofs.Chains.{WasDrawn}
 use Rattle.law_names.proofs.Claims.{AskedFor, GaveUp, IsClaimed, IsForgotten, ListFits, ToldTo}
 use Rattle.law_names.proofs.Codec.{IsCodec, IsGiving, IsNoticing, IsSame, IsTold}

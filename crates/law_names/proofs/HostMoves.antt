@@ -16,8 +16,8 @@ use Rattle.nq_model.specs.Profile.{same_bytes}
 use Rattle.nq_model.specs.Table.{tag_below}
 use Rattle.nq_name_cache.specs.Asking.{goes_on, is_reading, last_id}
 use Rattle.nq_name_cache.specs.Names.{DirList, Names, Request, before_call, forgets, forgets_all, other_request}
-use Rattle.walk_client.proofs.ClientMoves.{some-same, none-some}
-use Rattle.walk_run.proofs.Packets.{In}
+use Rattle.walk_steps.proofs.ClientMoves.{some-same, none-some}
+use Rattle.walk_steps.proofs.Packets.{In}
 use Rattle.law_names.proofs.Chains.{Chained}
 use Rattle.law_names.proofs.Claims.{Ground, Good, HostFits, IsClaimed, IsForgotten, ListFits, PageFits, PartFits, ToldTo}
 use Rattle.law_names.proofs.Pages.{IsUpTo, IsWhole, becomes-whole, grows, nothing-yet}

@@ -16,10 +16,10 @@ use Rattle.nq_name_cache.specs.Names.{DirList, Names, Request, first_number, num
 use Rattle.nq_name_server.specs.Served.{Served}
 use Rattle.nq_names_run.specs.Outer.{Outer}
 use Rattle.nq_names_run.specs.Outside.{beside}
-use Rattle.walk_client.proofs.ClientMoves.{some-same, none-some}
-use Rattle.walk_run.proofs.Packets.{In, in-append}
-use Rattle.walk_run.proofs.Worlds.{get-set-same, get-set-other}
-use Rattle.walk_server.proofs.Rows.{same-number, number-same}
+use Rattle.walk_steps.proofs.ClientMoves.{some-same, none-some}
+use Rattle.walk_steps.proofs.Packets.{In, in-append}
+use Rattle.walk_steps.proofs.Worlds.{get-set-same, get-set-other}
+use Rattle.walk_steps.proofs.Rows.{same-number, number-same}
 use Rattle.law_names.proofs.Chains.{IsServed, WasDrawn, same-leads}
 use Rattle.law_names.proofs.Claims.{AskedFor, GaveUp, HostFits, IsClaimed, IsForgotten, ListFits, PartFits, Shift, ToldTo, host-shifted}
 use Rattle.law_names.proofs.Codec.{IsAsking, IsCodec, IsRead}

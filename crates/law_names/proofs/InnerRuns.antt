@@ -11,12 +11,12 @@ use Rattle.nq_model.specs.Stepped.{most_events}
 use Rattle.nq_model.specs.World.{Head, World, after_server, run, start}
 use Rattle.law_bounds.specs.Within.{AreGiven, IsHeadWithin, IsServerAfter, NumbersStayWithin}
 use Rattle.law_bounds.proofs.WorldNumbers.{DrawnUpTo, drawn-up-to}
-use Rattle.law_leases.proofs.LeaseIntervals.{run-runs}
-use Rattle.walk_client.proofs.ClientMoves.{none-some, some-same}
-use Rattle.walk_leases.proofs.Runs.{Runs}
-use Rattle.walk_leases.proofs.WorldClocks.{Clocked, run-clocked}
-use Rattle.walk_run.proofs.RunCases.{OfClients, clients-after, run-keeps}
-use Rattle.walk_run.proofs.Worlds.{Holds, first-client, run-holds}
+use Rattle.law_bounds.proofs.LeaseIntervals.{run-runs}
+use Rattle.walk_steps.proofs.ClientMoves.{none-some, some-same}
+use Rattle.walk_steps.proofs.Runs.{Runs}
+use Rattle.walk_steps.proofs.WorldClocks.{Clocked, run-clocked}
+use Rattle.walk_steps.proofs.RunCases.{OfClients, clients-after, run-keeps}
+use Rattle.walk_steps.proofs.Worlds.{Holds, first-client, run-holds}
 use Rattle.law_names.proofs.OwnCalls.{TicketIsOfCall, call-fits, hear-fits, tick-fits}
 
 -- ---- requests are of their calls

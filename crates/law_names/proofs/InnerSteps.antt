@@ -11,8 +11,8 @@ use Rattle.nq_model.specs.World.{World}
 use Rattle.nq_name_cache.specs.Names.{Names, first_number}
 use Rattle.nq_name_server.specs.Served.{Served}
 use Rattle.nq_names_run.specs.Outer.{Outer}
-use Rattle.walk_client.proofs.ClientMoves.{none-some, some-same}
-use Rattle.walk_run.proofs.Packets.{In, in-append}
+use Rattle.walk_steps.proofs.ClientMoves.{none-some, some-same}
+use Rattle.walk_steps.proofs.Packets.{In, in-append}
 use Rattle.law_names.proofs.Chains.{IsServed, WasDrawn}
 use Rattle.law_names.proofs.Claims.{AskedFor, GaveUp, HostFits, IsClaimed, IsForgotten, Shift, ToldTo, host-shifted}
 use Rattle.law_names.proofs.HostMoves.{KeepsFewer, fewer-fits, no-names}

@@ -26,7 +26,7 @@ use Rattle.nq_names_run.specs.Lasting.{IsCovered, IsLive, Lasts, id_of}
 use Rattle.nq_names_run.specs.Outer.{Outer, Outside}
 use Rattle.nq_names_run.specs.Outside.{beside, found_by, inside}
 use Rattle.nq_names_run.specs.Theorem.{FindsWhatIsKept, kept_as}
-use Rattle.walk_run.proofs.Packets.{In}
+use Rattle.walk_steps.proofs.Packets.{In}
 use Rattle.law_names.proofs.Chains.{HasFit, IsServed, WasDrawn, fit-chains}
 use Rattle.law_names.proofs.Claims.{AskedFor, GaveUp, Ground, HostFits, IsForgotten, ListFits, Outlasts, ToldTo}
 use Rattle.law_names.proofs.Codec.{IsAsking, IsNoticing, IsTold}

@@ -17,7 +17,7 @@ use Rattle.nq_listing.specs.declared.ReadDir.{ReadDir}
 use Rattle.nq_listing.specs.Messages.{IsReadDir}
 use Rattle.nq_listing.specs.Reading.{dir_vacated_in, read_dir_in}
 use Rattle.law_bounds.specs.Within.{CarriesText}
-use Rattle.law_steps.proofs.OneHost.{of-one-host}
+use Rattle.law_bounds.proofs.OneHost.{of-one-host}
 use Rattle.nq_model.specs.Change.{IsFileWithin}
 use Rattle.nq_model.specs.Client.{Client}
 use Rattle.nq_model.specs.Kept.{File, find_file, find_name, host_row}
@@ -35,10 +35,10 @@ use Rattle.nq_names_run.specs.declared.event.NameEvent.{NameEvent}
 use Rattle.nq_names_run.specs.Outer.{Outer, Outside}
 use Rattle.nq_names_run.specs.Outside.{Changes, asks_as, at_side, beside, changes_as, delivers, heard_by, held_or, inner, is_changing, lists, new_side, outside_step, passes, reads, reads_in, renewed, sends, sends_all, sends_from, sends_these, served_as, served_read, served_vacated, serves, takes, to_host, to_server}
 use Rattle.nq_names_run.specs.Theorem.{BringsPrefix}
-use Rattle.walk_client.proofs.ClientMoves.{none-some, some-same}
-use Rattle.walk_run.proofs.Packets.{In, in-get}
+use Rattle.walk_steps.proofs.ClientMoves.{none-some, some-same}
+use Rattle.walk_steps.proofs.Packets.{In, in-get}
 use Rattle.nq_promises.specs.StepsAreOfOneHost.{receiver_of}
-use Rattle.walk_server.proofs.Rows.{decided, same-number}
+use Rattle.walk_steps.proofs.Rows.{decided, same-number}
 use Rattle.law_names.proofs.Chains.{Chained}
 use Rattle.law_names.proofs.Codec.{IsChange, IsCodec}
 use Rattle.law_names.proofs.EventHosts.{called-names, same-names}

@@ -17,14 +17,14 @@ use Rattle.nq_model.specs.ServerStep.{is_over, vacated_rows}
 use Rattle.nq_model.specs.Table.{Table, caches, same_tag, tag_below, is_row_of, find_row, drop_row, with_rows}
 use Rattle.nq_name_server.specs.Served.{Served, number_of}
 use Rattle.nq_name_server.specs.Serving.{Serves, ToHost, notices, notice_to, changes_for, readers, holds, holds_for, holds_as, holds_up, gives_up, vacates, ticks}
-use Rattle.walk_client.proofs.ClientMoves.{some-same, none-some}
-use Rattle.walk_leases.proofs.Covers.{GoesOnAt, fitting-goes-on, marked-goes-on, same-goes-on}
-use Rattle.walk_leases.proofs.ServerEffects.{unique-in}
-use Rattle.walk_run.proofs.Packets.{In}
-use Rattle.walk_server.proofs.AskCases.{asks}
-use Rattle.walk_server.proofs.RowChanges.{find-not-vacated}
-use Rattle.walk_server.proofs.Rows.{decided, same-number, number-same, found-row}
-use Rattle.walk_server.proofs.TableFits.{TableFits}
+use Rattle.walk_steps.proofs.ClientMoves.{some-same, none-some}
+use Rattle.walk_steps.proofs.Covers.{GoesOnAt, fitting-goes-on, marked-goes-on, same-goes-on}
+use Rattle.walk_steps.proofs.ServerEffects.{unique-in}
+use Rattle.walk_steps.proofs.Packets.{In}
+use Rattle.walk_steps.proofs.AskCases.{asks}
+use Rattle.walk_steps.proofs.RowChanges.{find-not-vacated}
+use Rattle.walk_steps.proofs.Rows.{decided, same-number, number-same, found-row}
+use Rattle.walk_steps.proofs.TableFits.{TableFits}
 use Rattle.law_names.proofs.Chains.{Chained, HasFit, IsServed, Leads, append-none, leads, number-one}
 use Rattle.law_names.proofs.Tables.{Follows, fewer-follows, marked-follows, same-follows, stand_ins, stays-on, vacated-follows}
 

@@ -20,15 +20,15 @@ use Rattle.nq_model.specs.Table.{Table, caches, tag_below, is_row_of, find_row, 
 use Rattle.nq_name_cache.specs.Asking.{is_reading}
 use Rattle.nq_name_server.specs.Served.{Served, Leaf, most_directories, number_of}
 use Rattle.nq_name_server.specs.Serving.{Serves, ToHost, lists_for, tells, puts_off, notice_to, evicting, delays, answers, leased, own_again, for_asker, reads_numbered, reads_as, reads_dir}
-use Rattle.walk_client.proofs.ClientMoves.{some-same, none-some}
-use Rattle.walk_leases.proofs.Covers.{fitting-goes-on, granted-key}
-use Rattle.walk_run.proofs.Packets.{In, in-append}
-use Rattle.walk_run.proofs.TagFacts.{IsDrawn}
-use Rattle.walk_server.proofs.AskCases.{asks, clash_in, IsGranted, shares_again, begins_sharing, begins_caching, renews_row}
-use Rattle.walk_server.proofs.Incarnations.{who-same}
-use Rattle.walk_server.proofs.RowChanges.{find-put-same, find-row-dropped, find-other-dropped}
-use Rattle.walk_server.proofs.Rows.{decided, same-number, number-same, found-row}
-use Rattle.walk_server.proofs.TableFits.{TableFits, fits-granted, tag-in-order}
+use Rattle.walk_steps.proofs.ClientMoves.{some-same, none-some}
+use Rattle.walk_steps.proofs.Covers.{fitting-goes-on, granted-key}
+use Rattle.walk_steps.proofs.Packets.{In, in-append}
+use Rattle.walk_steps.proofs.TagFacts.{IsDrawn}
+use Rattle.walk_steps.proofs.AskCases.{asks, clash_in, IsGranted, shares_again, begins_sharing, begins_caching, renews_row}
+use Rattle.walk_steps.proofs.Incarnations.{who-same}
+use Rattle.walk_steps.proofs.RowChanges.{find-put-same, find-row-dropped, find-other-dropped}
+use Rattle.walk_steps.proofs.Rows.{decided, same-number, number-same, found-row}
+use Rattle.walk_steps.proofs.TableFits.{TableFits, fits-granted, tag-in-order}
 use Rattle.law_names.proofs.Chains.{Chained, HasFit, IsServed, Leads, WasDrawn, append-none, leads, more-served, number-below, number-more, number-new, then-leads}
 use Rattle.law_names.proofs.Tables.{Follows, ask-follows, ask-goes-on, fewer-follows, fresh-above, same-follows, stand_ins, stands-in, then-follows}
 

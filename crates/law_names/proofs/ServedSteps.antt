@@ -16,8 +16,8 @@ use Rattle.nq_name_cache.specs.Asking.{is_reading}
 use Rattle.nq_name_cache.specs.Names.{Names, Request}
 use Rattle.nq_name_server.specs.Served.{Served}
 use Rattle.nq_names_run.specs.Outer.{Outer}
-use Rattle.walk_client.proofs.ClientMoves.{none-some}
-use Rattle.walk_run.proofs.Packets.{In, in-append}
+use Rattle.walk_steps.proofs.ClientMoves.{none-some}
+use Rattle.walk_steps.proofs.Packets.{In, in-append}
 use Rattle.law_names.proofs.Chains.{HasFit, Leads, WasDrawn}
 use Rattle.law_names.proofs.Claims.{AskedFor, GaveUp, PageFits, Shift, ToldTo, list-shifted, page-shifted, part-shifted}
 use Rattle.law_names.proofs.OuterFits.{Inv, IsBeside, IsInner, IsSide, Stands, asking, giving, ground, noticing, telling}

@@ -11,10 +11,10 @@ use Rattle.nq_model.specs.Profile.{write_slack}
 use Rattle.nq_model.specs.Server.{Phase, serving, recovering, Server, quiet, drops, says, after_notices, keeping, keeping_with, with_table}
 use Rattle.nq_model.specs.ServerStep.{attaches, vacates, tells_later, serves, leases, receive, fence}
 use Rattle.nq_name_server.specs.Served.{names_of}
-use Rattle.walk_server.proofs.KeptChanges.{later-incs, same-incs}
-use Rattle.walk_server.proofs.ServerCases.{server-hears}
-use Rattle.walk_server.proofs.ServerMoves.{phase-moves, server-moves}
-use Rattle.walk_server.proofs.ServerOutcomes.{IsChanging, IsFresh}
+use Rattle.walk_steps.proofs.KeptChanges.{later-incs, same-incs}
+use Rattle.walk_steps.proofs.ServerCases.{server-hears}
+use Rattle.walk_steps.proofs.ServerMoves.{phase-moves, server-moves}
+use Rattle.walk_steps.proofs.ServerOutcomes.{IsChanging, IsFresh}
 use Rattle.law_names.proofs.Claims.{Outlasts}
 use Rattle.law_names.proofs.Entries.{all-named, names-replaced}
 

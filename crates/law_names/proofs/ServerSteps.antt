@@ -30,11 +30,11 @@ use Rattle.nq_name_server.specs.Served.{Leaf, Served, is_behind, leaf_behind, na
 use Rattle.nq_name_server.specs.Serving.{Serves, ToHost, gives_up, holds_as, holds_up, puts_off, reads_dir, vacates}
 use Rattle.nq_names_run.specs.Outer.{Outer}
 use Rattle.nq_names_run.specs.Outside.{beside}
-use Rattle.walk_client.proofs.ClientMoves.{none-some}
-use Rattle.walk_run.proofs.Clocks.{moment-past}
-use Rattle.walk_run.proofs.Packets.{In}
-use Rattle.walk_server.proofs.Incarnations.{who-same}
-use Rattle.walk_server.proofs.Rows.{number-same}
+use Rattle.walk_steps.proofs.ClientMoves.{none-some}
+use Rattle.walk_steps.proofs.Clocks.{moment-past}
+use Rattle.walk_steps.proofs.Packets.{In}
+use Rattle.walk_steps.proofs.Incarnations.{who-same}
+use Rattle.walk_steps.proofs.Rows.{number-same}
 use Rattle.law_names.proofs.Chains.{Chained, HasFit, IsServed, Leads, WasDrawn, number-in, same-leads}
 use Rattle.law_names.proofs.Claims.{AskedFor, GaveUp, IsLeaf, Outlasts, PageFits, ToldTo}
 use Rattle.law_names.proofs.Codec.{IsCodec, IsSame, IsTelling}

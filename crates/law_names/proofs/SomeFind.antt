@@ -30,7 +30,7 @@ use Rattle.nq_xdr.specs.Item.{word, hyper, boolean, padding, opaque}
 use Rattle.nq_xdr.specs.Reading.{bytes_at, word_at, hyper_at, boolean_at, body_at, opaque_at}
 use Rattle.law_bounds.specs.Within.{AreGiven}
 use Rattle.law_names.specs.Met.{FindsAreMet}
-use Rattle.walk_run.proofs.GivenRuns.{given-run}
+use Rattle.walk_steps.proofs.GivenRuns.{given-run}
 
 -- one host, one file of one block
 abbrev one-host : Head

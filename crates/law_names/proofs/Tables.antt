@@ -12,13 +12,13 @@ use Rattle.nq_model.specs.Ask.{ask, marked, free, sharing_row, caching_row, shar
 use Rattle.nq_model.specs.Kept.{File, find_file, new_file}
 use Rattle.nq_model.specs.ServerStep.{access_of, end_reading, is_over, vacated_rows}
 use Rattle.nq_model.specs.Table.{Table, caches, is_writing, tag_below, is_row_of, find_row, put_row, with_rows, after_draw}
-use Rattle.walk_client.proofs.ClientMoves.{some-same, none-some}
-use Rattle.walk_leases.proofs.Covers.{AreOfBoot, GoesOnAt, same-goes-on, marked-goes-on, granted-goes-on, waiting-goes-on}
-use Rattle.walk_run.proofs.TagFacts.{IsDrawn}
-use Rattle.walk_server.proofs.AskCases.{asks, clash_in, with_marked, with_waiter, IsGranted, shares_again, begins_sharing, begins_caching, renews_row}
-use Rattle.walk_server.proofs.RowChanges.{of-key, found-put, found-marked, mark-is, found-kept, find-kept, kept_if, found-vacated, unique-vacated, unique-filtered}
-use Rattle.walk_server.proofs.Rows.{decided, same-number, number-same, found-row}
-use Rattle.walk_server.proofs.TableFits.{TableFits, fits-fewer, fits-granted, fits-marked, fits-waiter}
+use Rattle.walk_steps.proofs.ClientMoves.{some-same, none-some}
+use Rattle.walk_steps.proofs.Covers.{AreOfBoot, GoesOnAt, same-goes-on, marked-goes-on, granted-goes-on, waiting-goes-on}
+use Rattle.walk_steps.proofs.TagFacts.{IsDrawn}
+use Rattle.walk_steps.proofs.AskCases.{asks, clash_in, with_marked, with_waiter, IsGranted, shares_again, begins_sharing, begins_caching, renews_row}
+use Rattle.walk_steps.proofs.RowChanges.{of-key, found-put, found-marked, mark-is, found-kept, find-kept, kept_if, found-vacated, unique-vacated, unique-filtered}
+use Rattle.walk_steps.proofs.Rows.{decided, same-number, number-same, found-row}
+use Rattle.walk_steps.proofs.TableFits.{TableFits, fits-fewer, fits-granted, fits-marked, fits-waiter}
 
 -- ---- files that stand for directories
 

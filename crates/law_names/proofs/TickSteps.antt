@@ -18,15 +18,15 @@ use Rattle.nq_name_cache.specs.Names.{Names}
 use Rattle.nq_name_server.specs.Served.{Served, names_of, number_of}
 use Rattle.nq_name_server.specs.Serving.{ticks}
 use Rattle.nq_names_run.specs.Outer.{Outer}
-use Rattle.walk_client.proofs.ClientMoves.{none-some}
-use Rattle.walk_run.proofs.Clocks.{runs-below, same-cover}
-use Rattle.walk_run.proofs.Packets.{In}
-use Rattle.walk_server.proofs.KeptChanges.{same-lines}
-use Rattle.walk_server.proofs.Rows.{same-number}
-use Rattle.walk_server.proofs.ServerMoves.{tick-keeps, tick-moves}
-use Rattle.walk_server.proofs.TableFits.{TableFits, no-rows-fit}
-use Rattle.walk_tables.proofs.ServerFacts.{fence-lines}
-use Rattle.walk_tables.proofs.ServerNumbers.{fence-longest}
+use Rattle.walk_steps.proofs.ClientMoves.{none-some}
+use Rattle.walk_steps.proofs.Clocks.{runs-below, same-cover}
+use Rattle.walk_steps.proofs.Packets.{In}
+use Rattle.walk_steps.proofs.KeptChanges.{same-lines}
+use Rattle.walk_steps.proofs.Rows.{same-number}
+use Rattle.walk_steps.proofs.ServerMoves.{tick-keeps, tick-moves}
+use Rattle.walk_steps.proofs.TableFits.{TableFits, no-rows-fit}
+use Rattle.walk_steps.proofs.ServerFacts.{fence-lines}
+use Rattle.walk_steps.proofs.ServerNumbers.{fence-longest}
 use Rattle.law_names.proofs.Chains.{HasFit, IsServed, Leads, WasDrawn}
 use Rattle.law_names.proofs.Claims.{Outlasts, Shift}
 use Rattle.law_names.proofs.Entries.{entries_in, entries_of}

@@ -18,11 +18,11 @@ use Rattle.nq_wire.specs.Reply.{Answers, IsRefusable}
 use Rattle.nq_wire.specs.Request.{procedure_of}
 use Rattle.nq_datagrams.specs.Laws.{IsOfTicket}
 use Rattle.nq_datagrams.proofs.Readers.{client-reads-messages}
-use Rattle.walk_client.proofs.ClientFacts.{fits_job}
-use Rattle.walk_run.proofs.Mail.{none-to-host}
-use Rattle.walk_run.proofs.Packets.{In, in-left, in-append, in-get, Asked, Told}
-use Rattle.walk_run.proofs.Worlds.{IsAt, Holds, to-server, to-told, run-holds}
-use Rattle.walk_server.proofs.ServerCases.{server-ticks}
+use Rattle.walk_steps.proofs.ClientFacts.{fits_job}
+use Rattle.walk_steps.proofs.Mail.{none-to-host}
+use Rattle.walk_steps.proofs.Packets.{In, in-left, in-append, in-get, Asked, Told}
+use Rattle.walk_steps.proofs.Worlds.{IsAt, Holds, to-server, to-told, run-holds}
+use Rattle.walk_steps.proofs.ServerCases.{server-ticks}
 use Rattle.law_replies.specs.Replies.{RepliesAreOfTheirRequest, EachPacketIsHeard}
 use Rattle.law_replies.proofs.ServerReplies.{IsReplyOf, receive-tells}
 

@@ -15,11 +15,11 @@ use Rattle.nq_model.specs.ServerStep.{attaches, vacates, tells_later, serves, le
 use Rattle.nq_model.specs.Table.{Table}
 use Rattle.nq_wire.specs.Reply.{Answers}
 use Rattle.nq_wire.specs.Request.{procedure_of}
-use Rattle.walk_client.proofs.ClientMoves.{none-some}
-use Rattle.walk_run.proofs.Packets.{In, in-append, told-same, reply-same}
-use Rattle.walk_run.proofs.ServerSays.{notices-no-reply, verdict-inc, plain-inc}
-use Rattle.walk_server.proofs.ServerCases.{server-hears}
-use Rattle.walk_server.proofs.ServerOutcomes.{error-no-reply, IsPlain, unattached, attached_again, not_yet, no_entry, entry, no_attributes, attributes, no_file, no_block, decided_again, is_old}
+use Rattle.walk_steps.proofs.ClientMoves.{none-some}
+use Rattle.walk_steps.proofs.Packets.{In, in-append, told-same, reply-same}
+use Rattle.walk_steps.proofs.ServerSays.{notices-no-reply, verdict-inc, plain-inc}
+use Rattle.walk_steps.proofs.ServerCases.{server-hears}
+use Rattle.walk_steps.proofs.ServerOutcomes.{error-no-reply, IsPlain, unattached, attached_again, not_yet, no_entry, entry, no_attributes, attributes, no_file, no_block, decided_again, is_old}
 
 -- a reply is of a request's procedure, or refuses it
 abbrev pub IsReplyOf : Reply → Request → Type 0

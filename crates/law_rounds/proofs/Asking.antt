@@ -21,17 +21,17 @@ use Rattle.nq_model.specs.World.{Head, run}
 use Rattle.nq_promises.specs.Bounds.{KeepsBounds}
 use Rattle.nq_promises.specs.RepliesAreOwed.{has_reply, is_out_of_bounds, owes, CanBe}
 use Rattle.law_bounds.proofs.WorldNumbers.{drawn-up-to}
-use Rattle.law_leases.proofs.LeaseIntervals.{run-runs}
-use Rattle.law_owed.proofs.Owing.{replies-are-owed}
-use Rattle.law_progress.proofs.Attaching.{attach-answered}
-use Rattle.walk_client.proofs.ClientFacts.{fits_job, Alone}
-use Rattle.walk_client.proofs.ClientMoves.{some-same}
-use Rattle.walk_run.proofs.Packets.{In}
-use Rattle.walk_run.proofs.Worlds.{run-holds}
-use Rattle.walk_server.proofs.Rows.{number-same}
+use Rattle.law_bounds.proofs.LeaseIntervals.{run-runs}
+use Rattle.law_rounds.proofs.Owing.{replies-are-owed}
+use Rattle.law_rounds.proofs.Attaching.{attach-answered}
+use Rattle.walk_steps.proofs.ClientFacts.{fits_job, Alone}
+use Rattle.walk_steps.proofs.ClientMoves.{some-same}
+use Rattle.walk_steps.proofs.Packets.{In}
+use Rattle.walk_steps.proofs.Worlds.{run-holds}
+use Rattle.walk_steps.proofs.Rows.{number-same}
 use Rattle.law_rounds.proofs.Fair.{counts-same}
 use Rattle.law_rounds.proofs.Lines.{Lined, run-lined}
-use Rattle.law_rounds.proofs.LowValues.{stays-within}
+use Rattle.law_bounds.proofs.LowValues.{stays-within}
 use Rattle.law_rounds.proofs.Revisions.{revisions-up-to}
 use Rattle.law_rounds.proofs.ServerAnswers.{answers-it}
 

@@ -2,11 +2,11 @@
 use Rattle.std.proofs.Common.{◌≡◌, ℕ, zero, suc, List, [], ◌∷◌, length, refl, subst, ap, ◌∙◌, arith}
 use Rattle.nq_model.specs.Lines.{Play, play_flow, flow_first, play_rounds}
 use Rattle.nq_model.specs.World.{Head}
-use Rattle.law_deliveries.specs.DeliveryEnds.{enough_deliveries}
-use Rattle.law_progress.specs.CalmRound.{calm_round, calm_rounds}
-use Rattle.law_progress.specs.CalmRoundsAreLawful.{IsLawful}
-use Rattle.law_progress.proofs.CalmEnds.{IsRising, round-rising, lawful-delivers}
-use Rattle.law_progress.proofs.CalmIsLawful.{calm-round}
+use Rattle.law_rounds.specs.DeliveryEnds.{enough_deliveries}
+use Rattle.law_rounds.specs.CalmRound.{calm_round, calm_rounds}
+use Rattle.law_rounds.specs.CalmRoundsAreLawful.{IsLawful}
+use Rattle.law_rounds.proofs.CalmEnds.{IsRising, round-rising, lawful-delivers}
+use Rattle.law_rounds.proofs.CalmIsLawful.{calm-round}
 use Rattle.law_rounds.specs.WholeRounds.{play_order, IsInOrder, whole_round, whole_rounds, AreWhole, LinksKeepOrder}
 use Rattle.law_rounds.proofs.Next.{first-next}
 

@@ -10,14 +10,14 @@ use Rattle.nq_model.specs.Client.{Client, ClientStep, begun, Ticket}
 use Rattle.nq_model.specs.ClientStep.{client_call, client_tick, at_time, restart, starts, fresh_client}
 use Rattle.nq_model.specs.Hear.{inc_of, reply_counts, hear, goes_on, replied, evicted, cancels}
 use Rattle.nq_model.specs.Message.{Message, Packet, call, reply, sequence_of}
-use Rattle.walk_client.proofs.ClientCases.{Core, core_of, Closed}
-use Rattle.walk_client.proofs.ClientFacts.{Alone}
-use Rattle.walk_client.proofs.ClientMoves.{some-same, none-some, keeps-or-cancels}
-use Rattle.walk_client.proofs.ClientWalk.{reply-keeps, notice-keeps, call-keeps, tick-keeps}
-use Rattle.walk_client.proofs.StepCases.{heard-cases}
-use Rattle.walk_run.proofs.Packets.{In, in-left, in-right, Told}
-use Rattle.walk_run.proofs.ServerKnows.{NoneHeard, NoneGiven}
-use Rattle.walk_run.proofs.Worlds.{IsAt, given-by}
+use Rattle.walk_steps.proofs.ClientCases.{Core, core_of, Closed}
+use Rattle.walk_steps.proofs.ClientFacts.{Alone}
+use Rattle.walk_steps.proofs.ClientMoves.{some-same, none-some, keeps-or-cancels}
+use Rattle.walk_steps.proofs.ClientWalk.{reply-keeps, notice-keeps, call-keeps, tick-keeps}
+use Rattle.walk_steps.proofs.StepCases.{heard-cases}
+use Rattle.walk_steps.proofs.Packets.{In, in-left, in-right, Told}
+use Rattle.walk_steps.proofs.ServerKnows.{NoneHeard, NoneGiven}
+use Rattle.walk_steps.proofs.Worlds.{IsAt, given-by}
 
 -- a request under way: the same as before; or sent again; or a new one, whose sequence, if it has one, was drawn now
 pub data TicketIs (old : Option Ticket) (seq : ℕ) (sends : List Message) (t : Ticket) : Type 0 where

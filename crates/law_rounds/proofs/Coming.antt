@@ -10,12 +10,12 @@ use Rattle.nq_model.specs.Lines.{Play, play, delivered, numbers_from, added}
 use Rattle.nq_model.specs.Message.{Packet, datagram_of}
 use Rattle.nq_model.specs.ServerStep.{receive}
 use Rattle.nq_model.specs.World.{World, after_client, after_server, after_hearing, sending_host, deliver, deliver_to, deliver_to_client, step}
-use Rattle.walk_run.proofs.Members.{filter-in}
-use Rattle.walk_run.proofs.Packets.{In, in-left, in-right}
-use Rattle.walk_run.proofs.Steps.{step-changes}
-use Rattle.walk_server.proofs.Rows.{same-number}
-use Rattle.law_progress.proofs.PacketsCome.{Comes, get-kept}
-use Rattle.law_progress.proofs.QuietFlows.{grown}
+use Rattle.walk_steps.proofs.Members.{filter-in}
+use Rattle.walk_steps.proofs.Packets.{In, in-left, in-right}
+use Rattle.walk_steps.proofs.Steps.{step-changes}
+use Rattle.walk_steps.proofs.Rows.{same-number}
+use Rattle.law_rounds.proofs.PacketsCome.{Comes, get-kept}
+use Rattle.law_rounds.proofs.QuietFlows.{grown}
 
 -- ---- lists
 

@@ -17,16 +17,16 @@ use Rattle.nq_model.specs.Settle.{ticket_is_for_call, answers, after_read, reads
 use Rattle.nq_model.specs.Table.{is_writing}
 use Rattle.nq_model.specs.World.{Head, World, after_server, after_client, start, run}
 use Rattle.nq_model.proofs.ClientLists.{marked-before, marked-mode, marked-expiry}
-use Rattle.walk_client.proofs.ClientFacts.{Alone, DelayingOf}
-use Rattle.walk_client.proofs.ClientMoves.{some-same, none-some}
-use Rattle.walk_client.proofs.SendCases.{send-moves}
-use Rattle.walk_client.proofs.SettleCases.{settle-cases, settle-settles, Settled, IsSync, of_sync, of_put}
-use Rattle.walk_client.proofs.StepCases.{call-cases, unless-cached-cases, tick-cases, heard-cases}
-use Rattle.walk_run.proofs.Packets.{In}
-use Rattle.walk_run.proofs.Steps.{Changes, nothing, by_client, by_server, ClientActs, called, ticked, restarted, heard, step-changes}
-use Rattle.walk_run.proofs.Worlds.{Holds, run-holds, get-set-same, get-set-other, set-there, first-client}
-use Rattle.walk_server.proofs.Rows.{choice, same-number, number-same, find-passes}
-use Rattle.walk_server.proofs.Tests.{is-not-at-most}
+use Rattle.walk_steps.proofs.ClientFacts.{Alone, DelayingOf}
+use Rattle.walk_steps.proofs.ClientMoves.{some-same, none-some}
+use Rattle.walk_steps.proofs.SendCases.{send-moves}
+use Rattle.walk_steps.proofs.SettleCases.{settle-cases, settle-settles, Settled, IsSync, of_sync, of_put}
+use Rattle.walk_steps.proofs.StepCases.{call-cases, unless-cached-cases, tick-cases, heard-cases}
+use Rattle.walk_steps.proofs.Packets.{In}
+use Rattle.walk_steps.proofs.Steps.{Changes, nothing, by_client, by_server, ClientActs, called, ticked, restarted, heard, step-changes}
+use Rattle.walk_steps.proofs.Worlds.{Holds, run-holds, get-set-same, get-set-other, set-there, first-client}
+use Rattle.walk_steps.proofs.Rows.{choice, same-number, number-same, find-passes}
+use Rattle.walk_steps.proofs.Tests.{is-not-at-most}
 
 -- nothing is due
 pub record NoneDue (c : Client) : Type 0 where

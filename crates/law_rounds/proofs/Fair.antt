@@ -15,8 +15,8 @@ use Rattle.nq_model.specs.Hear.{inc_of, reply_counts}
 use Rattle.nq_model.specs.LeaseInterval.{requested_file}
 use Rattle.nq_model.specs.Message.{sequence_of}
 use Rattle.nq_model.specs.Server.{Server}
-use Rattle.walk_client.proofs.ClientFacts.{fits_job}
-use Rattle.walk_server.proofs.ServerOutcomes.{IsDeclined, bad_length, name_taken, no_room, not_kept, outside, no_row, not_under, not_over, not_while_recovering, bad_size, no_room_to_grow, base_in, only_asks}
+use Rattle.walk_steps.proofs.ClientFacts.{fits_job}
+use Rattle.walk_steps.proofs.ServerOutcomes.{IsDeclined, bad_length, name_taken, no_room, not_kept, outside, no_row, not_under, not_over, not_while_recovering, bad_size, no_room_to_grow, base_in, only_asks}
 
 -- a reply counts for a request of this job
 abbrev pub counts_for : Reply → Request → Job → Bool

@@ -17,21 +17,21 @@ use Rattle.nq_model.specs.Server.{to_host}
 use Rattle.nq_model.specs.ServerStep.{receive}
 use Rattle.nq_model.specs.Stepped.{most_sent}
 use Rattle.nq_model.specs.World.{Head, World, from_host, after_client, after_server, at_client, sending_host, step, run}
-use Rattle.law_calm.proofs.GoingOn.{calls-go-on}
-use Rattle.law_calm.proofs.ClientCount.{client-count}
-use Rattle.law_deliveries.specs.DeliveryEnds.{enough_deliveries}
-use Rattle.law_progress.specs.CalmRound.{calm_round, calm_rounds}
-use Rattle.law_progress.specs.CalmRoundsAreLawful.{IsLawful}
-use Rattle.law_progress.proofs.PacketsCome.{Comes}
-use Rattle.law_progress.proofs.AllAttached.{rounds-more}
-use Rattle.law_progress.proofs.CalmIsLawful.{played-quiet}
-use Rattle.law_progress.proofs.QuietFlows.{grown}
-use Rattle.walk_client.proofs.ClientMoves.{some-same, none-some}
-use Rattle.walk_client.proofs.StepCases.{heard-cases}
-use Rattle.walk_run.proofs.Packets.{In, in-get, Told}
-use Rattle.walk_run.proofs.Steps.{step-changes}
-use Rattle.walk_run.proofs.Worlds.{IsAt, Holds, get-set-other, set-there, to-told, run-holds}
-use Rattle.walk_server.proofs.Rows.{same-number, number-same}
+use Rattle.law_rounds.proofs.GoingOn.{calls-go-on}
+use Rattle.law_rounds.proofs.ClientCount.{client-count}
+use Rattle.law_rounds.specs.DeliveryEnds.{enough_deliveries}
+use Rattle.law_rounds.specs.CalmRound.{calm_round, calm_rounds}
+use Rattle.law_rounds.specs.CalmRoundsAreLawful.{IsLawful}
+use Rattle.law_rounds.proofs.PacketsCome.{Comes}
+use Rattle.law_rounds.proofs.AllAttached.{rounds-more}
+use Rattle.law_rounds.proofs.CalmIsLawful.{played-quiet}
+use Rattle.law_rounds.proofs.QuietFlows.{grown}
+use Rattle.walk_steps.proofs.ClientMoves.{some-same, none-some}
+use Rattle.walk_steps.proofs.StepCases.{heard-cases}
+use Rattle.walk_steps.proofs.Packets.{In, in-get, Told}
+use Rattle.walk_steps.proofs.Steps.{step-changes}
+use Rattle.walk_steps.proofs.Worlds.{IsAt, Holds, get-set-other, set-there, to-told, run-holds}
+use Rattle.walk_steps.proofs.Rows.{same-number, number-same}
 use Rattle.law_rounds.specs.RoundsEndQuiet.{IsSmall}
 use Rattle.law_rounds.specs.WholeRounds.{play_order, whole_round, whole_rounds}
 use Rattle.law_rounds.proofs.Asking.{AnswersTicket, asks-answered}

@@ -17,16 +17,16 @@ use Rattle.nq_model.specs.Skew.{IsWithinSkew, ticks_of}
 use Rattle.nq_model.specs.Table.{Table, caches, is_writing, find_row}
 use Rattle.nq_model.specs.World.{Head, after_client, after_server, sending_host, start, run}
 use Rattle.nq_promises.specs.Bounds.{KeepsBounds}
-use Rattle.law_calm.proofs.RowEnds.{rows-end-soon, recoveries-end-soon}
-use Rattle.law_leases.proofs.LeaseIntervals.{run-runs}
-use Rattle.walk_leases.proofs.WorldClocks.{run-clocked}
-use Rattle.walk_run.proofs.CoverFacts.{IsTakeable}
-use Rattle.walk_run.proofs.Clocks.{runs-below}
-use Rattle.walk_run.proofs.RunCases.{Keeps, run-keeps}
-use Rattle.walk_run.proofs.Worlds.{run-holds}
-use Rattle.walk_server.proofs.Rows.{choice}
-use Rattle.walk_server.proofs.ServerMoves.{server-moves, phase-moves, tick-moves}
-use Rattle.walk_server.proofs.Tests.{is-below, is-not-below}
+use Rattle.law_rounds.proofs.RowEnds.{rows-end-soon, recoveries-end-soon}
+use Rattle.law_bounds.proofs.LeaseIntervals.{run-runs}
+use Rattle.walk_steps.proofs.WorldClocks.{run-clocked}
+use Rattle.walk_steps.proofs.CoverFacts.{IsTakeable}
+use Rattle.walk_steps.proofs.Clocks.{runs-below}
+use Rattle.walk_steps.proofs.RunCases.{Keeps, run-keeps}
+use Rattle.walk_steps.proofs.Worlds.{run-holds}
+use Rattle.walk_steps.proofs.Rows.{choice}
+use Rattle.walk_steps.proofs.ServerMoves.{server-moves, phase-moves, tick-moves}
+use Rattle.walk_steps.proofs.Tests.{is-below, is-not-below}
 
 -- the rows of the last table end so long before the recovery
 abbrev pub EndsBefore : Phase → Type 0

@@ -13,10 +13,10 @@ use Rattle.nq_model.specs.Profile.{most_hosts}
 use Rattle.nq_model.specs.Server.{Server, ServerStep, quiet, drops, says, after_notices, keeping, keeping_with, with_table}
 use Rattle.nq_model.specs.ServerStep.{receive, row_of_attach, attaches, tells_later, serves, leases, vacates}
 use Rattle.nq_model.specs.Table.{with_rows}
-use Rattle.walk_server.proofs.KeptChanges.{own-line, other-line, same-lines}
-use Rattle.walk_server.proofs.Rows.{same-number, number-same}
-use Rattle.walk_server.proofs.ServerCases.{server-hears}
-use Rattle.walk_server.proofs.ServerOutcomes.{IsFrom, IsFresh}
+use Rattle.walk_steps.proofs.KeptChanges.{own-line, other-line, same-lines}
+use Rattle.walk_steps.proofs.Rows.{same-number, number-same}
+use Rattle.walk_steps.proofs.ServerCases.{server-hears}
+use Rattle.walk_steps.proofs.ServerOutcomes.{IsFrom, IsFresh}
 use Rattle.law_rounds.proofs.Fair.{fair, fair-later, declined-fair}
 
 pub data LineGoes (s : Server) (sender : ℕ) (d : Datagram) (host : ℕ) (after : HostRow) : Type 0 where

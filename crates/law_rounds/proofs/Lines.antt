@@ -14,16 +14,16 @@ use Rattle.nq_model.specs.ServerStep.{receive, tick, crash, boot, row_of_attach}
 use Rattle.nq_model.specs.Skew.{IsWithinSkew}
 use Rattle.nq_model.specs.World.{Head, World, after_client, after_server, sending_host, start, run}
 use Rattle.nq_promises.specs.Bounds.{KeepsBounds}
-use Rattle.law_leases.proofs.LeaseIntervals.{run-runs}
-use Rattle.law_requests.proofs.WorldSequences.{run-draws}
-use Rattle.walk_client.proofs.ClientMoves.{some-same, none-some}
-use Rattle.walk_leases.proofs.KnownWorlds.{first-line, first-there}
-use Rattle.walk_leases.proofs.TickLines.{tick-line}
-use Rattle.walk_run.proofs.HostLine.{IsSettled}
-use Rattle.walk_run.proofs.Packets.{In, in-get, Asked}
-use Rattle.walk_run.proofs.RunCases.{Keeps, OfClients, clients-after, run-keeps}
-use Rattle.walk_run.proofs.Worlds.{first-client, to-server, to-told, run-holds}
-use Rattle.walk_server.proofs.KeptChanges.{booted-line}
+use Rattle.law_bounds.proofs.LeaseIntervals.{run-runs}
+use Rattle.law_bounds.proofs.WorldSequences.{run-draws}
+use Rattle.walk_steps.proofs.ClientMoves.{some-same, none-some}
+use Rattle.walk_steps.proofs.KnownWorlds.{first-line, first-there}
+use Rattle.walk_steps.proofs.TickLines.{tick-line}
+use Rattle.walk_steps.proofs.HostLine.{IsSettled}
+use Rattle.walk_steps.proofs.Packets.{In, in-get, Asked}
+use Rattle.walk_steps.proofs.RunCases.{Keeps, OfClients, clients-after, run-keeps}
+use Rattle.walk_steps.proofs.Worlds.{first-client, to-server, to-told, run-holds}
+use Rattle.walk_steps.proofs.KeptChanges.{booted-line}
 use Rattle.law_rounds.proofs.ClientTickets.{TicketIs, kept, resent, fresh, LastDrawn, Renewed, call-renews, tick-renews, hear-renews}
 use Rattle.law_rounds.proofs.Fair.{fair, fair-done}
 use Rattle.law_rounds.proofs.LineSteps.{LineGoes, line_same, line_attached, line_decided, line-goes}

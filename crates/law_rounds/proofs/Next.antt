@@ -5,10 +5,10 @@ use Rattle.std.proofs.lemmas.Bool.{and_from, and_parts}
 use Rattle.nq_base.specs.declared.Party.{Party}
 use Rattle.nq_model.specs.Lines.{Play}
 use Rattle.nq_model.specs.Message.{Packet}
-use Rattle.law_deliveries.proofs.Items.{Rise}
-use Rattle.law_progress.proofs.CalmEnds.{IsRising}
-use Rattle.walk_run.proofs.Packets.{In, in-append, in-right}
-use Rattle.walk_server.proofs.Rows.{same-number, number-same}
+use Rattle.law_rounds.proofs.Items.{Rise}
+use Rattle.law_rounds.proofs.CalmEnds.{IsRising}
+use Rattle.walk_steps.proofs.Packets.{In, in-append, in-right}
+use Rattle.walk_steps.proofs.Rows.{same-number, number-same}
 use Rattle.law_rounds.specs.WholeRounds.{same_party, of_one_link, is_next}
 
 -- two packets are of one link

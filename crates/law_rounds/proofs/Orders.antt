@@ -3,9 +3,9 @@ use Rattle.std.proofs.Common.{◌≡◌, ◌≤◌, ℕ, ◌++◌, zero, suc, Li
 use Rattle.nq_base.specs.declared.Event.{Event}
 use Rattle.nq_model.specs.Lines.{Play, play, play_hosts}
 use Rattle.nq_model.specs.World.{Head}
-use Rattle.law_progress.specs.CalmRoundsAreLawful.{IsLawful}
-use Rattle.law_progress.proofs.CalmEnds.{IsRising, played-rising, hosts-rising}
-use Rattle.law_progress.proofs.CalmIsLawful.{played-quiet, round}
+use Rattle.law_rounds.specs.CalmRoundsAreLawful.{IsLawful}
+use Rattle.law_rounds.proofs.CalmEnds.{IsRising, played-rising, hosts-rising}
+use Rattle.law_rounds.proofs.CalmIsLawful.{played-quiet, round}
 use Rattle.law_rounds.specs.WholeRounds.{play_order, whole_round, whole_rounds, AreWhole, LinksKeepOrder}
 
 module _ (most : ℕ) (head : Head) where

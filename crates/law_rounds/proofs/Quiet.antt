@@ -6,20 +6,20 @@ use Rattle.nq_base.specs.declared.Push.{Push}
 use Rattle.nq_model.specs.Client.{Client, Notice, UnderWay, notice_on}
 use Rattle.nq_model.specs.Lines.{Play}
 use Rattle.nq_model.specs.World.{Head, World, run}
-use Rattle.law_calm.specs.CallsGoOn.{GoesOn}
-use Rattle.law_calm.proofs.ClientCount.{client-count}
-use Rattle.law_calm.proofs.GoingOn.{calls-go-on}
-use Rattle.law_calm.proofs.HostsBelow.{get-below}
-use Rattle.law_chains.proofs.ChainWorlds.{chain-fits}
-use Rattle.law_deliveries.specs.DeliveryEnds.{calmed, enough_deliveries}
-use Rattle.law_progress.specs.CalmRound.{calm_rounds}
-use Rattle.law_progress.specs.CalmRoundsAreLawful.{IsLawful}
-use Rattle.law_progress.proofs.AllAttached.{rounds-more}
-use Rattle.law_progress.proofs.CalmEnds.{IsRising, rounds-rising, calmed-rising}
-use Rattle.law_progress.proofs.CalmIsLawful.{rounds}
-use Rattle.walk_client.proofs.ClientMoves.{none-some}
-use Rattle.walk_client.proofs.SettleCases.{IsSync, of_sync, of_put}
-use Rattle.walk_run.proofs.Worlds.{run-holds}
+use Rattle.law_rounds.specs.CallsGoOn.{GoesOn}
+use Rattle.law_rounds.proofs.ClientCount.{client-count}
+use Rattle.law_rounds.proofs.GoingOn.{calls-go-on}
+use Rattle.law_rounds.proofs.HostsBelow.{get-below}
+use Rattle.law_files.proofs.ChainWorlds.{chain-fits}
+use Rattle.law_rounds.specs.DeliveryEnds.{calmed, enough_deliveries}
+use Rattle.law_rounds.specs.CalmRound.{calm_rounds}
+use Rattle.law_rounds.specs.CalmRoundsAreLawful.{IsLawful}
+use Rattle.law_rounds.proofs.AllAttached.{rounds-more}
+use Rattle.law_rounds.proofs.CalmEnds.{IsRising, rounds-rising, calmed-rising}
+use Rattle.law_rounds.proofs.CalmIsLawful.{rounds}
+use Rattle.walk_steps.proofs.ClientMoves.{none-some}
+use Rattle.walk_steps.proofs.SettleCases.{IsSync, of_sync, of_put}
+use Rattle.walk_steps.proofs.Worlds.{run-holds}
 use Rattle.law_rounds.specs.RoundsEndQuiet.{IsSmall, all_delivered, waits_to_store, IsQuiet, RoundsEndQuiet}
 use Rattle.law_rounds.proofs.Dues.{NoneDue, run-due}
 use Rattle.law_rounds.specs.WholeRounds.{play_order, whole_rounds, WholeRoundsEndQuiet}

@@ -22,21 +22,21 @@ use Rattle.nq_model.specs.Server.{Phase, recovering, Server, ServerStep, last_ta
 use Rattle.nq_model.specs.ServerStep.{receive, tick, attaches, tells_later, serves, leases, vacates}
 use Rattle.nq_model.specs.Table.{Table, is_writing, find_row}
 use Rattle.nq_model.specs.World.{Head, World, after_client, after_server, sending_host, step, run}
-use Rattle.law_chains.proofs.ChainWorlds.{chain-fits}
-use Rattle.law_leases.proofs.LeaseIntervals.{run-runs}
-use Rattle.law_requests.proofs.WorldSequences.{run-draws}
-use Rattle.law_progress.specs.CalmRoundsAreLawful.{IsLawful}
-use Rattle.law_progress.proofs.Attaching.{hear-stays}
-use Rattle.walk_client.proofs.ClientFacts.{IsTicket}
-use Rattle.walk_client.proofs.ClientMoves.{none-some}
-use Rattle.walk_run.proofs.ClientSteps.{KnowsOf}
-use Rattle.walk_run.proofs.HostLine.{IsSettled}
-use Rattle.walk_run.proofs.Packets.{in-get, Asked, Told}
-use Rattle.walk_run.proofs.Worlds.{IsAt, Holds, get-set-same, get-set-other, to-server, to-told, run-holds}
-use Rattle.walk_server.proofs.Rows.{same-number, number-same}
-use Rattle.walk_server.proofs.ServerCases.{server-hears}
-use Rattle.walk_server.proofs.ServerMoves.{server-moves, phase-moves, tick-moves}
-use Rattle.walk_server.proofs.ServerOutcomes.{IsFresh}
+use Rattle.law_files.proofs.ChainWorlds.{chain-fits}
+use Rattle.law_bounds.proofs.LeaseIntervals.{run-runs}
+use Rattle.law_bounds.proofs.WorldSequences.{run-draws}
+use Rattle.law_rounds.specs.CalmRoundsAreLawful.{IsLawful}
+use Rattle.law_rounds.proofs.Attaching.{hear-stays}
+use Rattle.walk_steps.proofs.ClientFacts.{IsTicket}
+use Rattle.walk_steps.proofs.ClientMoves.{none-some}
+use Rattle.walk_steps.proofs.ClientSteps.{KnowsOf}
+use Rattle.walk_steps.proofs.HostLine.{IsSettled}
+use Rattle.walk_steps.proofs.Packets.{in-get, Asked, Told}
+use Rattle.walk_steps.proofs.Worlds.{IsAt, Holds, get-set-same, get-set-other, to-server, to-told, run-holds}
+use Rattle.walk_steps.proofs.Rows.{same-number, number-same}
+use Rattle.walk_steps.proofs.ServerCases.{server-hears}
+use Rattle.walk_steps.proofs.ServerMoves.{server-moves, phase-moves, tick-moves}
+use Rattle.walk_steps.proofs.ServerOutcomes.{IsFresh}
 use Rattle.law_rounds.specs.RoundsEndQuiet.{IsQuiet}
 use Rattle.law_rounds.proofs.Coming.{Delivery, no_packet, at_server, at_host, ignored, no_client, delivery}
 use Rattle.law_rounds.proofs.LastRows.{same-until, same-last, not-serving, lease-over, grant-over}

@@ -11,8 +11,8 @@ use Rattle.nq_model.specs.ServerStep.{receive, tick, crash, boot, fence, booted,
 use Rattle.nq_model.specs.World.{Head, World, sending_host, first_files, first_kept, after_client, after_server, start, run}
 use Rattle.nq_model.proofs.Finding.{choice}
 use Rattle.nq_model.proofs.FreshFits.{found-has}
-use Rattle.walk_run.proofs.Steps.{Changes, nothing, by_client, by_server, ServerActs, received, ticks, crashes, step-changes}
-use Rattle.walk_server.proofs.ServerCases.{server-hears, server-ticks}
+use Rattle.walk_steps.proofs.Steps.{Changes, nothing, by_client, by_server, ServerActs, received, ticks, crashes, step-changes}
+use Rattle.walk_steps.proofs.ServerCases.{server-hears, server-ticks}
 
 -- no revision is above this number
 abbrev pub UpTo : ℕ → List File → Type 0

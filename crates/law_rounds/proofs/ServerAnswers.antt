@@ -16,11 +16,11 @@ use Rattle.nq_model.specs.Message.{Packet, request, reply, asker, sequence_of}
 use Rattle.nq_model.specs.Server.{Server, ServerStep, to_host, quiet, drops, says, notices}
 use Rattle.nq_model.specs.ServerStep.{receive, attaches, tells_later, serves, leases, vacates}
 use Rattle.nq_model.specs.Table.{Table}
-use Rattle.walk_client.proofs.ClientFacts.{fits_job}
-use Rattle.walk_client.proofs.ClientMoves.{some-same, none-some}
-use Rattle.walk_run.proofs.Packets.{In, in-right}
-use Rattle.walk_server.proofs.ServerCases.{server-hears}
-use Rattle.walk_server.proofs.ServerOutcomes.{IsPlain, unattached, attached_again, not_yet, no_entry, entry, no_attributes, attributes, no_file, no_block, decided_again, is_old, line_of}
+use Rattle.walk_steps.proofs.ClientFacts.{fits_job}
+use Rattle.walk_steps.proofs.ClientMoves.{some-same, none-some}
+use Rattle.walk_steps.proofs.Packets.{In, in-right}
+use Rattle.walk_steps.proofs.ServerCases.{server-hears}
+use Rattle.walk_steps.proofs.ServerOutcomes.{IsPlain, unattached, attached_again, not_yet, no_entry, entry, no_attributes, attributes, no_file, no_block, decided_again, is_old, line_of}
 use Rattle.law_rounds.proofs.Fair.{counts_for, fair, fair-counts, verdict-inc, fair-later, declined-fair, later-counts, requested-asks, stale-counts, lookup-counts, attributes-count, block-counts, no-attach, no-vacated}
 
 -- the step sends a reply to the request, which counts for it

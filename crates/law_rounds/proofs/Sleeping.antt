@@ -18,12 +18,12 @@ use Rattle.nq_model.specs.Table.{is_writing}
 use Rattle.nq_model.specs.LeaseInterval.{grant_in}
 use Rattle.nq_model.proofs.ClientLists.{lease-before-drop, lease-after-put, marked-before, marked-mode, marked-expiry}
 use Rattle.std.proofs.lemmas.Bool.{and_parts}
-use Rattle.walk_server.proofs.Tests.{is-below}
-use Rattle.walk_client.proofs.ClientMoves.{none-some}
-use Rattle.walk_client.proofs.SendCases.{send-cases}
-use Rattle.walk_client.proofs.SettleCases.{settle-cases}
-use Rattle.walk_client.proofs.StepCases.{tick-cases, evicted-cases, heard-cases}
-use Rattle.walk_server.proofs.Rows.{choice}
+use Rattle.walk_steps.proofs.Tests.{is-below}
+use Rattle.walk_steps.proofs.ClientMoves.{none-some}
+use Rattle.walk_steps.proofs.SendCases.{send-cases}
+use Rattle.walk_steps.proofs.SettleCases.{settle-cases}
+use Rattle.walk_steps.proofs.StepCases.{tick-cases, evicted-cases, heard-cases}
+use Rattle.walk_steps.proofs.Rows.{choice}
 
 -- no lease that lets its holder write runs
 abbrev pub Dead : (now : ℕ) → List Lease → Type 0

@@ -4,14 +4,14 @@ use Rattle.nq_base.specs.Block.{filled, zeros}
 use Rattle.nq_model.specs.Lines.{Play}
 use Rattle.nq_model.specs.Stepped.{most_events, most_sent}
 use Rattle.nq_model.specs.World.{run}
-use Rattle.walk_run.proofs.GivenRuns.{given-run}
-use Rattle.walk_server.proofs.Tests.{is-at-most}
-use Rattle.law_deliveries.specs.DeliveryEnds.{calmed}
-use Rattle.law_progress.specs.QuietDeliveries.{recovers}
-use Rattle.law_progress.specs.SomeNeedHalf.{late_head, late_events}
-use Rattle.law_progress.proofs.SoonRounds.{soon_rounds, soon_ends, all-soon, late-lawful, late-rising}
+use Rattle.walk_steps.proofs.GivenRuns.{given-run}
+use Rattle.walk_steps.proofs.Tests.{is-at-most}
+use Rattle.law_rounds.specs.DeliveryEnds.{calmed}
+use Rattle.law_rounds.specs.QuietDeliveries.{recovers}
+use Rattle.law_rounds.specs.SomeNeedHalf.{late_head, late_events}
+use Rattle.law_rounds.proofs.SoonRounds.{soon_rounds, soon_ends, all-soon, late-lawful, late-rising}
 use Rattle.law_rounds.specs.RoundsEndQuiet.{IsSmall}
-use Rattle.law_rounds.specs.Met.{RoundsAreMet}
+use Rattle.law_rounds.specs.RoundsMet.{RoundsAreMet}
 
 late-recovers : recovers (run late_head late_events).server.phase ≡ true
 unfolding filled zeros given-run

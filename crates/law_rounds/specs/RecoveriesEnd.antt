@@ -5,9 +5,9 @@ use Rattle.nq_promises.specs.Bounds.{KeepsBounds}
 use Rattle.nq_model.specs.Profile.{skew, write_slack}
 use Rattle.nq_model.specs.Skew.{IsWithinSkew}
 use Rattle.nq_model.specs.World.{Head, run}
-use Rattle.law_deliveries.specs.DeliveryEnds.{AreUnderWay, calmed}
-use Rattle.law_progress.specs.CalmRound.{calm_rounds}
-use Rattle.law_progress.specs.QuietDeliveries.{recovers}
+use Rattle.law_rounds.specs.DeliveryEnds.{AreUnderWay, calmed}
+use Rattle.law_rounds.specs.CalmRound.{calm_rounds}
+use Rattle.law_rounds.specs.QuietDeliveries.{recovers}
 use Rattle.law_rounds.specs.RoundsEndQuiet.{IsSmall}
 
 -- after every schedule within skew, whatever is under way: the server serves after so many calm rounds as the longest term of all boots,

@@ -8,8 +8,8 @@ use Rattle.nq_model.specs.Profile.{patience, renewal}
 use Rattle.nq_model.specs.Stepped.{most_events, most_sent}
 use Rattle.nq_model.specs.Table.{is_writing}
 use Rattle.nq_model.specs.World.{run}
-use Rattle.law_deliveries.specs.DeliveryEnds.{AreUnderWay, calmed, enough_deliveries}
-use Rattle.law_progress.specs.CalmRound.{calm_rounds}
+use Rattle.law_rounds.specs.DeliveryEnds.{AreUnderWay, calmed, enough_deliveries}
+use Rattle.law_rounds.specs.CalmRound.{calm_rounds}
 
 -- a play has no more events than a schedule may have, and no more packets than may have been sent before one
 pub record IsSmall (p : Play) : Type 0 where

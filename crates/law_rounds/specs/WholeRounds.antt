@@ -8,8 +8,8 @@ use Rattle.nq_model.specs.Message.{Packet}
 use Rattle.nq_model.specs.Profile.{skew, write_slack}
 use Rattle.nq_model.specs.Skew.{IsWithinSkew}
 use Rattle.nq_model.specs.World.{Head}
-use Rattle.law_deliveries.specs.DeliveryEnds.{calmed}
-use Rattle.law_progress.specs.QuietDeliveries.{recovers}
+use Rattle.law_rounds.specs.DeliveryEnds.{calmed}
+use Rattle.law_rounds.specs.QuietDeliveries.{recovers}
 use Rattle.law_rounds.specs.RoundsEndQuiet.{IsSmall, IsQuiet}
 
 -- ---- links

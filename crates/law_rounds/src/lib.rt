@@ -1,37 +1,26 @@
-//! What holds of each calm round: whoever asks is answered in the delivery in which he asks, so each delivery ends quietly; and a recovery
-//! ends soon. The statements stand in `specs/`, and their proofs in `proofs/`.
+//! Calm rounds: replies are owed, calm deliveries end, whoever asks is answered in the delivery in which he asks, and a recovery ends
+//! soon. The statements stand in `specs/`, and their proofs in `proofs/`.
 #![tactic(auto)]
 
-ghost use Rattle.law_rounds.specs.Met.{RoundsAreMet};
-ghost use Rattle.law_rounds.specs.RecoveriesEnd.{RecoveriesEnd};
-ghost use Rattle.law_rounds.specs.RoundsEndQuiet.{RoundsEndQuiet};
-ghost use Rattle.law_rounds.specs.WholeRounds.{WholeRecoveriesEnd, WholeRoundsEndQuiet};
+mod calm;
+mod deliveries;
+mod owed;
+mod progress;
+mod rounds;
 
-/// In every run, whatever is under way: from the third calm round on no client has a request under way once all is delivered. All are
-/// attached, and no notice waits. A client that has an open call pauses for at most 2 ticks, and the call is no `sync`. Each file with delayed
-/// writes is held under a lease that goes on for more than 3 ticks.
-pub fn rounds_end_quiet()
-    ensures { RoundsEndQuiet }
-{}
-
-/// In every run, whatever is under way: the server serves after as many calm rounds as the longest term of all boots and 8 more, and after any
-/// number more.
-pub fn recoveries_end()
-    ensures { RecoveriesEnd }
-{}
-
-/// So it is with whole rounds, in which all that is under way arrives in whatever order: once two of them or more are over, all clients are quiet when
-/// all has arrived again.
-pub fn whole_rounds_end_quiet()
-    ensures { WholeRoundsEndQuiet }
-{}
-
-/// And the server serves after as many whole rounds as the longest term of all boots and 8 more, or after more.
-pub fn whole_recoveries_end()
-    ensures { WholeRecoveriesEnd }
-{}
-
-/// A schedule with a recovery in it meets all premises of these laws.
-pub fn rounds_are_met()
-    ensures { RoundsAreMet }
-{}
+pub use calm::{
+    calls_go_on, named_rows_are_to_go, notices_are_answered_at_once, notices_mark_rows,
+    recoveries_end_soon, requests_are_meant, rows_end_soon, rows_to_go_cache,
+    shared_files_stay_shared, sharing_rows_stay, turns_fall, who_asks_has_row,
+    who_is_put_off_shares,
+};
+pub use deliveries::deliveries_end;
+pub use owed::replies_are_owed;
+pub use progress::{
+    answers_stay, attached_soon, calm_deliveries_end, calm_rounds_are_lawful, clocks_tick_once,
+    deliveries_end_but_for_cancels, recovering_deliveries_end, some_need_half,
+    spared_deliveries_end, stores_stay, writers_get_leases_of_use,
+};
+pub use rounds::{
+    recoveries_end, rounds_are_met, rounds_end_quiet, whole_recoveries_end, whole_rounds_end_quiet,
+};

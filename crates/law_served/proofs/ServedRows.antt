@@ -3,7 +3,7 @@ use Rattle.std.proofs.Common.{◌≡◌, ◌≤◌, ◌⊎◌, ℕ, Bool, true, 
 use Rattle.std.specs.Prelude.{IsSome}
 use Rattle.std.specs.List.{find, filter}
 use Rattle.law_served.specs.Serving.{Coming, datagram, ticks, crashes, Does, HasBooted, HasCome, IsServed, RowsApart, ServedRowsStandApart}
-use Rattle.law_servers.proofs.KeptTags.{own-keys}
+use Rattle.law_bounds.proofs.KeptTags.{own-keys}
 use Rattle.nq_base.specs.declared.Row.{Row}
 use Rattle.nq_datagrams.specs.Incoming.{datagram_in}
 use Rattle.nq_base.specs.Entries.{EntryList}
@@ -20,9 +20,9 @@ use Rattle.nq_model.specs.Table.{empty_table}
 use Rattle.nq_server.specs.declared.Received.{Received}
 use Rattle.nq_server.specs.declared.Received.TheVariants as received
 use Rattle.nq_wire.specs.Outbox.{Datagrams}
-use Rattle.walk_server.proofs.RowChanges.{HasUniqueKeys, of-key}
-use Rattle.walk_server.proofs.TableFits.{no-rows-fit}
-use Rattle.walk_tables.proofs.ServerTables.{StandingFits, StandingFitsOf, NoneRecovering, NoneRecoveringOf, stands-receive, stands-tick, stands-boot, stands-crash, none-receive, none-tick, none-boot, none-crash}
+use Rattle.walk_steps.proofs.RowChanges.{HasUniqueKeys, of-key}
+use Rattle.walk_steps.proofs.TableFits.{no-rows-fit}
+use Rattle.walk_steps.proofs.ServerTables.{StandingFits, StandingFitsOf, NoneRecovering, NoneRecoveringOf, stands-receive, stands-tick, stands-boot, stands-crash, none-receive, none-tick, none-boot, none-crash}
 
 -- what is kept of the rows whatever comes
 record Apart (s : Server) : Type 0 where

@@ -3,13 +3,13 @@ use Rattle.std.proofs.Common.{◌≡◌, ℕ, Bool, true, false, ◌==◌, ◌&&
 use Rattle.std.specs.List.{filter}
 use Rattle.std.proofs.lemmas.Bool.Decides.{nat_tests}
 use Rattle.nq_base.specs.declared.Push.{Push}
-use Rattle.law_filled.proofs.EachOf.{each-at, each-filter}
+use Rattle.law_calls.proofs.EachOf.{each-at, each-filter}
 use Rattle.nq_model.proofs.Lists.{each-append}
 use Rattle.nq_model.specs.Client.{is_push_at, dirty_at}
 use Rattle.nq_model.specs.Journal.{Each}
 use Rattle.nq_model.specs.Settle.{overwritten, overwritten_at, with_write}
-use Rattle.walk_run.proofs.Members.{each-in, find-absent}
-use Rattle.walk_run.proofs.Packets.{In}
+use Rattle.walk_steps.proofs.Members.{each-in, find-absent}
+use Rattle.walk_steps.proofs.Packets.{In}
 
 -- delayed writes are of another block than these
 abbrev pub IsOther : Push → Push → Type 0

@@ -24,7 +24,7 @@ use Rattle.nq_staged_run.specs.Outside.{sends, inner, inner_delivery, takes_stag
 use Rattle.nq_staged_run.proofs.Inner.{Core, inner-ran, delivery-cases, core-offering}
 use Rattle.nq_stager.specs.Hearing.{Told, acknowledged, again, other, told_by}
 use Rattle.law_staged.specs.Boots.{crashes, boot_of, BootsAreCounted, brought, brought_by, since_boot, PoolIsOfItsBoot, AnswersAreOfTheBoot, CrashesLoseAll}
-use Rattle.walk_server.proofs.ServerMoves.{ServerMoves, server-moves, tick-moves}
+use Rattle.walk_steps.proofs.ServerMoves.{ServerMoves, server-moves, tick-moves}
 
 -- ---- the boot
 

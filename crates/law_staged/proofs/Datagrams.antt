@@ -21,8 +21,8 @@ use Rattle.nq_xdr.specs.declared.XdrFault.TheVariants.{Bool as NoBoolean}
 use Rattle.nq_xdr.proofs.Opaque.{boolean_again}
 use Rattle.law_staged.proofs.KnownClient.{Bodies, Asks, AllFit}
 use Rattle.nq_xdr.proofs.SameNumbers.{same-word, same-hyper}
-use Rattle.walk_client.proofs.ClientMoves.{some-same}
-use Rattle.walk_run.proofs.Packets.{In}
+use Rattle.walk_steps.proofs.ClientMoves.{some-same}
+use Rattle.walk_steps.proofs.Packets.{In}
 
 -- ---- calls
 

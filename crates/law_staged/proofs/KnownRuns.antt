@@ -20,10 +20,10 @@ use Rattle.nq_model.specs.Profile.{most_hosts}
 use Rattle.nq_model.specs.World.{Head, World, from_host, after_server, after_client, at_client, after_hearing, sending_host, deliver_to_client, deliver_to, deliver, first_clients, start, step}
 use Rattle.nq_stage.specs.declared.Written.{Written}
 use Rattle.nq_staged_run.specs.Theorem.{BringsBlock, EventBrings}
-use Rattle.walk_client.proofs.ClientMoves.{none-some}
-use Rattle.walk_run.proofs.Packets.{In}
-use Rattle.walk_run.proofs.RunCases.{clients-after}
-use Rattle.walk_run.proofs.Worlds.{Holds, step-holds, first-client, set-there}
+use Rattle.walk_steps.proofs.ClientMoves.{none-some}
+use Rattle.walk_steps.proofs.Packets.{In}
+use Rattle.walk_steps.proofs.RunCases.{clients-after}
+use Rattle.walk_steps.proofs.Worlds.{Holds, step-holds, first-client, set-there}
 
 -- a client's packet carries what it says
 abbrev pub PacketKnown : Bodies → Packet → Type 0

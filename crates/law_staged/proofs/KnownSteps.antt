@@ -12,11 +12,11 @@ use Rattle.nq_model.specs.Message.{Message}
 use Rattle.nq_model.specs.Send.{sends_request, after_seq, gives_up, send_next}
 use Rattle.nq_model.specs.Settle.{names_losses, delays, settle}
 use Rattle.nq_staged_run.specs.Theorem.{BringsBlock}
-use Rattle.walk_client.proofs.ClientFacts.{Alone}
-use Rattle.walk_client.proofs.ClientMoves.{some-same, none-some}
-use Rattle.walk_client.proofs.SendCases.{send-cases}
-use Rattle.walk_client.proofs.SettleCases.{settle-cases}
-use Rattle.walk_client.proofs.StepCases.{call-cases, unless-cached-cases, tick-cases, heard-cases}
+use Rattle.walk_steps.proofs.ClientFacts.{Alone}
+use Rattle.walk_steps.proofs.ClientMoves.{some-same, none-some}
+use Rattle.walk_steps.proofs.SendCases.{send-cases}
+use Rattle.walk_steps.proofs.SettleCases.{settle-cases}
+use Rattle.walk_steps.proofs.StepCases.{call-cases, unless-cached-cases, tick-cases, heard-cases}
 use Rattle.law_staged.proofs.KnownClient.{Bodies, Asks, KnowsIn, later, answered, named, read-knows, delayed, marked, replied-knows, evicted-knows, begins, busy, calls, timed, again, sends-know, seq-knows, gives-knows, push-knows, through-knows}
 
 -- ---- whole steps, each of which gives two numbers at most

@@ -7,7 +7,7 @@ use Rattle.nq_base.specs.declared.Party.{Party}
 use Rattle.nq_base.specs.declared.Request.{Request}
 use Rattle.nq_base.specs.declared.Who.{Who}
 use Rattle.nq_datagrams.specs.Messages.{bytes_of}
-use Rattle.law_filled.proofs.EachOf.{each-get}
+use Rattle.law_calls.proofs.EachOf.{each-get}
 use Rattle.law_staged.proofs.Datagrams.{IsPushOf, reads-push}
 use Rattle.law_staged.proofs.KnownClient.{Bodies, Asks, Says, More}
 use Rattle.law_staged.proofs.KnownRuns.{PacketKnown, Knowing, SameWho, later-knowing}
@@ -28,12 +28,12 @@ use Rattle.nq_stager.specs.declared.stager.Shortened.{Shortened}
 use Rattle.nq_stager.specs.Acknowledged.{verifier_of}
 use Rattle.nq_stager.specs.Shortening.{with_verifier, acknowledged_push, shortening, shortened}
 use Rattle.nq_stager.specs.Staged.{Staged, new_stager}
-use Rattle.walk_client.proofs.ClientMoves.{some-same, none-some}
-use Rattle.walk_run.proofs.Packets.{In, in-get}
-use Rattle.walk_run.proofs.Steps.{Changes, nothing, by_client, by_server}
-use Rattle.walk_run.proofs.Worlds.{Holds, IsSent, get-set-same, get-set-other, set-there}
-use Rattle.walk_server.proofs.Rows.{same-number}
-use Rattle.walk_server.proofs.Tests.{is-other}
+use Rattle.walk_steps.proofs.ClientMoves.{some-same, none-some}
+use Rattle.walk_steps.proofs.Packets.{In, in-get}
+use Rattle.walk_steps.proofs.Steps.{Changes, nothing, by_client, by_server}
+use Rattle.walk_steps.proofs.Worlds.{Holds, IsSent, get-set-same, get-set-other, set-there}
+use Rattle.walk_steps.proofs.Rows.{same-number}
+use Rattle.walk_steps.proofs.Tests.{is-other}
 
 -- ---- what a packet that travels means
 

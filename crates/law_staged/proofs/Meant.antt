@@ -6,7 +6,7 @@ use Rattle.nq_base.specs.declared.Party.{Party}
 use Rattle.nq_base.specs.declared.Push.{Push}
 use Rattle.nq_base.specs.declared.Who.{Who}
 use Rattle.nq_datagrams.specs.Messages.{bytes_of}
-use Rattle.law_filled.proofs.EachOf.{each-at, each-get, each-filter, each-take}
+use Rattle.law_calls.proofs.EachOf.{each-at, each-get, each-filter, each-take}
 use Rattle.law_staged.proofs.Datagrams.{request-no-stage, commit-no-stage}
 use Rattle.law_staged.proofs.KnownClient.{Bodies, Carries}
 use Rattle.law_staged.proofs.Apart.{AreApart, there-at}
@@ -35,10 +35,10 @@ use Rattle.nq_stager.specs.Acknowledged.{verifier_of}
 use Rattle.nq_stager.specs.Hearing.{Told, acknowledged, again, other, told_by, told_as, acknowledging, again_from, kept_by}
 use Rattle.nq_stager.specs.Offering.{written_by, first_unknown, with_body as with_body_there, body_among, offer_of, offered}
 use Rattle.nq_stager.specs.Staged.{Staged, new_stager}
-use Rattle.walk_client.proofs.ClientMoves.{some-same, none-some}
-use Rattle.walk_run.proofs.Packets.{In}
-use Rattle.walk_run.proofs.Steps.{step-changes}
-use Rattle.walk_run.proofs.Worlds.{Holds, step-holds, run-holds}
+use Rattle.walk_steps.proofs.ClientMoves.{some-same, none-some}
+use Rattle.walk_steps.proofs.Packets.{In}
+use Rattle.walk_steps.proofs.Steps.{step-changes}
+use Rattle.walk_steps.proofs.Worlds.{Holds, step-holds, run-holds}
 use Rattle.law_staged.proofs.Meaning.{IsInner, IsMeant, KeepsWell, SomeMeant, IsRequest, AllKeep, AreOwn, MeantIn, whole, short, ahead, replied, stays, more-meant, more-keep, adds, fresh-keeps, set-keep, set-own, moved-own, restarted-own, same-meant, crashed-meant, restarted-meant, says-request, sends-meant, all-meant}
 
 -- an inner event was run, and what it sent went out

@@ -15,8 +15,8 @@ use Rattle.nq_staged_run.specs.Outer.{Outer, Side, Outside}
 use Rattle.nq_staged_run.specs.Outside.{sends, inner_delivery, takes_stage, takes_commit, served_commit, served_stage, to_server, told_side, heard_by, to_host, takes, delivers}
 use Rattle.nq_stager.specs.Hearing.{Told, acknowledged, again, other, told_by}
 use Rattle.law_staged.specs.NotStored.{BesideStoresNothing, UnstagedStoresNothing}
-use Rattle.walk_client.proofs.ClientMoves.{none-some}
-use Rattle.walk_server.proofs.Rows.{same-number}
+use Rattle.walk_steps.proofs.ClientMoves.{none-some}
+use Rattle.walk_steps.proofs.Rows.{same-number}
 
 -- ---- a packet that stands for none
 

@@ -4,7 +4,7 @@ use Rattle.std.specs.Prelude.{slice_get}
 use Rattle.nq_base.specs.declared.Event.{Event}
 use Rattle.nq_base.specs.declared.Party.{Party}
 use Rattle.nq_datagrams.specs.Messages.{bytes_of}
-use Rattle.law_filled.proofs.EachOf.{each-get}
+use Rattle.law_calls.proofs.EachOf.{each-get}
 use Rattle.law_staged.proofs.Datagrams.{request-no-stage, request-no-commit, stage-no-commit, commit-no-stage, reads-commit}
 use Rattle.law_staged.proofs.KnownClient.{Bodies}
 use Rattle.law_staged.proofs.KnownRuns.{PacketKnown, Knowing}
@@ -23,8 +23,8 @@ use Rattle.nq_staged_run.specs.Outer.{Outer, Outside}
 use Rattle.nq_staged_run.specs.Outside.{inner_delivery, takes_commit, served_commit, served_stage, to_server, to_host as to_host_outside, takes, delivers, outside_run}
 use Rattle.nq_staged_run.specs.Theorem.{StandsFor, EachStandsForItsPacket, IsUnstaged, EachIsDeliveredAsItsPacket, IsInnerPacket, RebuildsWhatWasMeant}
 use Rattle.nq_staged_run.proofs.Inner.{inner-ran}
-use Rattle.walk_client.proofs.ClientMoves.{some-same, none-some}
-use Rattle.walk_run.proofs.Packets.{In}
+use Rattle.walk_steps.proofs.ClientMoves.{some-same, none-some}
+use Rattle.walk_steps.proofs.Packets.{In}
 use Rattle.law_staged.proofs.Meaning.{IsMeant, whole, short, ahead, replied, says-request}
 use Rattle.law_staged.proofs.Meant.{run-meant}
 

@@ -14,7 +14,7 @@ use Rattle.nq_staged_run.specs.declared.StagedEvent.{StagedEvent}
 use Rattle.nq_staged_run.specs.Outer.{Outside, outside_start}
 use Rattle.nq_staged_run.specs.Outside.{inner, outside_run}
 use Rattle.nq_staged_run.proofs.Inner.{Core, inner-ran, delivery-cases, core-offering, runs-inside}
-use Rattle.law_fates.proofs.FateLaws.{waiting}
+use Rattle.law_calls.proofs.FateLaws.{waiting}
 use Rattle.law_staged.specs.Lawful.{plain_events, InnerRunsAreLawful, HeadlineHoldsOutside}
 use Rattle.law_staged.specs.NotStored.{StagedAreUnsaved}
 

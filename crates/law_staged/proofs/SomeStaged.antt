@@ -52,7 +52,7 @@ use Rattle.law_staged.specs.Lawful.{plain_events, IsLawful}
 use Rattle.law_staged.specs.Met.{forgets, CommitIsRefused, pool_of, StagingIsMet}
 use Rattle.law_staged.proofs.Boots.{crashes-lose-all}
 use Rattle.law_staged.proofs.Rebuilt.{rebuilds-what-was-meant}
-use Rattle.walk_client.proofs.ClientMoves.{some-same, none-some}
+use Rattle.walk_steps.proofs.ClientMoves.{some-same, none-some}
 
 -- one host, one file of one block
 abbrev one-host : Head

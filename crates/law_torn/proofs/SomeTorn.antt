@@ -11,8 +11,8 @@ use Rattle.nq_model.specs.Skew.{IsWithinSkew, is_within_skew}
 use Rattle.nq_model.specs.World.{Head}
 use Rattle.nq_promises.specs.Bounds.{BootsWithin, KeepsBounds}
 use Rattle.nq_promises.specs.Witnesses.{in_order, is_crash, is_delayed_write, is_store}
-use Rattle.walk_run.proofs.GivenRuns.{given-run}
-use Rattle.walk_run.proofs.NoCrash.{one-first, no-crash-within, no-crash-after}
+use Rattle.walk_steps.proofs.GivenRuns.{given-run}
+use Rattle.walk_steps.proofs.NoCrash.{one-first, no-crash-within, no-crash-after}
 use Rattle.law_torn.specs.TornMet.{value_at, is_ok, IsFair, PushesAreTorn}
 use Rattle.law_torn.specs.TornRuns.{Happening, whole, torn_before, torn_after, boots_over, unheard, torn_off, torn_run, schedule}
 

@@ -24,12 +24,12 @@ use Rattle.nq_model.specs.Server.{Server, ServerStep}
 use Rattle.nq_model.specs.ServerStep.{boot, booted, crash, receive, tick}
 use Rattle.nq_model.specs.Table.{same_who}
 use Rattle.nq_model.specs.World.{Head, World, after_client, after_hearing, after_server, at_client, deliver, deliver_to, deliver_to_client, run, sending_host, start, step}
-use Rattle.walk_client.proofs.ClientFacts.{fits_job}
-use Rattle.walk_entries.proofs.ClientEntries.{AnyCall, AnyLength, any-going, any-lent, call-keeps, tick-keeps as client-tick-keeps, hear-keeps, restart-keeps}
-use Rattle.walk_entries.proofs.ServerEntries.{receive-each, tick-each}
-use Rattle.walk_run.proofs.Worlds.{Holds, run-holds}
-use Rattle.walk_server.proofs.ServerMoves.{phase-moves, receive-keeps, server-moves, tick-keeps, tick-moves}
-use Rattle.walk_tables.proofs.ServerNumbers.{fence-longest}
+use Rattle.walk_steps.proofs.ClientFacts.{fits_job}
+use Rattle.walk_steps.proofs.ClientEntries.{AnyCall, AnyLength, any-going, any-lent, call-keeps, tick-keeps as client-tick-keeps, hear-keeps, restart-keeps}
+use Rattle.walk_steps.proofs.ServerEntries.{receive-each, tick-each}
+use Rattle.walk_steps.proofs.Worlds.{Holds, run-holds}
+use Rattle.walk_steps.proofs.ServerMoves.{phase-moves, receive-keeps, server-moves, tick-keeps, tick-moves}
+use Rattle.walk_steps.proofs.ServerNumbers.{fence-longest}
 
 -- ---- a step
 

@@ -3,8 +3,8 @@ use Rattle.std.proofs.Common.{◌≡◌, List, [], ◌∷◌, ◌++◌}
 use Rattle.nq_base.specs.declared.Entry.{Entry}
 use Rattle.nq_words.specs.Forms.{HasTold}
 use Rattle.nq_model.specs.Journal.{Each}
-use Rattle.walk_entries.proofs.ClientEntries.{AnyCall, AnyLength, OfClient}
-use Rattle.walk_entries.proofs.ServerEntries.{OfServer}
+use Rattle.walk_steps.proofs.ClientEntries.{AnyCall, AnyLength, OfClient}
+use Rattle.walk_steps.proofs.ServerEntries.{OfServer}
 
 -- where the entry is a call or a boot, version 1 has it
 abbrev pub Tells : Entry → Type 0

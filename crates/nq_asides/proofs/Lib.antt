@@ -1,6 +1,8 @@
 pub mod Lining
 pub mod Grammar
 pub mod Mixing
+pub mod Onward
+pub mod Keeping
 pub mod Putting
 pub mod Readied
 pub mod Reversing

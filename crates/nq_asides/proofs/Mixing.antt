@@ -24,7 +24,8 @@ aside-past (t ∷ asides) zero there = absurd (cc)
 aside-past (t ∷ asides) (suc place) there = aside-past asides place there
 
 -- what holds of all asides holds of the one at a place
-pub aside-holds : {A : Type 0} (P : A → Type 0) (asides : List (Option A)) (place : ℕ) (aside : A) → HoldsOfAsides P asides → aside_at asides place ≡ Some aside → P aside
+pub aside-holds : {A : Type 0} (P : A → Type 0) (asides : List (Option A)) (place : ℕ) (aside : A) → HoldsOfAsides P asides
+    → aside_at asides place ≡ Some aside → P aside
 aside-holds P [] place aside all there = absurd (cc)
 aside-holds P (s ∷ asides) zero aside all there = subst (HoldsOfAside P) there all.0
 aside-holds P (s ∷ asides) (suc place) aside all there = aside-holds P asides place aside all.1 there
@@ -53,7 +54,8 @@ mixed-at (Some aside ∷ asides) (l ∷ lines) zero line there = refl
 mixed-at (Some aside ∷ asides) (l ∷ lines) (suc place) line there = mixed-at asides lines place line there
 
 -- the line at a place, where it is an aside and where it is not
-pub line-beside : {A : Type 0} (asides : List (Option A)) (lines : List Line) (place : ℕ) (aside : A) (l : Line) (line : MixedLine A) → slice_get lines place ≡ Some l
+pub line-beside : {A : Type 0} (asides : List (Option A)) (lines : List Line) (place : ℕ) (aside : A) (l : Line) (line : MixedLine A)
+    → slice_get lines place ≡ Some l
     → aside_at asides place ≡ Some aside → slice_get (mixed asides lines) place ≡ Some line → beside aside ≡ line
 line-beside asides lines place aside l line there says here =
     same_Some (beside aside) line (sym (mixed-at asides lines place l there ∙ ap (λ s. Some (line_as s l)) says) ∙ here)

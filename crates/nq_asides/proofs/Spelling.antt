@@ -16,7 +16,8 @@ each-at P (e ∷ events) (suc place) event all here = each-at P events place eve
 
 -- ---- one line more
 
-spelled-more : (head : Head) (events : List Event) (texts : List (List ℕ)) (event : Event) (line : List ℕ) → AreSpelled head events texts → Allows head event → SpellsEvent head.version event line
+spelled-more : (head : Head) (events : List Event) (texts : List (List ℕ)) (event : Event) (line : List ℕ) → AreSpelled head events texts → Allows head event
+    → SpellsEvent head.version event line
     → AreSpelled head (events ++ event ∷ []) (texts ++ line ∷ [])
 spelled-more head [] [] event line all allowed spelled = (allowed, spelled, tt)
 spelled-more head [] (text ∷ texts) event line all allowed spelled = absurd all
@@ -30,7 +31,8 @@ Stand head before text events place = (texts : List (List ℕ)) × AreSpelled he
 pub none-stand : (head : Head) (before text : List ℕ) (events : List Event) → text ≡ before → Stand head before text events 0
 none-stand head before text events is = ([], tt, is ∙ sym (append-nil before))
 
-pub more-stand : (head : Head) (before text new : List ℕ) (events : List Event) (place : ℕ) (event : Event) (line : List ℕ) → Stand head before text events place → slice_get events place ≡ Some event → Allows head event → SpellsEvent head.version event line
+pub more-stand : (head : Head) (before text new : List ℕ) (events : List Event) (place : ℕ) (event : Event) (line : List ℕ)
+    → Stand head before text events place → slice_get events place ≡ Some event → Allows head event → SpellsEvent head.version event line
     → new ≡ text ++ text_of (line ∷ []) → Stand head before new events (place + 1)
 more-stand head before text new events place event line stand here allowed spelled is =
     let first : take (place + 1) events ≡ take place events ++ event ∷ [] =
@@ -40,6 +42,7 @@ more-stand head before text new events place event line stand here allowed spell
       is ∙ ap (λ t. t ++ text_of (line ∷ [])) stand.2 ∙ append_assoc before (text_of stand.0) (text_of (line ∷ [])) ∙ ap (λ t. before ++ t) (sym (text_of-append stand.0 (line ∷ []))),
     )
 
-pub all-stand : (head : Head) (before text : List ℕ) (events : List Event) (place : ℕ) → length events ≤ place → Stand head before text events place → (texts : List (List ℕ)) × AreSpelled head events texts × (text ≡ before ++ text_of texts)
+pub all-stand : (head : Head) (before text : List ℕ) (events : List Event) (place : ℕ) → length events ≤ place → Stand head before text events place
+    → (texts : List (List ℕ)) × AreSpelled head events texts × (text ≡ before ++ text_of texts)
 all-stand head before text events place whole stand =
     (stand.0, subst (λ es. AreSpelled head es stand.0) (take_all place events whole) stand.1, stand.2)

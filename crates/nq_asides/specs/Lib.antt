@@ -1,1 +1,3 @@
 pub mod Text
+pub mod Playing
+pub mod Going

@@ -32,7 +32,7 @@ use std::alloc::Global;
 use std::marker::Model;
 
 /// Why no client was made.
-#[derive(Clone, Copy, Debug, PartialEq, Eq)]
+#[derive(Clone, Copy)]
 pub enum StartClient {
     /// Memory was wanted and refused.
     Memory,

@@ -1,5 +1,5 @@
 -- What a stop within the boot and the turns of a server that serves on leaves.
-use Rattle.std.proofs.Common.{◌≡◌, ◌⊎◌, ◌<◌, ℕ, zero, suc, [], Option, Some, None, Result, Ok, Err, inl, inr, refl, sym, subst}
+use Rattle.std.proofs.Common.{◌≡◌, ◌⊎◌, ◌<◌, ℕ, zero, suc, [], Option, None, Result, Ok, Err, inl, inr, refl, sym, subst}
 use Rattle.std.specs.Option.{ForSome}
 use Rattle.nq_base.specs.Entries.{EntryList}
 use Rattle.nq_boot.specs.Booting.{LeavesThen}
@@ -7,8 +7,8 @@ use Rattle.nq_daemon.specs.Leaving.{AreInOrder, IsLeftInGoes, IsLeftInTurns, IsL
 use Rattle.nq_daemon.specs.Turning.{Goes, Standing, borne, standing}
 use Rattle.nq_daemon.proofs.Telling.{goes_tells}
 use Rattle.nq_ending.specs.declared.Halt.{Halt}
-use Rattle.nq_hosts.specs.Leaving.{IsBeforeEnd, IsLeftByBoot}
 use Rattle.nq_hosts.specs.Serving.{Booted, NoBoot, halt_of}
+use Rattle.nq_hosts.proofs.Joining.{besides, by_boot, further, gone, join}
 use Rattle.nq_hosts.proofs.Runs.{none}
 use Rattle.nq_model.specs.Kept.{Kept}
 use Rattle.nq_model.specs.ServerStep.{boot, booted}
@@ -53,12 +53,6 @@ module _ {K : Type 0} (content : K → Option Kept) (faults : K → ℕ) (follow
 
   -- ---- the boot
 
-  boot-splits : (longest : ℕ) (kept : Kept) (found : Option Kept) (keeper middle : K) (Later : Type 0)
-      → ((found : Option Kept) → leaves keeper middle found → (found ≡ Some kept) ⊎ (found ≡ Some (booted kept longest)))
-      → leaves keeper middle found ⊎ Later → IsLeftByBoot longest kept found ⊎ Later
-  boot-splits longest kept found keeper middle Later boots (inl l) = inl (boots found l)
-  boot-splits longest kept found keeper middle Later boots (inr later) = inr later
-
   -- where a server booted
   pub leaves_booted : (longest turns time : ℕ) (keeper : K) (ended : Result Unit Halt) (left : K) (clock clock' : ClockTold) (link link' : LinkTold)
       (server : Holding K)
@@ -70,7 +64,7 @@ module _ {K : Type 0} (content : K → Option Kept) (faults : K → ℕ) (follow
     runs = record { server = server; booted = b; ran = r.ran };
     only =
         λ kept told found l.
-        boot-splits longest kept found keeper server.keeper (IsLeftInTurns content faults turns (Ok done)
+        by_boot leaves longest kept found keeper server.keeper (IsLeftInTurns content faults turns (Ok done)
         (standing server 0 clock link) r.ran.last r.ran.taken found)
         (boots kept told) (r.only (boot kept longest time None).kept (b.0 kept told).1.keeps keeper found b.2 l);
     order = λ kept told. r.order (boot kept longest time None).kept (b.0 kept told).1.keeps;
@@ -79,7 +73,7 @@ module _ {K : Type 0} (content : K → Option Kept) (faults : K → ℕ) (follow
     runs = inl (record { server = server; booted = b; ran = r.ran });
     only =
         λ kept told found l.
-        boot-splits longest kept found keeper server.keeper (IsLeftInTurns content faults turns (Err why)
+        by_boot leaves longest kept found keeper server.keeper (IsLeftInTurns content faults turns (Err why)
         (standing server 0 clock link) r.ran.last r.ran.taken found)
         (boots kept told) (r.only (boot kept longest time None).kept (b.0 kept told).1.keeps keeper found b.2 l);
     order = λ kept told. r.order (boot kept longest time None).kept (b.0 kept told).1.keeps;
@@ -125,56 +119,17 @@ module _ {K : Type 0} (content : K → Option Kept) (faults : K → ℕ) (follow
 module _ {K : Type 0} (content : K → Option Kept) (faults : K → ℕ) (follows : K → K → Type 0) (leaves : K → K → Option Kept → Type 0)
     (itself : (keeper : K) → follows keeper keeper)
     (on : (first second third : K) → follows first second → follows second third → follows first third) where
-  -- a later end
-  further : (at last next : K) (Later New Then : Option Kept → Type 0) → follows last next
-      → ((first : K) (found : Option Kept) → follows first last → leaves first next found → leaves first last found ⊎ New found)
-      → ((found : Option Kept) → New found ⊎ Later found → Then found) → IsBeforeEnd follows leaves at last Later → IsBeforeEnd follows leaves at next Then
-  further at last next Later New Then same new or m =
-      record {
-        same = on at last next m.same same;
-        later = λ first found before l. beyond first found before (new first found (on first at last before m.same) l);
-      }
-    where
-      within : (first : K) (found : Option Kept) → leaves first at found ⊎ Later found → leaves first at found ⊎ Then found
-      within first found (inl earlier) = inl earlier
-      within first found (inr later) = inr (or found (inr later))
-
-      beyond : (first : K) (found : Option Kept) → follows first at → leaves first last found ⊎ New found → leaves first at found ⊎ Then found
-      beyond first found before (inl l) = within first found (m.later first found before l)
-      beyond first found before (inr n) = inr (or found (inl n))
-
-  besides : (In Later New Then : Option Kept → Type 0) → ((found : Option Kept) → New found ⊎ Later found → Then found)
-      → (found : Option Kept) → New found ⊎ (In found ⊎ Later found) → In found ⊎ Then found
-  besides In Later New Then or found (inl n) = inr (or found (inl n))
-  besides In Later New Then or found (inr (inl here)) = inl here
-  besides In Later New Then or found (inr (inr later)) = inr (or found (inr later))
-
   all-further : (count : ℕ) (at after : Standing K) (goes : Goes content faults count at after) (last next : K) (Later New Then : Option Kept → Type 0)
       → follows last next → ((first : K) (found : Option Kept) → follows first last → leaves first next found → leaves first last found ⊎ New found)
       → ((found : Option Kept) → New found ⊎ Later found → Then found) → AreInOrder content faults follows leaves last Later count at after goes
       → AreInOrder content faults follows leaves next Then count at after goes
-  all-further zero at after goes last next Later New Then same new or m = further after.server.keeper last next Later New Then same new or m
+  all-further zero at after goes last next Later New Then same new or m = further follows leaves on after.server.keeper last next Later New Then same new or m
   all-further (suc count) at after goes last next Later New Then same new or m = (
-    further after.server.keeper last next Later New Then same new or m.0,
+    further follows leaves on after.server.keeper last next Later New Then same new or m.0,
     all-further count at goes.0 goes.1 last next (λ found. IsLeftTaking content faults (Ok tt) goes.0 after goes.2 found ⊎ Later found) New
         (λ found. IsLeftTaking content faults (Ok tt) goes.0 after goes.2 found ⊎ Then found) same new
         (besides (IsLeftTaking content faults (Ok tt) goes.0 after goes.2) Later New Then or) m.1,
   )
-
-  gone : (New : Option Kept → Type 0) (found : Option Kept) → New found ⊎ ⊥ → New found
-  gone New found (inl n) = n
-  gone New found (inr none) = absurd none
-
-  -- what a later part leaves, beside what an earlier one does
-  join : (at middle : K) (Earlier Later : Option Kept → Type 0) → LeavesOnly content follows leaves at middle Earlier
-      → (kept : Kept) → content at ≡ Some kept → (first : K) (found : Option Kept) → follows first at
-      → leaves first middle found ⊎ Later found → leaves first at found ⊎ (Earlier found ⊎ Later found)
-  join at middle Earlier Later only kept told first found before (inr later) = inr (inr later)
-  join at middle Earlier Later only kept told first found before (inl l) = split (only kept told first found before l)
-    where
-      split : leaves first at found ⊎ Earlier found → leaves first at found ⊎ (Earlier found ⊎ Later found)
-      split (inl here) = inl here
-      split (inr earlier) = inr (inl earlier)
 
   pub gone_on : (count : ℕ) (at middle after : Standing K) → follows at.server.keeper middle.server.keeper
       → follows middle.server.keeper after.server.keeper
@@ -185,7 +140,7 @@ module _ {K : Type 0} (content : K → Option Kept) (faults : K → ℕ) (follow
     only =
         λ kept told first found before l.
         let tells = g.tells kept told in
-        join at.server.keeper middle.server.keeper (IsLeftInGoes content faults count at middle g.goes)
+        join content follows leaves at.server.keeper middle.server.keeper (IsLeftInGoes content faults count at middle g.goes)
         (IsLeftTaking content faults (Ok tt) middle after t.taken) g.only kept told first
         found before (t.only tells.0 tells.1 first found (on first at.server.keeper middle.server.keeper before same) l);
     order =
@@ -207,7 +162,7 @@ module _ {K : Type 0} (content : K → Option Kept) (faults : K → ℕ) (follow
     only =
         λ kept told first found before l.
         let tells = g.tells kept told in
-        join at.server.keeper middle.server.keeper (IsLeftInGoes content faults count at middle g.goes)
+        join content follows leaves at.server.keeper middle.server.keeper (IsLeftInGoes content faults count at middle g.goes)
         (IsLeftTaking content faults (Err why) middle after t.taken) g.only kept told
         first found before (t.only tells.0 tells.1 first found (on first at.server.keeper middle.server.keeper before same) l);
     order =

@@ -7,8 +7,8 @@ use Rattle.std.proofs.lemmas.Bool.{and_parts, not_from_false}
 use Rattle.nq_base.specs.declared.Call.{Call}
 use Rattle.nq_laws.proofs.CachedReads.{cached-in-every-run}
 use Rattle.nq_model.proofs.ClientLists.{used-lease-found, lease-file}
-use Rattle.walk_server.proofs.Rows.{find-passes, find-filter, same-number, number-same, choice}
-use Rattle.walk_run.proofs.Worlds.{get-set-other, set-there}
+use Rattle.walk_steps.proofs.Rows.{find-passes, find-filter, same-number, number-same, choice}
+use Rattle.walk_steps.proofs.Worlds.{get-set-other, set-there}
 use Rattle.nq_promises.specs.CachedReadsChangeLittle.{ReadsBlock, IsAsItWas, ChangesNothingElse, CachedReadsChangeNothingElse}
 use Rattle.nq_model.specs.CachedAtOnce.{HasCached, AnswersAtOnce, after_cached}
 use Rattle.nq_model.specs.Client.{Client, Clean, Lease, lease_on, clean_at, drop_clean, is_clean_at, marked_used, used_lease}

@@ -1,8 +1,8 @@
 -- In every run a client that has no call under way has no request of a call under way, so its cached reads are answered at
 -- once.
 use Rattle.std.proofs.Common.{◌≡◌, Bool, true, false, Option, Some, None, is_some, refl, ap}
-use Rattle.walk_client.proofs.ClientFacts.{Alone}
-use Rattle.walk_run.proofs.Worlds.{run-holds}
+use Rattle.walk_steps.proofs.ClientFacts.{Alone}
+use Rattle.walk_steps.proofs.Worlds.{run-holds}
 use Rattle.nq_promises.specs.CachedReadsAreAtOnce.{CachedAtOnceInEveryRun}
 use Rattle.nq_model.proofs.CachedReads.{cached-at-once}
 use Rattle.nq_model.specs.Client.{Client, Job, attaching, for_call, renewing, pushing, Ticket}

@@ -2,7 +2,7 @@
 use Rattle.std.proofs.Common.{false, refl, arith}
 use Rattle.std.specs.Prelude.{slice_get, unwrap_or}
 use Rattle.nq_base.specs.declared.Mode.{Mode}
-use Rattle.law_leases.proofs.SomeLease.{two-hosts, one-read}
+use Rattle.law_bounds.proofs.SomeLease.{two-hosts, one-read}
 use Rattle.nq_laws.specs.CachedReadsMet.{IsReadySometime}
 use Rattle.nq_model.specs.Client.{Client, Lease}
 use Rattle.nq_base.specs.Block.{filled, zeros}
@@ -11,7 +11,7 @@ use Rattle.nq_model.specs.ClientStep.{attached_client}
 use Rattle.nq_model.specs.Hear.{attached}
 use Rattle.nq_model.specs.ServerStep.{boot}
 use Rattle.nq_model.specs.World.{run}
-use Rattle.walk_run.proofs.GivenRuns.{given-run}
+use Rattle.walk_steps.proofs.GivenRuns.{given-run}
 
 -- the first host's client after it
 reader : Client

@@ -6,6 +6,7 @@
 
 mod link;
 mod mem_link;
+mod socket;
 mod udp_link;
 
 pub use link::{Came, Link, Sent};

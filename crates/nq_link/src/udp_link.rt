@@ -7,12 +7,13 @@ ghost use Rattle.nq_link.specs.Link.{Comes, CountsReceive, CountsSend, Sends};
 ghost use Rattle.nq_link.specs.UdpLink.{ComesFrom, HasAddress, IsAt, IsAtPort, IsFromParty, IsLocal, port_of};
 ghost use Rattle.nq_link.specs.declared.link.Sent.{Sent};
 
+use crate::socket::{PatientSocket, is_silence};
 use crate::{Came, Link, Party, Sent};
 use nq_base::Host;
 use std::io;
 use std::io::ErrorKind;
 use std::marker::Model;
-use std::net::{IpAddr, Ipv4Addr, Net, SocketAddr, UdpSocket};
+use std::net::{IpAddr, Ipv4Addr, Net, SocketAddr};
 use std::time::Duration;
 
 /// The port of the server.
@@ -29,7 +30,8 @@ const WAIT: u64 = 5;
 
 /// A party's UDP socket on 127.0.0.1: the server's port is 20560, and that of host h is 20561 + h. It is bound at the first use, or
 /// before it by [`open`](UdpLink::open). Where nothing has come, a receive asks the machine to wait for 5 milliseconds; a machine
-/// counts them in ticks of its own, and one that ticks 250 times a second waits for up to 12. A datagram from another port or
+/// counts them in ticks of its own, and one that ticks 250 times a second waits for up to 12. Behind a receive that brought a
+/// datagram it looks for another one for some microseconds before it waits. A datagram from another port or
 /// address is taken and counts as nothing. Each error of the socket is a fault. Contracts see whose link it is and its counts,
 /// which stand still at `u64::MAX`.
 #[derive(Drop)]
@@ -37,7 +39,7 @@ pub struct UdpLink<R> {
     net: R,
     me: Party,
     wait: Option<Duration>,
-    socket: Option<UdpSocket>,
+    socket: Option<PatientSocket>,
     is_taken: bool,
     faults: u64,
     receives: u64,
@@ -119,24 +121,11 @@ fn party_of(port: u16) -> Option<Party>
 }
 
 /// A socket at the address of a party, which waits for so long in each receive, or not at all.
-fn bound<R: Net>(net: &R, me: Party, wait: Option<Duration>) -> io::Result<UdpSocket> {
-    let Some(address) = address_of(me) else {
-        return Err(io::Error::from(ErrorKind::InvalidInput));
-    };
-    let socket = UdpSocket::bind(net, address)?;
-    match wait {
-        Some(wait) => socket.set_read_timeout(Some(wait))?,
-        None => socket.set_nonblocking(true)?,
+fn bound<R: Net>(net: &R, me: Party, wait: Option<Duration>) -> io::Result<PatientSocket> {
+    match address_of(me) {
+        Some(address) => PatientSocket::bind(net, address, wait),
+        None => Err(io::Error::from(ErrorKind::InvalidInput)),
     }
-    Ok(socket)
-}
-
-/// Whether an error says only that nothing came in time.
-fn is_silence(error: &io::Error) -> bool {
-    matches!(
-        error.kind(),
-        ErrorKind::WouldBlock | ErrorKind::TimedOut | ErrorKind::Interrupted
-    )
 }
 
 impl<R: Net> UdpLink<R> {
@@ -235,7 +224,7 @@ impl<R: Net> UdpLink<R> {
         };
         self.bind()?;
         match &self.socket {
-            Some(socket) => socket.send_to(bytes, address),
+            Some(socket) => socket.send(address, bytes),
             None => Err(io::Error::from(ErrorKind::NotConnected)),
         }
     }
@@ -246,8 +235,8 @@ impl<R: Net> UdpLink<R> {
         ensures within { IfOk result (λ r. r.0 ≤ length into.old) }
     {
         self.bind()?;
-        match &self.socket {
-            Some(socket) => socket.recv_from(into),
+        match &mut self.socket {
+            Some(socket) => socket.receive(into),
             None => Err(io::Error::from(ErrorKind::NotConnected)),
         }
     }

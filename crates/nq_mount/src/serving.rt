@@ -13,6 +13,7 @@ use nq_daemon::{Served, Watcher, keep_serving};
 use nq_disk::Disk;
 use nq_ending::Halt;
 use nq_link::Link;
+use nq_recent::RecentKeeper;
 use nq_store::{OpenFault, Store};
 use std::alloc::Global;
 
@@ -88,10 +89,13 @@ fn serve_store<D: Disk + Drop, L: Link, C: Clock, W: Watcher<L> + Greeter>(
 {
     let mut store = store;
     greet(&mut store, watcher);
-    let Served { ended, keeper } = keep_serving(alloc, store, turns, longest, link, clock, watcher);
+    let keeper = RecentKeeper::new(alloc, store);
+    let Served { ended, keeper } = keep_serving(
+        alloc, keeper, turns, longest, link, clock, watcher,
+    );
     Left {
         ended,
-        disk: keeper.into_disk(),
+        disk: keeper.into_keeper().into_disk(),
     }
 }
 

@@ -15,7 +15,8 @@ use Rattle.nq_script.specs.Reading.{after}
 use Rattle.nq_words.proofs.Names.{name_found}
 use Rattle.nq_words.specs.Reading.{cut, name_of, number_of}
 
-number-low : (hosts : ℕ) (word : List ℕ) (host : ℕ) (test : Bool) → nat_lt 0 hosts ≡ test → hosts ≤ 64 → (if test then number_of (hosts - 1) word else None) ≡ Some host → host < hosts
+number-low : (hosts : ℕ) (word : List ℕ) (host : ℕ) (test : Bool) → nat_lt 0 hosts ≡ test → hosts ≤ 64
+    → (if test then number_of (hosts - 1) word else None) ≡ Some host → host < hosts
 number-low hosts word host false is few e = absurd (cc)
 number-low hosts word host true is few e =
     let some : 0 < hosts = grind (arith, nat_tests) in
@@ -29,7 +30,8 @@ record HasParts {A : Type 0} (front : List ℕ) (written : List ℕ → Option A
   below : hosts ≤ 64 → v.0 < hosts
   wrote : written word ≡ Some v.1
 
-has-parts : {A : Type 0} (front : List ℕ) (written : List ℕ → Option A) (hosts : ℕ) (line : List ℕ) (v : ℕ × A) → of_host front written hosts line ≡ Some v → HasParts front written hosts line v
+has-parts : {A : Type 0} (front : List ℕ) (written : List ℕ → Option A) (hosts : ℕ) (line : List ℕ) (v : ℕ × A) → of_host front written hosts line ≡ Some v
+    → HasParts front written hosts line v
 unfolding of_host
 has-parts front written hosts line v e =
     let one = bind_some (after front line) _ v e in
@@ -45,7 +47,8 @@ has-parts front written hosts line v e =
       wrote = four.1 ∙ ap (λ (p : ℕ × _). Some p.1) same;
     }
 
-front-longer : {A : Type 0} (front : List ℕ) (written : List ℕ → Option A) (hosts : ℕ) (line : List ℕ) (v : ℕ × A) → length front ≡ 5 → of_host front written hosts line ≡ Some v
+front-longer : {A : Type 0} (front : List ℕ) (written : List ℕ → Option A) (hosts : ℕ) (line : List ℕ) (v : ℕ × A) → length front ≡ 5
+    → of_host front written hosts line ≡ Some v
     → 4 ≤ length line
 front-longer front written hosts line v five e =
     let parts = has-parts front written hosts line v e in

@@ -6,7 +6,7 @@ use Rattle.nq_model.specs.Server.{Phase, serving, recovering, Server, ServerStep
 use Rattle.nq_model.specs.ServerStep.{boot, crash, tick}
 use Rattle.nq_model.specs.Table.{Table, empty_table}
 use Rattle.nq_model.specs.World.{Head, World, after_server, run, step}
-use Rattle.law_leases.proofs.LeaseIntervals.{run-runs}
+use Rattle.law_bounds.proofs.LeaseIntervals.{run-runs}
 use Rattle.nq_name_server.specs.Served.{Served, new_served}
 use Rattle.nq_name_server.specs.Serving.{ticks}
 use Rattle.nq_names_run.specs.Outer.{of_boot}
@@ -17,8 +17,8 @@ use Rattle.nq_world.specs.Playing.{Plays, WorldOver, seen_of}
 use Rattle.nq_world.specs.declared.Stepped.{Stepped}
 use Rattle.nq_names_around.specs.Around.{AroundOver}
 use Rattle.nq_names.specs.Playing.{NamesOver, RunsInner, RunsTo, renewed_around}
-use Rattle.walk_server.proofs.ServerMoves.{tick-keeps}
-use Rattle.walk_tables.proofs.ServerTables.{BootsFit, BootsFitOf}
+use Rattle.walk_steps.proofs.ServerMoves.{tick-keeps}
+use Rattle.walk_steps.proofs.ServerTables.{BootsFit, BootsFitOf}
 
 -- ---- the server's clock
 

@@ -11,56 +11,34 @@ use Rattle.nq_script.specs.Schedule.{SpellsLines, SpellsSchedule}
 use Rattle.nq_script.specs.declared.heads.Head.{Head}
 use Rattle.nq_script.specs.declared.lines.Line.{Line}
 use Rattle.nq_naming.proofs.Inside.{IsPlainly, run-all}
-use Rattle.nq_naming.specs.Going.{Comes, IsAtEnd, RanTo}
+use Rattle.nq_asides.specs.Going.{Comes, RanTo}
+use Rattle.nq_naming.specs.Going.{IsAtEnd}
 use Rattle.nq_naming.specs.Running.{IsTold}
+use Rattle.nq_asides.proofs.Keeping.{Ends, Keeps, ends-answered, ends-packet, ends-then, keeps-repeated}
 use Rattle.nq_asides.specs.Text.{IsTellable, beside, mixed, plain}
 use Rattle.nq_name_script.specs.declared.Aside.{Aside}
 use Rattle.nq_base.specs.declared.Event.{Event}
 use Rattle.nq_names_run.specs.declared.NameEvent.{NameEvent}
-use Rattle.nq_model.specs.Stepped.{Stepped, done, no_packet, out_of_skew, too_many_events, too_many_packets, most_events}
+use Rattle.nq_model.specs.Stepped.{done, most_events}
 use Rattle.nq_model.specs.World.{Head as Beginning}
-use Rattle.nq_naming.specs.Playing.{Ended, Moment, Played, Sought, first_moment, with_finds, took, refused, and_then, answered, at_line, play, play_event, play_flow, play_line, play_lines, play_plain, play_round, play_ticks, ran, repeated, stopped, with_packet}
+use Rattle.nq_asides.specs.Playing.{Ended, Played, took, refused, at_line, ran, stopped}
+use Rattle.nq_naming.specs.Playing.{Moment, Sought, first_moment, with_finds, play, play_event, play_flow, play_line, play_lines, play_plain, play_round, play_ticks}
 
--- it holds of the events, if all went well
-abbrev pub Ends : (List NameEvent → Type 0) → Played (List NameEvent) → Type 0
-Ends P (took events) = P events
-Ends P (refused answer) = Unit {0}
-
--- playing keeps it
-abbrev pub Keeps : (List NameEvent → Type 0) → (List NameEvent → Played (List NameEvent)) → Type 0
-Keeps P play = (events : List NameEvent) → P events → Ends P (play events)
-
-pub ends-then : (P : List NameEvent → Type 0) (played : Played (List NameEvent)) (next : List NameEvent → Played (List NameEvent)) → Ends P played → Keeps P next → Ends P (and_then played next)
-ends-then P (took events) next here keeps = keeps events here
-ends-then P (refused answer) next here keeps = tt
-
-pub keeps-repeated : (P : List NameEvent → Type 0) (times : ℕ) (play : List NameEvent → Played (List NameEvent)) → Keeps P play → Keeps P (repeated times play)
-keeps-repeated P zero play keeps events here = here
-keeps-repeated P (suc times) play keeps events here =
-    ends-then P (play events) (repeated times play) (keeps events here) (keeps-repeated P times play keeps)
-
-pub ends-answered : (P : List NameEvent → Type 0) (earlier : List NameEvent) (event : NameEvent) (answer : Stepped) → (answer ≡ done → P (event ∷ earlier)) → Ends P (answered earlier event answer)
-ends-answered P earlier event done here = here (λ i. done)
-ends-answered P earlier event no_packet here = tt
-ends-answered P earlier event (out_of_skew broken) here = tt
-ends-answered P earlier event too_many_events here = tt
-ends-answered P earlier event too_many_packets here = tt
-
-pub keeps-ticks : (P : List NameEvent → Type 0) (head : Beginning) (host count : ℕ) → host + count ≤ head.hosts → ((h : ℕ) → h < head.hosts → Keeps P (play_event head (NameEvent.Plain (Event.ClientTick h)))) → Keeps P (play_ticks head host count)
+pub keeps-ticks : (P : List NameEvent → Type 0) (head : Beginning) (host count : ℕ) → host + count ≤ head.hosts
+    → ((h : ℕ) → h < head.hosts → Keeps P (play_event head (NameEvent.Plain (Event.ClientTick h)))) → Keeps P (play_ticks head host count)
 keeps-ticks P head host zero less keeps events here = here
 keeps-ticks P head host (suc count) less keeps events here =
     ends-then P (play_event head (NameEvent.Plain (Event.ClientTick host)) events) (play_ticks head (host + 1) count) (keeps host (omega arith) events here) (keeps-ticks P head (host + 1) count (omega arith) keeps)
 
-pub keeps-round : (P : List NameEvent → Type 0) (head : Beginning) → ((h : ℕ) → h < head.hosts → Keeps P (play_event head (NameEvent.Plain (Event.ClientTick h)))) → Keeps P (play_event head (NameEvent.Plain Event.ServerTick)) → Keeps P (play_round head)
+pub keeps-round : (P : List NameEvent → Type 0) (head : Beginning)
+    → ((h : ℕ) → h < head.hosts → Keeps P (play_event head (NameEvent.Plain (Event.ClientTick h))))
+    → Keeps P (play_event head (NameEvent.Plain Event.ServerTick)) → Keeps P (play_round head)
 unfolding play_round
 keeps-round P head ticks tick events here =
     ends-then P (play_ticks head 0 head.hosts events) (play_event head (NameEvent.Plain Event.ServerTick)) (keeps-ticks P head 0 head.hosts (omega arith) ticks events here) tick
 
-ends-packet : (P : List NameEvent → Type 0) (packet : Option ℕ) (events : List NameEvent) (next : ℕ → Played (List NameEvent)) → P events → ((k : ℕ) → Ends P (next k)) → Ends P (with_packet packet events next)
-ends-packet P None events next here keeps = here
-ends-packet P (Some k) events next here keeps = keeps k
-
-pub keeps-flow : (P : List NameEvent → Type 0) (head : Beginning) (most : ℕ) → ((k : ℕ) → Keeps P (play_event head (NameEvent.Plain (Event.Deliver k)))) → Keeps P (play_flow head most)
+pub keeps-flow : (P : List NameEvent → Type 0) (head : Beginning) (most : ℕ) → ((k : ℕ) → Keeps P (play_event head (NameEvent.Plain (Event.Deliver k))))
+    → Keeps P (play_flow head most)
 keeps-flow P head zero keeps events here = tt
 keeps-flow P head (suc most) keeps events here =
     ends-packet P _ events _ here (λ k. ends-then P (play_event head (NameEvent.Plain (Event.Deliver k)) events) (λ es. play_flow head most es) (keeps k events here) (keeps-flow P head most keeps))
@@ -117,11 +95,13 @@ module _ (head : Head) (second : head.version ≡ 2) where
   keeps_aside most (Aside.List host prefix) m so = ends_finds (AreTold head) m.finds (play_event (beginning head) (NameEvent.List host prefix) m.events) (keeps_list host prefix m.events so)
   keeps_aside most (Aside.Find host name) m so = so
 
-  ran_on : (line : ℕ) (played : Played Moment) (next : Moment → Ended) (n : Moment) → EndsAt (AreTold head) played → ((m : Moment) → AreTold head m.events → next m ≡ ran n → AreTold head n.events) → at_line line played next ≡ ran n → AreTold head n.events
+  ran_on : (line : ℕ) (played : Played Moment) (next : Moment → Ended Moment) (n : Moment) → EndsAt (AreTold head) played
+      → ((m : Moment) → AreTold head m.events → next m ≡ ran n → AreTold head n.events) → at_line line played next ≡ ran n → AreTold head n.events
   ran_on line (took m) next n so on is = on m so is
   ran_on line (refused answer) next n so on is = absurd (cc)
 
-  lines_told : (most number : ℕ) (asides : List (Option Aside)) (lines : List Line) (texts : List (List ℕ)) (m n : Moment) → SpellsLines head lines texts → AreTold head m.events → play_lines (beginning head) most number (mixed asides lines) m ≡ ran n → AreTold head n.events
+  lines_told : (most number : ℕ) (asides : List (Option Aside)) (lines : List Line) (texts : List (List ℕ)) (m n : Moment) → SpellsLines head lines texts
+      → AreTold head m.events → play_lines (beginning head) most number (mixed asides lines) m ≡ ran n → AreTold head n.events
   lines_told most number asides [] texts m n spelled so is = let same : m ≡ n = cc in subst (λ (k : Moment). AreTold head k.events) same so
   lines_told most number asides (line ∷ lines) [] m n spelled so is = absurd spelled
   lines_told most number [] (line ∷ lines) (text ∷ texts) m n spelled so is =
@@ -137,13 +117,14 @@ module _ (head : Head) (second : head.version ≡ 2) where
       (keeps_aside most aside m so)
       (λ k here on. lines_told most (number + 1) asides lines texts k n spelled.2 here on) is
 
-  pub events_told : (asides : List (Option Aside)) (lines : List Line) (text : List ℕ) (m : Moment) → SpellsSchedule head lines text → play head (mixed asides lines) ≡ ran m → AreTold head m.events
+  pub events_told : (asides : List (Option Aside)) (lines : List Line) (text : List ℕ) (m : Moment) → SpellsSchedule head lines text
+      → play head (mixed asides lines) ≡ ran m → AreTold head m.events
   unfolding play
   events_told asides lines text m spelled is = lines_told (most_events + 1) (length (head_lines head) + 1) asides lines spelled.1.1.0 first_moment m spelled.1.1.1 tt is
 
 -- ---- so can all inner events
 
-came_told : {K : Type 0} (head : Head) (asides : List (Option Aside)) (lines : List Line) (text : List ℕ) (w : NamesOver K) (told : Option Kept) (found : List ℕ) (due : Ended) → head.version ≡ 2 → SpellsSchedule head lines text → play head (mixed asides lines) ≡ due
+came_told : {K : Type 0} (head : Head) (asides : List (Option Aside)) (lines : List Line) (text : List ℕ) (w : NamesOver K) (told : Option Kept) (found : List ℕ) (due : Ended Moment) → head.version ≡ 2 → SpellsSchedule head lines text → play head (mixed asides lines) ≡ due
     → RanTo due (λ m. IsAtEnd (beginning head) m w told found) → IsTold head w told
 came_told head asides lines text w told found (ran m) second spelled is at = record {
   moment = m;

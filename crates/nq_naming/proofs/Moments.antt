@@ -9,10 +9,13 @@ use Rattle.nq_names_run.specs.declared.NameEvent.{NameEvent}
 use Rattle.nq_names_run.specs.Outside.{found, outside_run}
 use Rattle.nq_names_run.specs.Theorem.{kept_as}
 use Rattle.nq_naming.proofs.Inside.{GoesOn, run-on}
-use Rattle.nq_naming.proofs.Keeping.{Ends, keeps-event, keeps-plain}
+use Rattle.nq_asides.proofs.Keeping.{Ends}
+use Rattle.nq_naming.proofs.Keeping.{keeps-event, keeps-plain}
 use Rattle.nq_naming.specs.Finding.{FindsAreTrue, IsTrueFind, find_line, lines_of}
-use Rattle.nq_naming.specs.Going.{Goes, IsAt, IsAtEnd, IsAtMoment}
-use Rattle.nq_naming.specs.Playing.{Moment, Played as Due, Sought, play_event, play_plain, refused, took, with_find, with_finds}
+use Rattle.nq_asides.specs.Going.{Goes}
+use Rattle.nq_naming.specs.Going.{IsAt, IsAtEnd, IsAtMoment}
+use Rattle.nq_asides.specs.Playing.{Played as Due, refused, took}
+use Rattle.nq_naming.specs.Playing.{Moment, Sought, play_event, play_plain, with_find, with_finds}
 use Rattle.nq_script.specs.declared.lines.Line.{Line}
 use Rattle.nq_world.specs.declared.stepped.Stepped.{Stepped}
 
@@ -28,13 +31,15 @@ true-on head events es s on is =
       kept = is.kept;
     }
 
-finds-on : (head : Head) (events es : List NameEvent) (finds : List Sought) → GoesOn events es → AllByRecursion (IsTrueFind head events) finds → AllByRecursion (IsTrueFind head es) finds
+finds-on : (head : Head) (events es : List NameEvent) (finds : List Sought) → GoesOn events es → AllByRecursion (IsTrueFind head events) finds
+    → AllByRecursion (IsTrueFind head es) finds
 finds-on head events es [] on all = tt
 finds-on head events es (s ∷ finds) on all = (true-on head events es s on all.0, finds-on head events es finds on all.1)
 
 module _ {K : Type 0} (head : Head) (m : Moment) (w : NamesOver K) (told : Option Kept) (flags : List Bool) (text : List ℕ) (said_so : text ≡ lines_of head m.finds) (true_so : FindsAreTrue head m) where
   -- events were played behind this moment
-  events-on : (said : Stepped) (due : Due (List NameEvent)) → Ends (GoesOn m.events) due → Goes said due (λ es. IsAt head es w told flags) → Goes said (with_finds m.finds due) (λ n. IsAtMoment head n w told flags text)
+  events-on : (said : Stepped) (due : Due (List NameEvent)) → Ends (GoesOn m.events) due → Goes said due (λ es. IsAt head es w told flags)
+      → Goes said (with_finds m.finds due) (λ n. IsAtMoment head n w told flags text)
   events-on Stepped.Done (took es) on at = record { at = at; said = said_so; finds = finds-on head m.events es m.finds on true_so }
   events-on Stepped.Done (refused answer) on at = absurd at
   events-on Stepped.NoPacket (took es) on at = absurd at
@@ -97,5 +102,6 @@ find-moment head m w told flags text text' host name events known is knows many 
 
 -- ---- the end
 
-pub at-end : {K : Type 0} (head : Head) (m : Moment) (w : NamesOver K) (told : Option Kept) (flags : List Bool) (text : List ℕ) → IsAtMoment head m w told flags text → IsAtEnd head m w told text
+pub at-end : {K : Type 0} (head : Head) (m : Moment) (w : NamesOver K) (told : Option Kept) (flags : List Bool) (text : List ℕ)
+    → IsAtMoment head m w told flags text → IsAtEnd head m w told text
 at-end head m w told flags text is = record { plays = is.at.plays; said = is.said; finds = is.finds }

@@ -1,95 +1,21 @@
--- One thing after another.
-use Rattle.std.proofs.Common.{◌≡◌, ℕ, ◌+◌, ◌-◌, ◌<◌, ◌≤◌, List, [], ◌∷◌, drop, length, slice_get, Option, Some, None, zero, suc, refl, sym, ap, subst, ◌∙◌, arith}
+-- What is left to be played, one further.
+use Rattle.std.proofs.Common.{◌≡◌, ℕ, ◌+◌, ◌-◌, ◌<◌, List, Option, Some, None, suc, sym, ap, ◌∙◌, arith}
 use Rattle.nq_base.specs.declared.Event.{Event}
 use Rattle.nq_names_run.specs.declared.NameEvent.{NameEvent}
 use Rattle.nq_model.specs.World.{Head}
-use Rattle.nq_naming.specs.Going.{Comes, Goes, RanTo, StoppedAt, WasRefused, WentTo}
-use Rattle.nq_naming.specs.Playing.{Ended, Moment, Played as Due, and_then, at_line, next_packet, play_event, play_flow, play_line, play_lines, play_plain, play_ticks, ran, refused, repeated, took, with_packet}
-use Rattle.nq_play.specs.declared.Played.{Played}
+use Rattle.nq_asides.proofs.Onward.{then-took}
+use Rattle.nq_asides.specs.Playing.{Played as Due, and_then, took, with_packet}
+use Rattle.nq_naming.specs.Playing.{next_packet, play_event, play_flow, play_plain, play_ticks}
 use Rattle.nq_script.specs.declared.lines.Line.{Line}
-use Rattle.nq_name_script.specs.Text.{NamesLine}
-use Rattle.nq_world.specs.declared.stepped.Stepped.{Stepped}
-
--- where playing has come to: this holds there, and what is left to be played behind it leads to what is due
-pub record IsOn {S D : Type 0} (P : S → Type 0) (rest : S → D) (due : D) : Type 0 where
-  pub reached : S
-  pub here : P reached
-  pub same : rest reached ≡ due
-
--- ---- all went well
-
-went-on : {S : Type 0} (first : Due S) (next : S → Due S) (P : S → Type 0) (due : Due S) → WentTo first P → and_then first next ≡ due → IsOn P next due
-went-on (took reached) next P due here same = record { reached = reached; here = here; same = same }
-went-on (refused answer) next P due here same = absurd here
-
-pub goes-on : {S : Type 0} (first : Due S) (next : S → Due S) (P : S → Type 0) (due : Due S) → Goes Stepped.Done first P → and_then first next ≡ due → IsOn P next due
-goes-on first next P due here same = went-on first next P due here same
-
-pub done-here : {S : Type 0} (P : S → Type 0) (reached : S) (due : Due S) → P reached → took reached ≡ due → Goes Stepped.Done due P
-done-here P reached due here same = subst (λ d. WentTo d P) same here
-
-pub goes-same : {S : Type 0} (said : Stepped) (first due : Due S) (P : S → Type 0) → first ≡ due → Goes said first P → Goes said due P
-goes-same said first due P same goes = subst (λ d. Goes said d P) same goes
-
--- what is played once
-then-took : (first : Due (List NameEvent)) (play : List NameEvent → Due (List NameEvent)) → and_then first (repeated 0 play) ≡ first
-then-took (took events) play = refl
-then-took (refused answer) play = refl
 
 pub played-once : (head : Head) (most : ℕ) (line : Line) (event : Event) (events : List NameEvent) → line ≡ Line.Events event 1
     → play_event head (NameEvent.Plain event) events ≡ play_plain head most line events
 played-once head most line event events is =
     sym (ap (λ l. play_plain head most l events) is ∙ then-took (play_event head (NameEvent.Plain event) events) (play_event head (NameEvent.Plain event)))
 
--- ---- it stopped
-
-refused-then : {S : Type 0} (first : Due S) (next : S → Due S) (said : Stepped) → WasRefused first said → WasRefused (and_then first next) said
-refused-then (took events) next said is = absurd is
-refused-then (refused answer) next said is = is
-
-pub stops-then : {S : Type 0} (first : Due S) (next : S → Due S) (said : Stepped) (P Q : S → Type 0) → Goes said first P → (said ≡ Stepped.Done → ⊥) → Goes said (and_then first next) Q
-stops-then first next Stepped.Done P Q is other = absurd (other refl)
-stops-then first next Stepped.NoPacket P Q is other = refused-then first next Stepped.NoPacket is
-stops-then first next (Stepped.SkewBroken broken) P Q is other = refused-then first next (Stepped.SkewBroken broken) is
-stops-then first next (Stepped.Limit limit) P Q is other = refused-then first next (Stepped.Limit limit) is
-stops-then first next Stepped.Fault P Q is other = tt
-stops-then first next Stepped.Memory P Q is other = tt
-
-pub stops-here : {S : Type 0} (first : Due S) (next : S → Due S) (said : Stepped) (P Q : S → Type 0) (due : Due S) → Goes said first P → (said ≡ Stepped.Done → ⊥) → and_then first next ≡ due → Goes said due Q
-stops-here first next said P Q due is other same = subst (λ d. Goes said d Q) same (stops-then first next said P Q is other)
-
--- ---- lines
-
-went-line : (line : ℕ) (first : Due Moment) (next : Moment → Ended) (P : Moment → Type 0) (due : Ended) → WentTo first P → at_line line first next ≡ due → IsOn P next due
-went-line line (took m) next P due here same = record { reached = m; here = here; same = same }
-went-line line (refused answer) next P due here same = absurd here
-
-pub line-on : (line : ℕ) (first : Due Moment) (next : Moment → Ended) (P : Moment → Type 0) (due : Ended) → Goes Stepped.Done first P → at_line line first next ≡ due → IsOn P next due
-line-on line first next P due here same = went-line line first next P due here same
-
-refused-line : (line number : ℕ) (first : Due Moment) (next : Moment → Ended) (said : Stepped) → number ≡ line → WasRefused first said → StoppedAt (at_line line first next) number said
-refused-line line number (took events) next said n is = absurd is
-refused-line line number (refused answer) next said n is = (n, is)
-
-pub stops-line : (line number : ℕ) (first : Due Moment) (next : Moment → Ended) (said : Stepped) (P Q : Moment → Type 0) → number ≡ line → Goes said first P → (said ≡ Stepped.Done → ⊥) → Comes (Played.Stopped number said) (at_line line first next) Q
-stops-line line number first next Stepped.Done P Q n is other = absurd (other refl)
-stops-line line number first next Stepped.NoPacket P Q n is other = refused-line line number first next Stepped.NoPacket n is
-stops-line line number first next (Stepped.SkewBroken broken) P Q n is other = refused-line line number first next (Stepped.SkewBroken broken) n is
-stops-line line number first next (Stepped.Limit limit) P Q n is other = refused-line line number first next (Stepped.Limit limit) n is
-stops-line line number first next Stepped.Fault P Q n is other = tt
-stops-line line number first next Stepped.Memory P Q n is other = tt
-
-pub ran-here : (P : Moment → Type 0) (m : Moment) (due : Ended) → P m → ran m ≡ due → Comes Played.All due P
-ran-here P m due here same = subst (λ d. RanTo d P) same here
-
--- ---- what is left to be played, one further
-
-pub repeat-step : (times turn : ℕ) (play : List NameEvent → Due (List NameEvent)) (events : List NameEvent) (due : Due (List NameEvent)) → turn < times → repeated (times - turn) play events ≡ due → and_then (play events) (repeated (times - (turn + 1)) play) ≡ due
-repeat-step times turn play events due below same =
-    let further : times - turn ≡ suc (times - (turn + 1)) = omega arith in
-    rw further at same
-
-pub ticks-step : (head : Head) (hosts host : ℕ) (events : List NameEvent) (due : Due (List NameEvent)) → host < hosts → play_ticks head host (hosts - host) events ≡ due → and_then (play_event head (NameEvent.Plain (Event.ClientTick host)) events) (play_ticks head (host + 1) (hosts - (host + 1))) ≡ due
+pub ticks-step : (head : Head) (hosts host : ℕ) (events : List NameEvent) (due : Due (List NameEvent)) → host < hosts
+    → play_ticks head host (hosts - host) events ≡ due
+    → and_then (play_event head (NameEvent.Plain (Event.ClientTick host)) events) (play_ticks head (host + 1) (hosts - (host + 1))) ≡ due
 ticks-step head hosts host events due below same =
     let further : hosts - host ≡ suc (hosts - (host + 1)) = omega arith in
     rw further at same
@@ -100,50 +26,17 @@ flow-step head most turn events due below same =
     let further : most - turn ≡ suc (most - (turn + 1)) = omega arith in
     rw further at same
 
-pub flow-none : (head : Head) (most turn : ℕ) (events : List NameEvent) (due : Due (List NameEvent)) (next : Option ℕ) → turn < most → play_flow head (most - turn) events ≡ due → next_packet head events ≡ next → next ≡ None → took events ≡ due
+pub flow-none : (head : Head) (most turn : ℕ) (events : List NameEvent) (due : Due (List NameEvent)) (next : Option ℕ) → turn < most
+    → play_flow head (most - turn) events ≡ due → next_packet head events ≡ next → next ≡ None → took events ≡ due
 flow-none head most turn events due next below same is none =
     let here : next_packet head events ≡ None = is ∙ none in
     let said = flow-step head most turn events due below same in
     rw here at said
 
-pub flow-some : (head : Head) (most turn packet : ℕ) (events : List NameEvent) (due : Due (List NameEvent)) (next : Option ℕ) → turn < most → play_flow head (most - turn) events ≡ due → next_packet head events ≡ next → next ≡ Some packet → and_then (play_event head (NameEvent.Plain (Event.Deliver packet)) events) (λ es. play_flow head (most - (turn + 1)) es) ≡ due
+pub flow-some : (head : Head) (most turn packet : ℕ) (events : List NameEvent) (due : Due (List NameEvent)) (next : Option ℕ) → turn < most
+    → play_flow head (most - turn) events ≡ due → next_packet head events ≡ next → next ≡ Some packet
+    → and_then (play_event head (NameEvent.Plain (Event.Deliver packet)) events) (λ es. play_flow head (most - (turn + 1)) es) ≡ due
 flow-some head most turn packet events due next below same is some =
     let here : next_packet head events ≡ Some packet = is ∙ some in
     let said = flow-step head most turn events due below same in
     rw here at said
-
--- ---- lines, one further
-
--- a line at a place, and those behind it
-pub record IsThere (lines : List NamesLine) (place : ℕ) : Type 0 where
-  pub line : NamesLine
-  pub here : slice_get lines place ≡ Some line
-  pub split : drop place lines ≡ line ∷ drop (place + 1) lines
-
-pub is-there : (lines : List NamesLine) (place : ℕ) → place < length lines → IsThere lines place
-is-there [] place below = absurd (omega arith)
-is-there (line ∷ lines) zero below = record { line = line; here = refl; split = refl }
-is-there (line ∷ lines) (suc place) below =
-    let on = is-there lines place (omega arith) in
-    let sum : suc place + 1 ≡ suc (place + 1) = omega arith in
-    record { line = on.line; here = on.here; split = rw sum on.split }
-
-pub lines-step : (head : Head) (most first place : ℕ) (lines : List NamesLine) (line : NamesLine) (m : Moment) (due : Ended) → drop place lines ≡ line ∷ drop (place + 1) lines → play_lines head most (first + place) (drop place lines) m ≡ due
-    → at_line (first + place) (play_line head most line m) (play_lines head most (first + (place + 1)) (drop (place + 1) lines)) ≡ due
-lines-step head most first place lines line m due split same =
-    let sum : first + (place + 1) ≡ first + place + 1 = omega arith in
-    rw sum (rw split at same)
-
-pub comes-here : (played stop : Played) (due first : Ended) (P : Moment → Type 0) → played ≡ stop → first ≡ due → Comes stop first P → Comes played due P
-comes-here played stop due first P is same comes = subst (λ d. Comes played d P) same (subst (λ p. Comes p first P) (sym is) comes)
-
--- ---- no line is left
-
-drop-past : (lines : List NamesLine) (place : ℕ) → length lines ≤ place → drop place lines ≡ []
-drop-past [] zero less = refl
-drop-past [] (suc place) less = refl
-drop-past (line ∷ lines) zero less = absurd (omega arith)
-drop-past (line ∷ lines) (suc place) less = drop-past lines place (omega arith)
-
-pub lines-end : (head : Head) (most number place : ℕ) (lines : List NamesLine) (m : Moment) (due : Ended) → length lines ≤ place → play_lines head most number (drop place lines) m ≡ due → ran m ≡ due
-lines-end head most number place lines m due past same = subst (λ ls. play_lines head most number ls m ≡ due) (drop-past lines place past) same

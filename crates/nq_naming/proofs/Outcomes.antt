@@ -3,8 +3,9 @@ use Rattle.std.proofs.Common.{◌≡◌, inl, inr, ℕ, List, Option, refl, sym,
 use Rattle.nq_base.specs.declared.SkewBroken.{SkewBroken}
 use Rattle.nq_ending.specs.declared.Ending.{Ending}
 use Rattle.nq_model.specs.Stepped.{Stepped as Answer, done, no_packet, out_of_skew, too_many_events, too_many_packets}
-use Rattle.nq_naming.specs.Going.{Comes, StoppedAt}
-use Rattle.nq_naming.specs.Playing.{Ended, Moment, play, ran, stopped}
+use Rattle.nq_asides.specs.Going.{Comes, StoppedAt}
+use Rattle.nq_asides.specs.Playing.{Ended, ran, stopped}
+use Rattle.nq_naming.specs.Playing.{Moment, play}
 use Rattle.nq_play.specs.declared.Played.{Played}
 use Rattle.nq_replay.specs.Ending.{IsUnlessFault}
 use Rattle.nq_naming.specs.Running.{EndsNamesPlayed, EndsNamesText, FaultyNames, PassesNames, RunsNames, StopsNames}
@@ -20,7 +21,8 @@ use Rattle.nq_world.specs.declared.Stepped.{Stepped}
 
 -- ---- what was printed
 
-text_of_run : (end : Ending) (head : Head) (m : Moment) (text : List ℕ) (held now : Option (List ℕ)) (w w' : ℕ) → RunsNames text head m → EndsNamesPlayed end head (ran m) held now w w' → EndsNamesText end text held now w w'
+text_of_run : (end : Ending) (head : Head) (m : Moment) (text : List ℕ) (held now : Option (List ℕ)) (w w' : ℕ) → RunsNames text head m
+    → EndsNamesPlayed end head (ran m) held now w w' → EndsNamesText end text held now w w'
 text_of_run Ending.Done head m text held now w w' runs (inl p) = record { head = head; moment = m; runs = runs; bytes = p.bytes; are = p.are; printed = p.printed }
 text_of_run Ending.Done head m text held now w w' runs (inr none) = let e = none.0 in absurd (cc)
 text_of_run Ending.WriteFault head m text held now w w' runs (inl p) = (record { head = head; moment = m; runs = runs; bytes = p.bytes; are = p.are; printed = p.printed.0 }, p.printed.1)
@@ -30,31 +32,37 @@ text_of_run Ending.Memory head m text held now w w' runs (inr none) = inl none.1
 text_of_run other head m text held now w w' runs (inl p) = absurd p.printed
 text_of_run other head m text held now w w' runs (inr none) = let e = none.0 in absurd (cc)
 
-text_of_packet : (end : Ending) (line : ℕ) (text : List ℕ) (held now : Option (List ℕ)) (w w' : ℕ) → FaultyNames text line → TellsStop end line Stepped.NoPacket held now w w' → EndsNamesText end text held now w w'
+text_of_packet : (end : Ending) (line : ℕ) (text : List ℕ) (held now : Option (List ℕ)) (w w' : ℕ) → FaultyNames text line
+    → TellsStop end line Stepped.NoPacket held now w w' → EndsNamesText end text held now w w'
 text_of_packet Ending.Script line text held now w w' faulty tells = record { number = line; faulty = faulty; printed = tells }
 text_of_packet Ending.Memory line text held now w w' faulty tells = inl tells
 text_of_packet other line text held now w w' faulty tells = absurd tells
 
-text_of_skew : (end : Ending) (line : ℕ) (broken : SkewBroken) (text : List ℕ) (held now : Option (List ℕ)) (w w' : ℕ) → StopsNames text line (out_of_skew broken) → TellsStop end line (Stepped.SkewBroken broken) held now w w' → EndsNamesText end text held now w w'
+text_of_skew : (end : Ending) (line : ℕ) (broken : SkewBroken) (text : List ℕ) (held now : Option (List ℕ)) (w w' : ℕ)
+    → StopsNames text line (out_of_skew broken) → TellsStop end line (Stepped.SkewBroken broken) held now w w' → EndsNamesText end text held now w w'
 text_of_skew Ending.Skew line broken text held now w w' stops tells = record { number = line; broken = broken; breaks = stops; printed = tells }
 text_of_skew Ending.Memory line broken text held now w w' stops tells = inl tells
 text_of_skew other line broken text held now w w' stops tells = absurd tells
 
-text_of_events : (end : Ending) (line : ℕ) (text : List ℕ) (held now : Option (List ℕ)) (w w' : ℕ) → StopsNames text line too_many_events → TellsStop end line (Stepped.Limit Limit.Events) held now w w' → EndsNamesText end text held now w w'
+text_of_events : (end : Ending) (line : ℕ) (text : List ℕ) (held now : Option (List ℕ)) (w w' : ℕ) → StopsNames text line too_many_events
+    → TellsStop end line (Stepped.Limit Limit.Events) held now w w' → EndsNamesText end text held now w w'
 text_of_events Ending.Memory line text held now w w' stops tells = inl tells
 text_of_events Ending.Limit line text held now w w' stops tells = record { number = line; bound = Bound.Events; passes = stops; printed = tells }
 text_of_events other line text held now w w' stops tells = absurd tells
 
-text_of_packets : (end : Ending) (line : ℕ) (text : List ℕ) (held now : Option (List ℕ)) (w w' : ℕ) → StopsNames text line too_many_packets → TellsStop end line (Stepped.Limit Limit.Packets) held now w w' → EndsNamesText end text held now w w'
+text_of_packets : (end : Ending) (line : ℕ) (text : List ℕ) (held now : Option (List ℕ)) (w w' : ℕ) → StopsNames text line too_many_packets
+    → TellsStop end line (Stepped.Limit Limit.Packets) held now w w' → EndsNamesText end text held now w w'
 text_of_packets Ending.Memory line text held now w w' stops tells = inl tells
 text_of_packets Ending.Limit line text held now w w' stops tells = record { number = line; bound = Bound.Packets; passes = stops; printed = tells }
 text_of_packets other line text held now w w' stops tells = absurd tells
 
-text_of_done : (end : Ending) (line : ℕ) (text : List ℕ) (held now : Option (List ℕ)) (w w' : ℕ) → TellsStop end line Stepped.Done held now w w' → EndsNamesText end text held now w w'
+text_of_done : (end : Ending) (line : ℕ) (text : List ℕ) (held now : Option (List ℕ)) (w w' : ℕ) → TellsStop end line Stepped.Done held now w w'
+    → EndsNamesText end text held now w w'
 text_of_done Ending.Memory line text held now w w' tells = inl tells
 text_of_done other line text held now w w' tells = absurd tells
 
-text_of_stop : (end : Ending) (head : Head) (line : ℕ) (answer : Answer) (text : List ℕ) (held now : Option (List ℕ)) (w w' : ℕ) → StopsNames text line answer → TellsStop end line (answer_of answer) held now w w' → EndsNamesText end text held now w w'
+text_of_stop : (end : Ending) (head : Head) (line : ℕ) (answer : Answer) (text : List ℕ) (held now : Option (List ℕ)) (w w' : ℕ)
+    → StopsNames text line answer → TellsStop end line (answer_of answer) held now w w' → EndsNamesText end text held now w w'
 text_of_stop end head line done text held now w w' stops tells = text_of_done end line text held now w w' tells
 text_of_stop end head line no_packet text held now w w' stops tells = text_of_packet end line text held now w w' (inr stops) tells
 text_of_stop end head line (out_of_skew broken) text held now w w' stops tells = text_of_skew end line broken text held now w w' stops tells
@@ -62,35 +70,42 @@ text_of_stop end head line too_many_events text held now w w' stops tells = text
 text_of_stop end head line too_many_packets text held now w w' stops tells = text_of_packets end line text held now w w' stops tells
 
 -- a schedule that was read
-text_of_due : (end : Ending) (head : Head) (lines : List NamesLine) (due : Ended) (text : List ℕ) (held now : Option (List ℕ)) (w w' : ℕ) → SpellsNames head lines text → play head lines ≡ due → EndsNamesPlayed end head due held now w w' → EndsNamesText end text held now w w'
+text_of_due : (end : Ending) (head : Head) (lines : List NamesLine) (due : Ended Moment) (text : List ℕ) (held now : Option (List ℕ)) (w w' : ℕ)
+    → SpellsNames head lines text → play head lines ≡ due → EndsNamesPlayed end head due held now w w' → EndsNamesText end text held now w w'
 text_of_due end head lines (ran m) text held now w w' spelled is ends = text_of_run end head m text held now w w' (record { lines = lines; spelled = spelled; played = is }) ends
 text_of_due end head lines (stopped line answer) text held now w w' spelled is ends = text_of_stop end head line answer text held now w w' (record { head = head; lines = lines; spelled = spelled; stopped = is }) ends
 
-pub text_of_schedule : (end : Ending) (head : Head) (lines : List NamesLine) (text : List ℕ) (held now : Option (List ℕ)) (w w' : ℕ) → SpellsNames head lines text → EndsNamesPlayed end head (play head lines) held now w w' → EndsNamesText end text held now w w'
+pub text_of_schedule : (end : Ending) (head : Head) (lines : List NamesLine) (text : List ℕ) (held now : Option (List ℕ)) (w w' : ℕ)
+    → SpellsNames head lines text → EndsNamesPlayed end head (play head lines) held now w w' → EndsNamesText end text held now w w'
 text_of_schedule end head lines text held now w w' spelled ends = text_of_due end head lines (play head lines) text held now w w' spelled refl ends
 
 -- a text outside the grammar
-pub text_of_fault : (end : Ending) (line : ℕ) (text : List ℕ) (held now : Option (List ℕ)) (w w' : ℕ) → FirstBadNames text line → TellsStop end line Stepped.NoPacket held now w w' → EndsNamesText end text held now w w'
+pub text_of_fault : (end : Ending) (line : ℕ) (text : List ℕ) (held now : Option (List ℕ)) (w w' : ℕ) → FirstBadNames text line
+    → TellsStop end line Stepped.NoPacket held now w w' → EndsNamesText end text held now w w'
 text_of_fault end line text held now w w' bad tells = text_of_packet end line text held now w w' (inl bad) tells
 
 -- ---- which end comes
 
-pub script_unless : (end : Ending) (line : ℕ) (held now : Option (List ℕ)) (w w' : ℕ) → TellsStop end line Stepped.NoPacket held now w w' → IsUnlessFault end Ending.Script 0 0 w w'
+pub script_unless : (end : Ending) (line : ℕ) (held now : Option (List ℕ)) (w w' : ℕ) → TellsStop end line Stepped.NoPacket held now w w'
+    → IsUnlessFault end Ending.Script 0 0 w w'
 script_unless Ending.Script line held now w w' tells = inl refl
 script_unless Ending.Memory line held now w w' tells = inr tt
 script_unless other line held now w w' tells = absurd tells
 
-skew_unless : (end : Ending) (line : ℕ) (broken : SkewBroken) (held now : Option (List ℕ)) (w w' : ℕ) → TellsStop end line (Stepped.SkewBroken broken) held now w w' → IsUnlessFault end Ending.Skew 0 0 w w'
+skew_unless : (end : Ending) (line : ℕ) (broken : SkewBroken) (held now : Option (List ℕ)) (w w' : ℕ)
+    → TellsStop end line (Stepped.SkewBroken broken) held now w w' → IsUnlessFault end Ending.Skew 0 0 w w'
 skew_unless Ending.Skew line broken held now w w' tells = inl refl
 skew_unless Ending.Memory line broken held now w w' tells = inr tt
 skew_unless other line broken held now w w' tells = absurd tells
 
-limit_unless : (end : Ending) (line : ℕ) (limit : Limit) (held now : Option (List ℕ)) (w w' : ℕ) → TellsStop end line (Stepped.Limit limit) held now w w' → IsUnlessFault end Ending.Limit 0 0 w w'
+limit_unless : (end : Ending) (line : ℕ) (limit : Limit) (held now : Option (List ℕ)) (w w' : ℕ) → TellsStop end line (Stepped.Limit limit) held now w w'
+    → IsUnlessFault end Ending.Limit 0 0 w w'
 limit_unless Ending.Limit line limit held now w w' tells = inl refl
 limit_unless Ending.Memory line limit held now w w' tells = inr tt
 limit_unless other line limit held now w w' tells = absurd tells
 
-done_unless : (end : Ending) (head : Head) (m : Moment) (held now : Option (List ℕ)) (w w' : ℕ) → EndsNamesPlayed end head (ran m) held now w w' → IsUnlessFault end Ending.Done 0 0 w w'
+done_unless : (end : Ending) (head : Head) (m : Moment) (held now : Option (List ℕ)) (w w' : ℕ) → EndsNamesPlayed end head (ran m) held now w w'
+    → IsUnlessFault end Ending.Done 0 0 w w'
 done_unless Ending.Done head m held now w w' prints = inl refl
 done_unless Ending.Memory head m held now w w' prints = inr tt
 done_unless Ending.WriteFault head m held now w w' (inl p) = inr p.printed.1
@@ -99,30 +114,37 @@ done_unless other head m held now w w' (inl p) = absurd p.printed
 done_unless other head m held now w w' (inr none) = let e = none.0 in absurd (cc)
 
 -- the schedule that was read is the one that is spelled
-pub is_due : (head h : Head) (lines ls : List NamesLine) (due : Ended) → (head ≡ h) × (lines ≡ ls) → play h ls ≡ due → play head lines ≡ due
+pub is_due : (head h : Head) (lines ls : List NamesLine) (due : Ended Moment) → (head ≡ h) × (lines ≡ ls) → play h ls ≡ due → play head lines ≡ due
 is_due head h lines ls due same is = rw (same.0, same.1) is
 
-pub ends_script : (end : Ending) (head : Head) (lines : List NamesLine) (number : ℕ) (held now : Option (List ℕ)) (w w' : ℕ) → EndsNamesPlayed end head (play head lines) held now w w' → play head lines ≡ stopped number no_packet → IsUnlessFault end Ending.Script 0 0 w w'
+pub ends_script : (end : Ending) (head : Head) (lines : List NamesLine) (number : ℕ) (held now : Option (List ℕ)) (w w' : ℕ)
+    → EndsNamesPlayed end head (play head lines) held now w w' → play head lines ≡ stopped number no_packet → IsUnlessFault end Ending.Script 0 0 w w'
 ends_script end head lines number held now w w' ends is = script_unless end number held now w w' (subst (λ due. EndsNamesPlayed end head due held now w w') is ends)
 
-pub ends_skew : (end : Ending) (head : Head) (lines : List NamesLine) (number : ℕ) (broken : SkewBroken) (held now : Option (List ℕ)) (w w' : ℕ) → EndsNamesPlayed end head (play head lines) held now w w' → play head lines ≡ stopped number (out_of_skew broken) → IsUnlessFault end Ending.Skew 0 0 w w'
+pub ends_skew : (end : Ending) (head : Head) (lines : List NamesLine) (number : ℕ) (broken : SkewBroken) (held now : Option (List ℕ)) (w w' : ℕ)
+    → EndsNamesPlayed end head (play head lines) held now w w' → play head lines ≡ stopped number (out_of_skew broken) → IsUnlessFault end Ending.Skew 0 0 w w'
 ends_skew end head lines number broken held now w w' ends is = skew_unless end number broken held now w w' (subst (λ due. EndsNamesPlayed end head due held now w w') is ends)
 
-pub ends_passing : (end : Ending) (head : Head) (lines : List NamesLine) (text : List ℕ) (number : ℕ) (bound : Bound) (held now : Option (List ℕ)) (w w' : ℕ) → EndsNamesPlayed end head (play head lines) held now w w'
-    → ((h : Head) (ls : List NamesLine) → SpellsNames h ls text → (head ≡ h) × (lines ≡ ls)) → PassesNames text number bound → IsUnlessFault end Ending.Limit 0 0 w w'
+pub ends_passing : (end : Ending) (head : Head) (lines : List NamesLine) (text : List ℕ) (number : ℕ) (bound : Bound) (held now : Option (List ℕ)) (w w' : ℕ)
+    → EndsNamesPlayed end head (play head lines) held now w w'
+    → ((h : Head) (ls : List NamesLine) → SpellsNames h ls text → (head ≡ h) × (lines ≡ ls)) → PassesNames text number bound
+    → IsUnlessFault end Ending.Limit 0 0 w w'
 ends_passing end head lines text number Bound.Bytes held now w w' ends only passes = absurd passes
 ends_passing end head lines text number Bound.Events held now w w' ends only passes =
     limit_unless end number Limit.Events held now w w' (subst (λ due. EndsNamesPlayed end head due held now w w') (is_due head passes.head lines passes.lines _ (only passes.head passes.lines passes.spelled) passes.stopped) ends)
 ends_passing end head lines text number Bound.Packets held now w w' ends only passes =
     limit_unless end number Limit.Packets held now w w' (subst (λ due. EndsNamesPlayed end head due held now w w') (is_due head passes.head lines passes.lines _ (only passes.head passes.lines passes.spelled) passes.stopped) ends)
 
-pub ends_faulty : (end : Ending) (head : Head) (lines : List NamesLine) (text : List ℕ) (number : ℕ) (held now : Option (List ℕ)) (w w' : ℕ) → EndsNamesPlayed end head (play head lines) held now w w'
-    → ((h : Head) (ls : List NamesLine) → SpellsNames h ls text → (head ≡ h) × (lines ≡ ls)) → (FirstBadNames text number → ⊥) → FaultyNames text number → IsUnlessFault end Ending.Script 0 0 w w'
+pub ends_faulty : (end : Ending) (head : Head) (lines : List NamesLine) (text : List ℕ) (number : ℕ) (held now : Option (List ℕ)) (w w' : ℕ)
+    → EndsNamesPlayed end head (play head lines) held now w w'
+    → ((h : Head) (ls : List NamesLine) → SpellsNames h ls text → (head ≡ h) × (lines ≡ ls)) → (FirstBadNames text number → ⊥) → FaultyNames text number
+    → IsUnlessFault end Ending.Script 0 0 w w'
 ends_faulty end head lines text number held now w w' ends only bad (inl is) = absurd (bad is)
 ends_faulty end head lines text number held now w w' ends only bad (inr stops) =
     ends_script end head lines number held now w w' ends (is_due head stops.head lines stops.lines _ (only stops.head stops.lines stops.spelled) stops.stopped)
 
-pub ends_done : (end : Ending) (head : Head) (lines : List NamesLine) (h : Head) (ls : List NamesLine) (m : Moment) (held now : Option (List ℕ)) (w w' : ℕ) → EndsNamesPlayed end head (play head lines) held now w w' → (head ≡ h) × (lines ≡ ls) → play h ls ≡ ran m → IsUnlessFault end Ending.Done 0 0 w w'
+pub ends_done : (end : Ending) (head : Head) (lines : List NamesLine) (h : Head) (ls : List NamesLine) (m : Moment) (held now : Option (List ℕ)) (w w' : ℕ)
+    → EndsNamesPlayed end head (play head lines) held now w w' → (head ≡ h) × (lines ≡ ls) → play h ls ≡ ran m → IsUnlessFault end Ending.Done 0 0 w w'
 ends_done end head lines h ls m held now w w' ends same is =
     done_unless end head m held now w w' (subst (λ due. EndsNamesPlayed end head due held now w w') (is_due head h lines ls _ same is) ends)
 
@@ -130,7 +152,8 @@ ends_done end head lines h ls m held now w w' ends same is =
 pub names_bad : (fault : ScriptFault) (number : ℕ) (P : ℕ → Type 0) → fault ≡ ScriptFault.Bad number → Names fault P → P number
 names_bad fault number P is names = subst (λ e. Names e P) is names
 
-pub passes_none : (text : List ℕ) (number : ℕ) (bound : Bound) → ((h : Head) (ls : List NamesLine) → SpellsNames h ls text → ⊥) → PassesNames text number bound → ⊥
+pub passes_none : (text : List ℕ) (number : ℕ) (bound : Bound) → ((h : Head) (ls : List NamesLine) → SpellsNames h ls text → ⊥)
+    → PassesNames text number bound → ⊥
 passes_none text number Bound.Bytes none passes = passes
 passes_none text number Bound.Events none passes = none passes.head passes.lines passes.spelled
 passes_none text number Bound.Packets none passes = none passes.head passes.lines passes.spelled
@@ -138,29 +161,34 @@ passes_none text number Bound.Packets none passes = none passes.head passes.line
 -- ---- what was played
 
 -- where memory was wanting before anything was printed
-pub memory_before : (head : Head) (due : Ended) (held : Option (List ℕ)) (w : ℕ) → EndsNamesPlayed Ending.Memory head due held held w w
+pub memory_before : (head : Head) (due : Ended Moment) (held : Option (List ℕ)) (w : ℕ) → EndsNamesPlayed Ending.Memory head due held held w w
 memory_before head (ran m) held w = inr (refl, refl)
 memory_before head (stopped line answer) held w = refl
 
 -- where it stopped
-stop_memory : (end : Ending) (head : Head) (due : Ended) (held now : Option (List ℕ)) (w w' : ℕ) → (end ≡ Ending.Memory) × (now ≡ held) → EndsNamesPlayed end head due held now w w'
+stop_memory : (end : Ending) (head : Head) (due : Ended Moment) (held now : Option (List ℕ)) (w w' : ℕ) → (end ≡ Ending.Memory) × (now ≡ held)
+    → EndsNamesPlayed end head due held now w w'
 stop_memory end head (ran m) held now w w' is = inr is
 stop_memory end head (stopped number answer) held now w w' is = rw is.0 is.1
 
-silent-fault : (end : Ending) (line : ℕ) (held now : Option (List ℕ)) (w w' : ℕ) → TellsStop end line Stepped.Fault held now w w' → (end ≡ Ending.Memory) × (now ≡ held)
+silent-fault : (end : Ending) (line : ℕ) (held now : Option (List ℕ)) (w w' : ℕ) → TellsStop end line Stepped.Fault held now w w'
+    → (end ≡ Ending.Memory) × (now ≡ held)
 silent-fault Ending.Memory line held now w w' tells = (refl, tells)
 silent-fault other line held now w w' tells = absurd tells
 
-silent-memory : (end : Ending) (line : ℕ) (held now : Option (List ℕ)) (w w' : ℕ) → TellsStop end line Stepped.Memory held now w w' → (end ≡ Ending.Memory) × (now ≡ held)
+silent-memory : (end : Ending) (line : ℕ) (held now : Option (List ℕ)) (w w' : ℕ) → TellsStop end line Stepped.Memory held now w w'
+    → (end ≡ Ending.Memory) × (now ≡ held)
 silent-memory Ending.Memory line held now w w' tells = (refl, tells)
 silent-memory other line held now w w' tells = absurd tells
 
-stop_at : (end : Ending) (head : Head) (line : ℕ) (said : Stepped) (due : Ended) (held now : Option (List ℕ)) (w w' : ℕ) → StoppedAt due line said → TellsStop end line said held now w w' → EndsNamesPlayed end head due held now w w'
+stop_at : (end : Ending) (head : Head) (line : ℕ) (said : Stepped) (due : Ended Moment) (held now : Option (List ℕ)) (w w' : ℕ) → StoppedAt due line said
+    → TellsStop end line said held now w w' → EndsNamesPlayed end head due held now w w'
 stop_at end head line said (ran m) held now w w' is tells = absurd is
 stop_at end head line said (stopped number answer) held now w w' is tells =
     subst (λ s. TellsStop end number s held now w w') (sym is.1) (subst (λ n. TellsStop end n said held now w w') is.0 tells)
 
-pub stop_ends : (end : Ending) (head : Head) (line : ℕ) (said : Stepped) (due : Ended) (P : Moment → Type 0) (held now : Option (List ℕ)) (w w' : ℕ) → Comes (Played.Stopped line said) due P → TellsStop end line said held now w w' → EndsNamesPlayed end head due held now w w'
+pub stop_ends : (end : Ending) (head : Head) (line : ℕ) (said : Stepped) (due : Ended Moment) (P : Moment → Type 0) (held now : Option (List ℕ)) (w w' : ℕ)
+    → Comes (Played.Stopped line said) due P → TellsStop end line said held now w w' → EndsNamesPlayed end head due held now w w'
 stop_ends end head line Stepped.Done due P held now w w' comes tells = absurd comes
 stop_ends end head line Stepped.NoPacket due P held now w w' comes tells = stop_at end head line Stepped.NoPacket due held now w w' comes tells
 stop_ends end head line (Stepped.SkewBroken broken) due P held now w w' comes tells = stop_at end head line (Stepped.SkewBroken broken) due held now w w' comes tells
@@ -169,6 +197,7 @@ stop_ends end head line Stepped.Fault due P held now w w' comes tells = stop_mem
 stop_ends end head line Stepped.Memory due P held now w w' comes tells = stop_memory end head due held now w w' (silent-memory end line held now w w' tells)
 
 -- where it was played to its end
-pub run_ends : (end : Ending) (head : Head) (due : Ended) (P : Moment → Type 0) (held now : Option (List ℕ)) (w w' : ℕ) → Comes Played.All due P → ((m : Moment) → P m → EndsNamesPlayed end head (ran m) held now w w') → EndsNamesPlayed end head due held now w w'
+pub run_ends : (end : Ending) (head : Head) (due : Ended Moment) (P : Moment → Type 0) (held now : Option (List ℕ)) (w w' : ℕ) → Comes Played.All due P
+    → ((m : Moment) → P m → EndsNamesPlayed end head (ran m) held now w w') → EndsNamesPlayed end head due held now w w'
 run_ends end head (ran m) P held now w w' comes prints = prints m comes
 run_ends end head (stopped number answer) P held now w w' comes prints = absurd comes

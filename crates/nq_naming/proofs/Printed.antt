@@ -21,7 +21,8 @@ use Rattle.nq_names_run.specs.Outside.{outside_run}
 use Rattle.nq_names_run.specs.declared.NameEvent.{NameEvent}
 
 -- a world that plays a run with lists keeps to the bounds of its inner run, and is within skew
-lawful : {K : Type 0} (head : Beginning) (events : List NameEvent) (w : NamesOver K) (told : Option Kept) → PlaysOutside head events w told → IsLawful head (outside_run head events).ran
+lawful : {K : Type 0} (head : Beginning) (events : List NameEvent) (w : NamesOver K) (told : Option Kept) → PlaysOutside head events w told
+    → IsLawful head (outside_run head events).ran
 lawful head events w told plays =
     let is = plays.reaches.keeps.schedule in
     record { bounds = is.bounds; skew = is.skew }

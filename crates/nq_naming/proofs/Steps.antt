@@ -8,8 +8,10 @@ use Rattle.nq_model.specs.Kept.{Kept}
 use Rattle.nq_model.specs.Stepped.{Stepped as Answer, done, no_packet, out_of_skew, too_many_events, too_many_packets, most_events, tested_room}
 use Rattle.nq_model.specs.World.{Head}
 use Rattle.nq_play.specs.Delivering.{Marks, least_undelivered}
-use Rattle.nq_naming.specs.Going.{Goes, HasFlagOutside, IsAt, WasRefused}
-use Rattle.nq_naming.specs.Playing.{answered, next_packet, plain_events, play_event}
+use Rattle.nq_asides.specs.Going.{Goes, WasRefused}
+use Rattle.nq_naming.specs.Going.{HasFlagOutside, IsAt}
+use Rattle.nq_asides.specs.Playing.{answered}
+use Rattle.nq_naming.specs.Playing.{next_packet, plain_events, play_event}
 use Rattle.nq_names_run.specs.declared.NameEvent.{NameEvent}
 use Rattle.nq_names_run.specs.Outside.{outside_run}
 use Rattle.nq_world.specs.Answering.{told as answer_of}
@@ -17,7 +19,8 @@ use Rattle.nq_world.specs.Playing.{CountsFaults, HasSettings, WorldOver}
 use Rattle.nq_world.specs.declared.Stepped.{Stepped}
 
 -- the packet that is delivered next is the least that has no flag
-pub next-is : (head : Head) (events : List NameEvent) (flags : List Bool) (sent : ℕ) (next : Option ℕ) → Marks flags (plain_events events) → sent ≡ length (outside_run head events).sent → ((es : List Event) → Marks flags es → next ≡ least_undelivered 0 sent es) → next_packet head events ≡ next
+pub next-is : (head : Head) (events : List NameEvent) (flags : List Bool) (sent : ℕ) (next : Option ℕ) → Marks flags (plain_events events)
+    → sent ≡ length (outside_run head events).sent → ((es : List Event) → Marks flags es → next ≡ least_undelivered 0 sent es) → next_packet head events ≡ next
 unfolding next_packet
 next-is head events flags sent next marks many least =
     sym (least (plain_events events) marks ∙ ap (λ n. least_undelivered 0 n (plain_events events)) many)
@@ -27,7 +30,8 @@ pub faults-on : (said : Stepped) (first second last : ℕ) → second ≡ first 
 faults-on said first second last is counts = subst (λ n. CountsFaults said n last) is counts
 
 -- what a world keeps over two steps
-pub settings-on : {K : Type 0} (hosts longest term : ℕ) (old new : WorldOver K) → HasSettings hosts longest term old → HasSettings (length old.clients) old.skew.window old.term new → HasSettings hosts longest term new
+pub settings-on : {K : Type 0} (hosts longest term : ℕ) (old new : WorldOver K) → HasSettings hosts longest term old
+    → HasSettings (length old.clients) old.skew.window old.term new → HasSettings hosts longest term new
 settings-on hosts longest term old new first second = record {
   hosts_are = second.hosts_are ∙ first.hosts_are;
   longest_is = second.longest_is ∙ first.longest_is;
@@ -40,7 +44,8 @@ tested-sent true true room is = refl
 tested-sent true false room is = absurd (cc)
 tested-sent false sent room is = absurd (cc)
 
-pub has_flag : (head : Head) (events : List NameEvent) (event : NameEvent) (sent : ℕ) (flags : List Bool) → sent ≡ length (outside_run head events).sent → sent ≤ length flags → stepped_outside head events event ≡ done → HasFlagOutside (length flags) event
+pub has_flag : (head : Head) (events : List NameEvent) (event : NameEvent) (sent : ℕ) (flags : List Bool) → sent ≡ length (outside_run head events).sent
+    → sent ≤ length flags → stepped_outside head events event ≡ done → HasFlagOutside (length flags) event
 has_flag head events (NameEvent.Plain (Event.Call host op)) sent flags many room is = tt
 has_flag head events (NameEvent.Plain (Event.Deliver k)) sent flags many room is =
     let all = length (outside_run head events).sent in
@@ -54,13 +59,15 @@ has_flag head events (NameEvent.Plain (Event.Crash longest)) sent flags many roo
 has_flag head events (NameEvent.List host prefix) sent flags many room is = tt
 
 -- an event that was taken
-pub taken : {K : Type 0} (head : Head) (events : List NameEvent) (event : NameEvent) (w : NamesOver K) (told : Option Kept) (flags : List Bool) → stepped_outside head events event ≡ done → PlaysOutside head (event ∷ events) w told → Marks flags (plain_events (event ∷ events))
+pub taken : {K : Type 0} (head : Head) (events : List NameEvent) (event : NameEvent) (w : NamesOver K) (told : Option Kept) (flags : List Bool)
+    → stepped_outside head events event ≡ done → PlaysOutside head (event ∷ events) w told → Marks flags (plain_events (event ∷ events))
     → Goes Stepped.Done (play_event head event events) (λ es. IsAt head es w told flags)
 unfolding play_event
 taken head events event w told flags is plays marks = rw is (record { plays = plays; marks = marks })
 
 -- an event that was refused
-was-refused : (events : List NameEvent) (event : NameEvent) (answer : Answer) (said : Stepped) → answer_of answer ≡ said → (said ≡ Stepped.Done → ⊥) → WasRefused (answered events event answer) said
+was-refused : (events : List NameEvent) (event : NameEvent) (answer : Answer) (said : Stepped) → answer_of answer ≡ said → (said ≡ Stepped.Done → ⊥)
+    → WasRefused (answered events event answer) said
 was-refused events event done said is other = absurd (other (sym is))
 was-refused events event no_packet said is other = is
 was-refused events event (out_of_skew broken) said is other = is
@@ -77,7 +84,8 @@ not-taken head events event Stepped.Fault new told tells P steps other = tt
 not-taken head events event Stepped.Memory new told tells P steps other = tt
 
 -- a world that only sent what was due
-pub at-sent : {K : Type 0} (head : Head) (events : List NameEvent) (old new : NamesOver K) (content : K → Option Kept) (flags flags' : List Bool) → IsAt head events old (content old.inner.server.keeper) flags
+pub at-sent : {K : Type 0} (head : Head) (events : List NameEvent) (old new : NamesOver K) (content : K → Option Kept) (flags flags' : List Bool)
+    → IsAt head events old (content old.inner.server.keeper) flags
     → (PlaysOutside head events old (content old.inner.server.keeper) → PlaysOutside head events new (content old.inner.server.keeper))
     → new.inner ≡ old.inner → flags' ≡ flags → IsAt head events new (content new.inner.server.keeper) flags'
 at-sent head events old new content flags flags' at same inner is = record {

@@ -6,12 +6,9 @@ use Rattle.nq_names.specs.Playing.{PlaysOutside, NamesOver}
 use Rattle.nq_model.specs.Kept.{Kept}
 use Rattle.nq_model.specs.World.{Head}
 use Rattle.nq_play.specs.Delivering.{Marks}
-use Rattle.nq_play.specs.declared.Played.{Played}
 use Rattle.nq_naming.specs.Finding.{FindsAreTrue, lines_of}
-use Rattle.nq_naming.specs.Playing.{Ended, Moment, Played as Due, plain_events, ran, refused, stopped, took}
+use Rattle.nq_naming.specs.Playing.{Moment, plain_events}
 use Rattle.nq_names_run.specs.declared.NameEvent.{NameEvent}
-use Rattle.nq_world.specs.Answering.{told as answer_of}
-use Rattle.nq_world.specs.declared.Stepped.{Stepped}
 
 -- a world plays the run with lists of these events, and the flags tell which packets were delivered in it
 pub record IsAt {K : Type 0} (head : Head) (events : List NameEvent) (w : NamesOver K) (told : Option Kept) (flags : List Bool) : Type 0 where
@@ -34,39 +31,3 @@ pub record IsAtEnd {K : Type 0} (head : Head) (m : Moment) (w : NamesOver K) (to
   pub plays : PlaysOutside head m.events w told
   pub said : text ≡ lines_of head m.finds
   pub finds : FindsAreTrue head m
-
--- all went well, and this holds where playing has come to
-abbrev pub WentTo : {S : Type 0} → Due S → (S → Type 0) → Type 0
-WentTo (took reached) P = P reached
-WentTo (refused answer) P = ⊥
-
--- this is what was answered to the first event that was not taken
-abbrev pub WasRefused : {S : Type 0} → Due S → Stepped → Type 0
-WasRefused (took reached) said = ⊥
-WasRefused (refused answer) said = answer_of answer ≡ said
-
--- what a world said is what it is to say; a fault of the keeper, or want of memory, may come in its place. Where all went well,
--- this holds where playing has come to
-abbrev pub Goes : {S : Type 0} → Stepped → Due S → (S → Type 0) → Type 0
-Goes Stepped.Done due P = WentTo due P
-Goes Stepped.Fault due P = Unit {0}
-Goes Stepped.Memory due P = Unit {0}
-Goes said due P = WasRefused due said
-
--- a schedule with lists was played to its end, and this holds of its end
-abbrev pub RanTo : Ended → (Moment → Type 0) → Type 0
-RanTo (ran moment) P = P moment
-RanTo (stopped line answer) P = ⊥
-
--- the first event that was not taken is of this line, and this was answered to it
-abbrev pub StoppedAt : Ended → (line : ℕ) → Stepped → Type 0
-StoppedAt (ran moment) line said = ⊥
-StoppedAt (stopped number answer) line said = (line ≡ number) × (answer_of answer ≡ said)
-
--- the same of a whole schedule with lists
-abbrev pub Comes : Played → Ended → (Moment → Type 0) → Type 0
-Comes Played.All due P = RanTo due P
-Comes (Played.Stopped line Stepped.Done) due P = ⊥
-Comes (Played.Stopped line Stepped.Fault) due P = Unit {0}
-Comes (Played.Stopped line Stepped.Memory) due P = Unit {0}
-Comes (Played.Stopped line said) due P = StoppedAt due line said

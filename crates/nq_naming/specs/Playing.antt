@@ -1,8 +1,9 @@
 -- How the lines of a schedule with lists are played, event by event. The events of a run are told with the newest first.
-use Rattle.std.specs.Prelude.{ℕ, ◌+◌, List, [], ◌∷◌, length, Option, Some, None, zero, suc}
+use Rattle.std.specs.Prelude.{ℕ, ◌+◌, List, [], ◌∷◌, length, Option, zero, suc}
+use Rattle.nq_asides.specs.Playing.{Ended, Played, and_then, answered, play_each, refused, repeated, took, with_packet}
 use Rattle.nq_asides.specs.Text.{beside, plain}
 use Rattle.nq_base.specs.declared.Event.{Event}
-use Rattle.nq_model.specs.Stepped.{Stepped, done, too_many_events, most_events}
+use Rattle.nq_model.specs.Stepped.{too_many_events, most_events}
 use Rattle.nq_model.specs.World.{Head as Beginning}
 use Rattle.nq_name_script.specs.Text.{NamesLine}
 use Rattle.nq_name_script.specs.declared.Aside.{Aside}
@@ -15,31 +16,9 @@ use Rattle.nq_script.specs.Heads.{head_lines}
 use Rattle.nq_script.specs.declared.heads.Head.{Head}
 use Rattle.nq_script.specs.declared.lines.Line.{Line}
 
--- where playing has come to behind which all went well, or what was answered to the first event that was not taken
-pub data Played (S : Type 0) : Type 0 where
-  took : (reached : S) → Played S
-  refused : (answer : Stepped) → Played S
-
--- where all went well, it goes on
-abbrev pub and_then : {S : Type 0} → Played S → (S → Played S) → Played S
-and_then (took reached) next = next reached
-and_then (refused answer) next = refused answer
-
--- ---- events
-
--- an event by its answer
-abbrev pub answered : (earlier : List NameEvent) → NameEvent → Stepped → Played (List NameEvent)
-answered earlier event done = took (event ∷ earlier)
-answered earlier event other = refused other
-
 -- an event is given to the world
 unfoldable pub play_event : Beginning → NameEvent → (earlier : List NameEvent) → Played (List NameEvent)
 play_event head event earlier = answered earlier event (stepped_outside head earlier event)
-
--- something is played so many times, one after another
-abbrev pub repeated : (times : ℕ) → (List NameEvent → Played (List NameEvent)) → (earlier : List NameEvent) → Played (List NameEvent)
-repeated zero play earlier = took earlier
-repeated (suc times) play earlier = and_then (play earlier) (repeated times play)
 
 -- the clocks of so many hosts tick, from this host on
 abbrev pub play_ticks : Beginning → (host count : ℕ) → (earlier : List NameEvent) → Played (List NameEvent)
@@ -61,11 +40,6 @@ plain_events (NameEvent.List host prefix ∷ events) = plain_events events
 -- the least packet that travels and was never delivered
 unfoldable pub next_packet : Beginning → (events : List NameEvent) → Option ℕ
 next_packet head events = least_undelivered 0 (length (outside_run head events).sent) (plain_events events)
-
--- where a packet is to be delivered, it goes on
-abbrev pub with_packet : Option ℕ → (earlier : List NameEvent) → (ℕ → Played (List NameEvent)) → Played (List NameEvent)
-with_packet None earlier next = took earlier
-with_packet (Some packet) earlier next = next packet
 
 -- a flow: the least packet that was never delivered is delivered, again and again, until each packet was; so many
 -- deliveries are too many events
@@ -114,23 +88,10 @@ play_line head most (plain line) m = with_finds m.finds (play_plain head most li
 play_line head most (beside (Aside.List host prefix)) m = with_finds m.finds (play_event head (NameEvent.List host prefix) m.events)
 play_line head most (beside (Aside.Find host name)) m = took (with_find m host name)
 
--- the end of a schedule with lists whose lines were all played, or the line at which an event was not taken, and its answer
-pub data Ended : Type 0 where
-  ran : (moment : Moment) → Ended
-  stopped : (line : ℕ) → (answer : Stepped) → Ended
-
--- what a line leads to
-abbrev pub at_line : (line : ℕ) → Played Moment → (Moment → Ended) → Ended
-at_line line (took moment) next = next moment
-at_line line (refused answer) next = stopped line answer
-
 -- lines are played one after another, of which the first has this number in the text
-abbrev pub play_lines : Beginning → (most number : ℕ) → List NamesLine → Moment → Ended
-play_lines head most number [] m = ran m
-play_lines head most number (line ∷ lines) m =
-    at_line number (play_line head most line m) (play_lines head most (number + 1) lines)
+abbrev pub play_lines : Beginning → (most number : ℕ) → List NamesLine → Moment → Ended Moment
+play_lines head most number lines m = play_each (play_line head most) number lines m
 
 -- a schedule with lists is played from the start; one delivery more than a schedule may have events is one too many
-unfoldable pub play : Head → List NamesLine → Ended
-play head lines =
-    play_lines (beginning head) (most_events + 1) (length (head_lines head) + 1) lines first_moment
+unfoldable pub play : Head → List NamesLine → Ended Moment
+play head lines = play_lines (beginning head) (most_events + 1) (length (head_lines head) + 1) lines first_moment

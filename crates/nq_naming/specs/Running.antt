@@ -24,7 +24,8 @@ use Rattle.nq_script.specs.Lines.{once}
 use Rattle.nq_script.specs.Schedule.{SpellsSchedule}
 use Rattle.nq_script.specs.declared.heads.Head.{Head}
 use Rattle.nq_naming.specs.Finding.{FindsAreTrue, lines_of}
-use Rattle.nq_naming.specs.Playing.{Ended, Moment, play, ran, stopped}
+use Rattle.nq_asides.specs.Playing.{Ended, ran, stopped}
+use Rattle.nq_naming.specs.Playing.{Moment, play}
 use Rattle.nq_name_script.specs.Text.{FirstBadNames, SpellsNames, NamesLine}
 use Rattle.nq_names_run.specs.Outer.{Outside}
 use Rattle.nq_names_run.specs.Outside.{outside_run}
@@ -152,6 +153,6 @@ pub record PrintsRun (end : Ending) (head : Head) (m : Moment) (held now : Optio
   pub printed : PrintsBytes end bytes held now w w'
 
 -- what running a schedule with lists printed, by what is due and the end
-abbrev pub EndsNamesPlayed : Ending → Head → Ended → (held now : Option (List ℕ)) → (w w' : ℕ) → Type 0
+abbrev pub EndsNamesPlayed : Ending → Head → Ended Moment → (held now : Option (List ℕ)) → (w w' : ℕ) → Type 0
 EndsNamesPlayed end head (ran m) held now w w' = PrintsRun end head m held now w w' ⊎ ((end ≡ Ending.Memory) × (now ≡ held))
 EndsNamesPlayed end head (stopped line answer) held now w w' = TellsStop end line (answer_of answer) held now w w'

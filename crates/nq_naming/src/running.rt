@@ -10,12 +10,15 @@ ghost use Rattle.nq_model.specs.Stepped.{out_of_skew};
 ghost use Rattle.nq_play.specs.Playing.{beginning};
 ghost use Rattle.nq_play.specs.declared.Played.{Played};
 ghost use Rattle.nq_replay.specs.Ending.{IsUnlessFault};
-ghost use Rattle.nq_replay.specs.Schedules.{HasReason, NeverFails};
+ghost use Rattle.nq_play.specs.Beginning.{NeverFails};
+ghost use Rattle.nq_replay.specs.Schedules.{HasReason};
 ghost use Rattle.nq_replay.specs.declared.Bound.{Bound};
 ghost use Rattle.nq_script.specs.Heads.{FitsHead};
 ghost use Rattle.nq_script.specs.declared.heads.Head.{Head};
-ghost use Rattle.nq_naming.specs.Going.{Comes, IsAtEnd};
-ghost use Rattle.nq_naming.specs.Playing.{Ended, Moment, play};
+ghost use Rattle.nq_asides.specs.Going.{Comes};
+ghost use Rattle.nq_naming.specs.Going.{IsAtEnd};
+ghost use Rattle.nq_asides.specs.Playing.{Ended};
+ghost use Rattle.nq_naming.specs.Playing.{Moment, play};
 ghost use Rattle.nq_naming.specs.Running.{EndsNames, EndsNamesPlayed, EndsNamesText, FaultyNames, IsTold, PassesNames, PrintsRun, RunsNames, StopsNames};
 ghost use Rattle.nq_name_script.specs.Text.{IsOfHost};
 ghost use Rattle.nq_world.specs.Playing.{HasSettings};
@@ -28,8 +31,8 @@ use nq_io::{Sink, Source, Whole, read_all};
 use nq_keeper::{Keeper, ListKeeper};
 use nq_name_script::Aside;
 use nq_names::NameWorld;
-use nq_play::Played;
-use nq_replay::{begin_surely, tell_over, tell_script, tell_stop};
+use nq_play::{Played, begin_surely};
+use nq_replay::{tell_over, tell_script, tell_stop};
 use nq_script::{Head, ScriptFault};
 use nq_world::{MOST_EVENTS, NewFault};
 use std::alloc::Global;
@@ -198,7 +201,7 @@ fn tell<L: Keeper, K: Sink>(
     requires version { head.now.version ≡ 2 }
     requires reason { HasReason played }
     requires told { played ≡ Played.All → IsTold head.now world.now (L.content world.now.inner.server.keeper) }
-    ensures { (due : Ended) → Comes played due (λ m. IsAtEnd (beginning head.now) m world.now (L.content world.now.inner.server.keeper) found.now)
+    ensures { (due : Ended Moment) → Comes played due (λ m. IsAtEnd (beginning head.now) m world.now (L.content world.now.inner.server.keeper) found.now)
         → EndsNamesPlayed result head.now due (K.held out.old) (K.held out.new) (K.faults out.old) (K.faults out.new) }
 {
     match played {

@@ -1,19 +1,23 @@
 //! Looking at the run of a schedule.
 
-ghost use Rattle.std.specs.Prelude.{◌≡◌, ◌<◌, ◌^◌, Some, length};
+ghost use Rattle.std.specs.Prelude.{◌≡◌, ◌<◌, ◌^◌, List, Some, length};
 ghost use Rattle.nq_chart.specs.Page.{Extends};
 ghost use Rattle.nq_keeper.specs.StoredKeeper.{empty_kept};
+ghost use Rattle.nq_observe.specs.Looking.{ShowsRun};
+ghost use Rattle.nq_observe.specs.declared.looking.View.{View};
 ghost use Rattle.nq_replay.specs.Schedules.{IsReady};
+ghost use Rattle.nq_script.specs.Schedule.{SpellsSchedule};
+ghost use Rattle.nq_script.specs.declared.heads.Head.{Head};
+ghost use Rattle.nq_script.specs.declared.lines.Line.{Line};
 
 use crate::playing::{Bounds, play};
 use crate::seeing::Seer;
 use nq_base::NoMemory;
 use nq_chart::draw;
 use nq_keeper::{Keeper, ListKeeper};
-use nq_play::Delivered;
+use nq_play::{Delivered, begin};
 use nq_record::{Record, picture, tell, why};
-use nq_replay::begin;
-use nq_script::{Script, parse};
+use nq_script::{Script, ScriptFault, parse};
 use nq_world::{NewFault, Stepped, World};
 use std::alloc::Global;
 
@@ -45,11 +49,13 @@ pub enum Shown {
 /// Only want of memory. Then a front of what is to be shown was appended.
 pub fn look(alloc: Global, text: &[u8], view: View, page: &mut Vec<u8>) -> Result<Shown, NoMemory>
     requires { length text.now < 2 ^ 31 }
-    ensures { Extends page.old.items page.new.items }
+    ensures extends { Extends page.old.items page.new.items }
+    ensures shows { (head : Head) (lines : List Line) → SpellsSchedule head lines text.now → ShowsRun result view }
 {
     match parse(alloc, text) {
         Ok(script) => look_at(alloc, &script, view, page),
-        Err(_) => Ok(Shown::Nothing),
+        Err(ScriptFault::Bad(_number)) => Ok(Shown::Nothing),
+        Err(ScriptFault::Memory) => Err(NoMemory::Memory),
     }
 }
 
@@ -61,7 +67,8 @@ fn look_at(
     page: &mut Vec<u8>,
 ) -> Result<Shown, NoMemory>
     requires { IsReady script.now }
-    ensures { Extends page.old.items page.new.items }
+    ensures extends { Extends page.old.items page.new.items }
+    ensures shows { ShowsRun result view }
 {
     let keeper = ListKeeper::new(alloc, Vec::new(alloc))?;
     look_over(alloc, script, keeper, view, page)
@@ -77,7 +84,8 @@ fn look_over<L: Keeper + Drop>(
 ) -> Result<Shown, NoMemory>
     requires ready { IsReady script.now }
     requires empty { L.content keeper ≡ Some empty_kept }
-    ensures { Extends page.old.items page.new.items }
+    ensures extends { Extends page.old.items page.new.items }
+    ensures shows { ShowsRun result view }
 {
     let mut world = match begin(alloc, &script.head, keeper) {
         Ok(world) => world,
@@ -99,7 +107,8 @@ fn show<L: Keeper>(
 ) -> Result<Shown, NoMemory>
     requires hosts { script.now.head.hosts ≡ length world.old.clients }
     requires longest { script.now.head.longest ≡ world.old.skew.window }
-    ensures { Extends page.old.items page.new.items }
+    ensures extends { Extends page.old.items page.new.items }
+    ensures shows { ShowsRun result view }
 {
     let mut seer = Seer::new(alloc, script.head.hosts)?;
     let mut delivered = Delivered::new(alloc);
@@ -122,7 +131,8 @@ fn show_record<L: Keeper>(
     view: View,
     page: &mut Vec<u8>,
 ) -> Result<Shown, NoMemory>
-    ensures { Extends page.old.items page.new.items }
+    ensures extends { Extends page.old.items page.new.items }
+    ensures shows { ShowsRun result view }
 {
     match view {
         View::Tell => {
@@ -147,7 +157,8 @@ fn show_why<L: Keeper>(
     line: usize,
     page: &mut Vec<u8>,
 ) -> Result<Shown, NoMemory>
-    ensures { Extends page.old.items page.new.items }
+    ensures extends { Extends page.old.items page.new.items }
+    ensures shows { ShowsRun result (View.Why line) }
 {
     let entries = world.journal().entries();
     match line.checked_sub(2) {

@@ -6,3 +6,4 @@ pub mod Steps
 pub mod Onward
 pub mod Limits
 pub mod Dropping
+pub mod Begun

@@ -3,3 +3,4 @@ pub mod Playing
 pub mod Lawful
 pub mod Going
 pub mod Reaching
+pub mod Beginning

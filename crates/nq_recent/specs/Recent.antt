@@ -1,13 +1,14 @@
--- What is kept of what was read of a disk.
-use Rattle.std.specs.Prelude.{ℕ, All, List, Option, length}
+-- What is kept of the blocks that were read of a keeper.
+use Rattle.std.specs.Prelude.{◌≡◌, ℕ, All, List, Option, Some}
 use Rattle.std.specs.Option.{ForSome}
-use Rattle.nq_disk.specs.Calling.{ReadsFront}
+use Rattle.nq_keeper.specs.Keeping.{body_at}
+use Rattle.nq_model.specs.Kept.{Kept, find_file}
 use Rattle.nq_recent.specs.declared.pieces.Piece.{Piece}
 
--- these bytes are what a disk that tells this reads from a place on
-abbrev pub IsRead : (told : Option (List ℕ)) → (place : ℕ) → (bytes : List ℕ) → Type 0
-IsRead told place bytes = ForSome told (λ disk. ReadsFront (length bytes) place disk bytes)
+-- these bytes are the body of a block of a file, where a keeper tells what it keeps
+abbrev pub IsBody : (told : Option Kept) → (file block : ℕ) → (body : List ℕ) → Type 0
+IsBody told file block body = ForSome told (λ kept. Some body ≡ body_at block (find_file file kept.files))
 
--- each of these pieces is what such a disk reads from its place on
-abbrev pub AreRead : (told : Option (List ℕ)) → List Piece → Type 0
-AreRead told pieces = All (λ piece. IsRead told piece.place piece.bytes.items) pieces
+-- each of these pieces is the body of its block
+abbrev pub AreBodies : (told : Option Kept) → List Piece → Type 0
+AreBodies told pieces = All (λ piece. IsBody told piece.file piece.block piece.body) pieces

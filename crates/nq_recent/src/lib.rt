@@ -1,7 +1,7 @@
-//! A disk that keeps what was read of it last, so that a block that is read again and again costs no call of the system.
+//! A keeper that has copies of the blocks that were read last, so that a block that is read again and again costs no call of a disk.
 #![tactic(auto)]
 
+mod keeper;
 mod pieces;
-mod recent;
 
-pub use recent::RecentDisk;
+pub use keeper::RecentKeeper;

@@ -1,38 +1,43 @@
-//! Pieces of a disk that were read.
+//! Blocks that were read.
 
-ghost use Rattle.std.specs.Prelude.{◌≡◌, ℕ, List, Option, length, true, false, IfSome};
-ghost use Rattle.nq_recent.specs.Recent.{AreRead, IsRead};
+ghost use Rattle.std.specs.Prelude.{◌≡◌, Option, IfSome};
+ghost use Rattle.nq_model.specs.Kept.{Kept};
+ghost use Rattle.nq_recent.specs.Recent.{AreBodies, IsBody};
 
-/// Bytes that were read from a place on.
+use nq_base::{Block, BlockNo, FileId};
+use std::alloc::Global;
+
+/// The body of a block that was read.
 #[derive(Drop)]
 pub(crate) struct Piece {
-    pub(crate) place: u64,
-    pub(crate) bytes: Vec<u8>,
+    pub(crate) file: FileId,
+    pub(crate) block: BlockNo,
+    pub(crate) body: Block,
 }
 
-/// Copies the piece of a place that is as long as `into`, if it is there.
-pub(crate) fn copy_piece(pieces: &[Piece], place: u64, into: &mut [u8]) -> bool
-    ensures copied { (told : Option (List ℕ)) → AreRead told pieces.now → result ≡ true → IsRead told place into.new }
-    ensures missed { result ≡ false → into.new ≡ into.old }
+/// A copy of the body of a block, if it is among these and there is memory for it.
+pub(crate) fn copy_of(
+    alloc: Global,
+    pieces: &[Piece],
+    file: FileId,
+    block: BlockNo,
+) -> Option<Block>
+    ensures { IfSome result (λ body. (told : Option Kept) → AreBodies told pieces.now → IsBody told file block body) }
 {
-    match piece_at(pieces, place, into.len()) {
-        Some(piece) => {
-            into.copy_from_slice(&piece.bytes);
-            true
-        }
-        None => false,
+    match piece_at(pieces, file, block) {
+        Some(piece) => piece.body.copied(alloc).ok(),
+        None => None,
     }
 }
 
-/// The piece of a place and of this length, if it is there.
-fn piece_at(pieces: &[Piece], place: u64, size: usize) -> Option<&Piece>
-    ensures place { IfSome result (λ piece. piece.now.place ≡ place) }
-    ensures size { IfSome result (λ piece. length piece.now.bytes.items ≡ size) }
-    ensures among { IfSome result (λ piece. (told : Option (List ℕ)) → AreRead told pieces.now
-        → IsRead told piece.now.place piece.now.bytes.items) }
+/// The piece of a block, if it is among these.
+fn piece_at(pieces: &[Piece], file: FileId, block: BlockNo) -> Option<&Piece>
+    ensures file { IfSome result (λ piece. piece.now.file ≡ file) }
+    ensures block { IfSome result (λ piece. piece.now.block ≡ block) }
+    ensures among { IfSome result (λ piece. (told : Option Kept) → AreBodies told pieces.now → IsBody told piece.now.file piece.now.block piece.now.body) }
 {
     for piece in pieces {
-        if piece.place == place && piece.bytes.len() == size {
+        if piece.file == file && piece.block == block {
             return Some(piece);
         }
     }

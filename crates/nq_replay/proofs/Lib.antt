@@ -1,4 +1,3 @@
-pub mod Begun
 mod Endings
 pub mod Printings
 mod Appending

@@ -5,7 +5,8 @@ use Rattle.nq_io.specs.Faults.{Rose}
 use Rattle.nq_keeper.specs.StoredKeeper.{StoredKeeper, GoesOn, empty_kept}
 use Rattle.nq_play.specs.Going.{said}
 use Rattle.nq_play.specs.declared.played.Played.{Played}
-use Rattle.nq_replay.specs.Schedules.{HasReason, NeverFails}
+use Rattle.nq_play.specs.Beginning.{NeverFails}
+use Rattle.nq_replay.specs.Schedules.{HasReason}
 use Rattle.nq_world.specs.Playing.{CountsFaults}
 use Rattle.nq_world.specs.declared.stepped.Stepped.{Stepped}
 

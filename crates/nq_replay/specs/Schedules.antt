@@ -1,5 +1,5 @@
 -- What running a schedule that was read prints. The names of what the sink holds and of its counts of faults are those of `Lines`.
-use Rattle.std.specs.Prelude.{◌≡◌, ◌⊎◌, ◌+◌, ◌<◌, ◌^◌, ℕ, List, Option, Some, Result, Ok, Err, length}
+use Rattle.std.specs.Prelude.{◌≡◌, ◌⊎◌, ◌+◌, ◌<◌, ◌^◌, ℕ, List, Option, Some, length}
 use Rattle.nq_base.specs.declared.Entry.{Entry}
 use Rattle.nq_ending.specs.declared.Ending.{Ending}
 use Rattle.nq_io.specs.Faults.{Rose}
@@ -18,9 +18,6 @@ use Rattle.nq_script.specs.Schedule.{SpellsSchedule}
 use Rattle.nq_script.specs.declared.heads.Head.{Head}
 use Rattle.nq_script.specs.declared.scripts.Script.{Script}
 use Rattle.nq_world.specs.Answering.{told as answer_of}
-use Rattle.nq_world.specs.Playing.{WorldOver}
-use Rattle.nq_world.specs.declared.starting.NewFault.{NewFault}
-use Rattle.nq_world.specs.declared.starting.NewFault.TheVariants as fault
 use Rattle.nq_world.specs.declared.stepped.Limit.{Limit}
 use Rattle.nq_world.specs.declared.stepped.Stepped.{Stepped}
 
@@ -76,17 +73,7 @@ EndsOver end head due held now w w' = EndsPlayed end head due held now w w' ⊎ 
 abbrev pub KeepsPlayed : Head → Ended → (told : Option Kept) → Type 0
 KeepsPlayed head due told = RanTo due (λ events. told ≡ Some (kept_of head events))
 
--- where no world begins for a keeper's fault, its count of faults rose, and else it stands still
-abbrev pub CountsBegin : {K : Type 0} → Result (WorldOver K) (NewFault K) → (before count : ℕ) → Type 0
-CountsBegin (Ok w) before count = count ≡ before
-CountsBegin (Err (fault.Failed keeper)) before count = Rose before count
-CountsBegin (Err (fault.Memory keeper)) before count = count ≡ before
-
--- a keeper that never fails: its count of faults is 0, and is 0 after all of its calls
-abbrev pub NeverFails : {K : Type 0} → (faults : K → ℕ) → (follows : K → K → Type 0) → K → Type 0
-NeverFails faults follows keeper = (later : _) → follows keeper later → faults later ≡ 0
-
--- an answer of a world over such a keeper to an event that it did not take
+-- an answer of a world over a keeper that never fails to an event that it did not take
 abbrev pub IsReason : Stepped → Type 0
 IsReason Stepped.Done = ⊥
 IsReason Stepped.Fault = ⊥

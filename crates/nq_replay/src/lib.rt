@@ -14,6 +14,4 @@ pub use nq_base::NoMemory;
 pub use parts::print_parts;
 pub use printing::{Bound, put_line, tell_over};
 pub use reading::read_script;
-pub use schedules::{
-    begin, begin_surely, print_journal, replay, tell_limit, tell_script, tell_stop,
-};
+pub use schedules::{replay, tell_limit, tell_script, tell_stop};

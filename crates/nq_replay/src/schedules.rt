@@ -1,6 +1,6 @@
 //! Running a schedule.
 
-ghost use Rattle.std.specs.Prelude.{◌≡◌, ℕ, List, [], Some, All, map, IfOk};
+ghost use Rattle.std.specs.Prelude.{◌≡◌, ℕ, List, [], Some, All, map};
 ghost use Rattle.nq_base.specs.Plain.{plain};
 ghost use Rattle.nq_base.specs.declared.Entry.{Entry};
 ghost use Rattle.nq_ending.specs.declared.Ending.{Ending};
@@ -10,22 +10,21 @@ ghost use Rattle.nq_play.specs.Going.{Comes, said};
 ghost use Rattle.nq_play.specs.Playing.{Ended, beginning, play};
 ghost use Rattle.nq_play.specs.declared.played.Played.{Played};
 ghost use Rattle.nq_replay.specs.Ending.{CountsKeeper};
-ghost use Rattle.nq_replay.specs.Schedules.{CountsBegin, EndsOver, IsReady, IsReason, KeepsPlayed, NeverFails, PrintsEntries, TellsStop, TellsWhy, bound_of};
+ghost use Rattle.nq_replay.specs.Schedules.{EndsOver, IsReady, IsReason, KeepsPlayed, PrintsEntries, TellsStop, TellsWhy, bound_of};
 ghost use Rattle.nq_replay.specs.declared.printing.Bound.{Bound};
-ghost use Rattle.nq_script.specs.Heads.{FitsHead};
 ghost use Rattle.nq_script.specs.declared.heads.Head.{Head};
-ghost use Rattle.nq_world.specs.Playing.{CountsFaults, HasSettings, Plays, keeper_in};
+ghost use Rattle.nq_world.specs.Playing.{CountsFaults, HasSettings, Plays};
 ghost use Rattle.nq_world.specs.declared.stepped.Stepped.{Stepped};
 
 use crate::finished::Finished;
 use crate::printing::{Bound, limit_text, put_line, script_text, skew_text};
-use nq_base::{Journal, NoMemory, SkewBroken};
+use nq_base::{Journal, SkewBroken};
 use nq_ending::Ending;
 use nq_io::Sink;
 use nq_journal::{Printed, is_in, print};
 use nq_keeper::Keeper;
-use nq_play::{Played, play};
-use nq_script::{Head, Script};
+use nq_play::{Played, begin, play};
+use nq_script::Script;
 use nq_world::{Limit, MOST_EVENTS, NewFault, Stepped, World};
 use std::alloc::Global;
 
@@ -115,50 +114,6 @@ fn play_over<L: Keeper>(alloc: Global, world: &mut World<L>, script: &Script) ->
     )
 }
 
-/// The world before the first event of a schedule with this head, over a keeper that keeps nothing yet. The keeper is handed back
-/// where it failed, which it has counted, and where memory was wanting.
-pub fn begin<L: Keeper>(alloc: Global, head: &Head, keeper: L) -> Result<World<L>, NewFault<L>>
-    requires fits { FitsHead head.now }
-    requires empty { L.content keeper ≡ Some empty_kept }
-    ensures plays { IfOk result (λ w. Plays (beginning head.now) [] w (L.content w.server.keeper)) }
-    ensures settings { IfOk result (λ w. HasSettings head.now.hosts head.now.longest head.now.term w) }
-    ensures faults { CountsBegin result (L.faults keeper) (L.faults (keeper_in result)) }
-    ensures follows { L.follows keeper (keeper_in result) }
-{
-    World::new(
-        alloc,
-        head.hosts,
-        head.term,
-        head.longest,
-        &head.files,
-        keeper,
-    )
-}
-
-/// The world before the first event of a schedule with this head, over a keeper that keeps nothing yet and never fails.
-///
-/// # Errors
-///
-/// Only want of memory.
-pub fn begin_surely<L: Keeper + Drop>(
-    alloc: Global,
-    head: &Head,
-    keeper: L,
-) -> Result<World<L>, NoMemory>
-    requires fits { FitsHead head.now }
-    requires empty { L.content keeper ≡ Some empty_kept }
-    requires never { NeverFails L.faults L.follows keeper }
-    ensures plays { IfOk result (λ w. Plays (beginning head.now) [] w (L.content w.server.keeper)) }
-    ensures settings { IfOk result (λ w. HasSettings head.now.hosts head.now.longest head.now.term w) }
-    ensures never { IfOk result (λ w. NeverFails L.faults L.follows w.server.keeper) }
-{
-    match begin(alloc, head, keeper) {
-        Ok(world) => Ok(world),
-        Err(NewFault::Memory(_keeper)) => Err(NoMemory::Memory),
-        Err(NewFault::Failed(_keeper)) => unreachable!(),
-    }
-}
-
 /// Prints the journal of a world whose schedule was played to its end, or tells where it stopped.
 fn tell<L: Keeper, K: Sink>(
     alloc: Global,
@@ -211,7 +166,12 @@ fn print_entries<K: Sink>(alloc: Global, journal: &Journal, version: u32, out: &
 }
 
 /// Prints a journal in a version. `Memory` is the answer too where the version has no spelling for one of its entries.
-pub fn print_journal<K: Sink>(alloc: Global, journal: &Journal, version: u32, out: &mut K) -> Ending
+pub(crate) fn print_journal<K: Sink>(
+    alloc: Global,
+    journal: &Journal,
+    version: u32,
+    out: &mut K,
+) -> Ending
     requires { IsVersion version }
     ensures { (entries : List Entry) → map plain journal.now.entries ≡ entries
         → PrintsEntries result version entries (K.held out.old) (K.held out.new) (K.faults out.old) (K.faults out.new) }

@@ -29,10 +29,15 @@ first_wrong None = Some 0
 first_wrong (Some (Ok kept)) = None
 first_wrong (Some (Err place)) = Some place
 
+-- the exit status where a byte of the image says that it cannot be served from. Serving over another keeper has it where no number is left for a
+-- boot, which an image says by byte 8
+abbrev pub bad_image : ℕ
+bad_image = 10
+
 -- the line that tells this byte was printed; or memory was wanting for it, which the status says, and nothing was
 abbrev pub TellsByte : (place code : ℕ) → (held now : Option (List ℕ)) → (w w' : ℕ) → Type 0
 TellsByte place code held now w w' =
-    ((code ≡ status_of Ending.Spent) × PrintsLine (image_line place) held now w w') ⊎ ((code ≡ status_of Ending.Memory) × (now ≡ held) × (w' ≡ w))
+    ((code ≡ bad_image) × PrintsLine (image_line place) held now w w') ⊎ ((code ≡ status_of Ending.Memory) × (now ≡ held) × (w' ≡ w))
 
 -- ---- what a stop leaves
 

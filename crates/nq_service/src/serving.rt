@@ -22,6 +22,9 @@ use std::alloc::Global;
 /// Where an image says how many boots there were: the wrong byte where no number is left for another one.
 const BOOT_PLACE: u64 = 8;
 
+/// The exit status where a byte of the image says that it cannot be served from.
+const BAD_IMAGE: u8 = 10;
+
 /// How a command over a disk ended, and the disk as it left it.
 #[derive(Drop)]
 pub struct Ended<D> {
@@ -77,7 +80,7 @@ pub(crate) fn ended_with<D>(end: Ending, disk: D) -> Ended<D>
     }
 }
 
-/// Tells which byte of an image is the first wrong one.
+/// Tells which byte of an image is the first wrong one, and ends with the status of that.
 fn refuse<D: Drop, K: Sink>(alloc: Global, disk: D, place: u64, out: &mut K) -> Ended<D>
     ensures tells { TellsByte place result.status (K.held out.old) (K.held out.new) (K.faults out.old) (K.faults out.new) }
     ensures disk { result.disk ≡ disk }
@@ -86,7 +89,10 @@ fn refuse<D: Drop, K: Sink>(alloc: Global, disk: D, place: u64, out: &mut K) -> 
         return ended_with(Ending::Memory, disk);
     };
     put_line(out, line.as_bytes());
-    ended_with(Ending::Spent, disk)
+    Ended {
+        status: BAD_IMAGE,
+        disk,
+    }
 }
 
 /// The line that tells which byte of an image is the first wrong one.

@@ -1,6 +1,7 @@
 -- What holds behind each event that was taken holds at the end: so all events of a staged schedule can be told in one.
 use Rattle.std.proofs.Common.{◌≡◌, ◌<◌, ◌≤◌, ℕ, ◌+◌, List, [], ◌∷◌, arith, length, zero, suc, Option, Some, None, refl, subst}
 use Rattle.std.specs.List.{AllByRecursion}
+use Rattle.nq_asides.proofs.Keeping.{Ends, Keeps, ends-answered, ends-packet, ends-then, keeps-repeated}
 use Rattle.nq_asides.specs.Text.{IsTellable, mixed}
 use Rattle.nq_commit.specs.Playing.{PlaysOutside, StagedOver, stepped_outside}
 use Rattle.nq_model.specs.Kept.{Kept}
@@ -12,55 +13,31 @@ use Rattle.nq_script.specs.Schedule.{SpellsLines, SpellsSchedule}
 use Rattle.nq_script.specs.declared.heads.Head.{Head}
 use Rattle.nq_script.specs.declared.lines.Line.{Line}
 use Rattle.nq_staged.proofs.Tellable.{IsPlainly, run-all}
-use Rattle.nq_staged.specs.Going.{Comes, RanTo}
+use Rattle.nq_asides.specs.Going.{Comes, RanTo}
 use Rattle.nq_staged.specs.Running.{IsTold}
 use Rattle.nq_staged.specs.declared.offer.Offer.{Offer}
 use Rattle.nq_base.specs.declared.Event.{Event}
 use Rattle.nq_staged_run.specs.declared.StagedEvent.{StagedEvent}
-use Rattle.nq_model.specs.Stepped.{Stepped, done, no_packet, out_of_skew, too_many_events, too_many_packets, most_events}
+use Rattle.nq_model.specs.Stepped.{done, most_events}
 use Rattle.nq_model.specs.World.{Head as Beginning}
-use Rattle.nq_staged.specs.Playing.{Ended, Played, took, refused, and_then, answered, at_line, play, play_event, play_flow, play_lines, play_plain, play_round, play_ticks, ran, repeated, stopped, with_packet}
+use Rattle.nq_asides.specs.Playing.{Ended, Played, took, refused, at_line, ran, stopped}
+use Rattle.nq_staged.specs.Playing.{play, play_event, play_flow, play_lines, play_plain, play_round, play_ticks}
 
--- it holds of the events, if all went well
-abbrev pub Ends : (List StagedEvent → Type 0) → Played → Type 0
-Ends P (took events) = P events
-Ends P (refused answer) = Unit {0}
-
--- playing keeps it
-abbrev pub Keeps : (List StagedEvent → Type 0) → (List StagedEvent → Played) → Type 0
-Keeps P play = (events : List StagedEvent) → P events → Ends P (play events)
-
-pub ends-then : (P : List StagedEvent → Type 0) (played : Played) (next : List StagedEvent → Played) → Ends P played → Keeps P next → Ends P (and_then played next)
-ends-then P (took events) next here keeps = keeps events here
-ends-then P (refused answer) next here keeps = tt
-
-pub keeps-repeated : (P : List StagedEvent → Type 0) (times : ℕ) (play : List StagedEvent → Played) → Keeps P play → Keeps P (repeated times play)
-keeps-repeated P zero play keeps events here = here
-keeps-repeated P (suc times) play keeps events here =
-    ends-then P (play events) (repeated times play) (keeps events here) (keeps-repeated P times play keeps)
-
-pub ends-answered : (P : List StagedEvent → Type 0) (earlier : List StagedEvent) (event : StagedEvent) (answer : Stepped) → (answer ≡ done → P (event ∷ earlier)) → Ends P (answered earlier event answer)
-ends-answered P earlier event done here = here (λ i. done)
-ends-answered P earlier event no_packet here = tt
-ends-answered P earlier event (out_of_skew broken) here = tt
-ends-answered P earlier event too_many_events here = tt
-ends-answered P earlier event too_many_packets here = tt
-
-pub keeps-ticks : (P : List StagedEvent → Type 0) (head : Beginning) (host count : ℕ) → host + count ≤ head.hosts → ((h : ℕ) → h < head.hosts → Keeps P (play_event head (StagedEvent.Plain (Event.ClientTick h)))) → Keeps P (play_ticks head host count)
+pub keeps-ticks : (P : List StagedEvent → Type 0) (head : Beginning) (host count : ℕ) → host + count ≤ head.hosts
+    → ((h : ℕ) → h < head.hosts → Keeps P (play_event head (StagedEvent.Plain (Event.ClientTick h)))) → Keeps P (play_ticks head host count)
 keeps-ticks P head host zero less keeps events here = here
 keeps-ticks P head host (suc count) less keeps events here =
     ends-then P (play_event head (StagedEvent.Plain (Event.ClientTick host)) events) (play_ticks head (host + 1) count) (keeps host (omega arith) events here) (keeps-ticks P head (host + 1) count (omega arith) keeps)
 
-pub keeps-round : (P : List StagedEvent → Type 0) (head : Beginning) → ((h : ℕ) → h < head.hosts → Keeps P (play_event head (StagedEvent.Plain (Event.ClientTick h)))) → Keeps P (play_event head (StagedEvent.Plain Event.ServerTick)) → Keeps P (play_round head)
+pub keeps-round : (P : List StagedEvent → Type 0) (head : Beginning)
+    → ((h : ℕ) → h < head.hosts → Keeps P (play_event head (StagedEvent.Plain (Event.ClientTick h))))
+    → Keeps P (play_event head (StagedEvent.Plain Event.ServerTick)) → Keeps P (play_round head)
 unfolding play_round
 keeps-round P head ticks tick events here =
     ends-then P (play_ticks head 0 head.hosts events) (play_event head (StagedEvent.Plain Event.ServerTick)) (keeps-ticks P head 0 head.hosts (omega arith) ticks events here) tick
 
-ends-packet : (P : List StagedEvent → Type 0) (packet : Option ℕ) (events : List StagedEvent) (next : ℕ → Played) → P events → ((k : ℕ) → Ends P (next k)) → Ends P (with_packet packet events next)
-ends-packet P None events next here keeps = here
-ends-packet P (Some k) events next here keeps = keeps k
-
-pub keeps-flow : (P : List StagedEvent → Type 0) (head : Beginning) (most : ℕ) → ((k : ℕ) → Keeps P (play_event head (StagedEvent.Plain (Event.Deliver k)))) → Keeps P (play_flow head most)
+pub keeps-flow : (P : List StagedEvent → Type 0) (head : Beginning) (most : ℕ) → ((k : ℕ) → Keeps P (play_event head (StagedEvent.Plain (Event.Deliver k))))
+    → Keeps P (play_flow head most)
 keeps-flow P head zero keeps events here = tt
 keeps-flow P head (suc most) keeps events here =
     ends-packet P _ events _ here (λ k. ends-then P (play_event head (StagedEvent.Plain (Event.Deliver k)) events) (λ es. play_flow head most es) (keeps k events here) (keeps-flow P head most keeps))
@@ -91,11 +68,15 @@ module _ (head : Head) (second : head.version ≡ 2) where
   keeps_line most Line.Flow text spelled = keeps-flow (AreTold head) (beginning head) most (λ k. keeps_event (Event.Deliver k) (tt, tt))
   keeps_line most Line.End text spelled = λ events so. so
 
-  ran_on : (line : ℕ) (played : Played) (next : List StagedEvent → Ended) (events : List StagedEvent) → Ends (AreTold head) played → ((es : List StagedEvent) → AreTold head es → next es ≡ ran events → AreTold head events) → at_line line played next ≡ ran events → AreTold head events
+  ran_on : (line : ℕ) (played : Played (List StagedEvent)) (next : List StagedEvent → Ended (List StagedEvent)) (events : List StagedEvent)
+      → Ends (AreTold head) played → ((es : List StagedEvent) → AreTold head es → next es ≡ ran events → AreTold head events)
+      → at_line line played next ≡ ran events → AreTold head events
   ran_on line (took es) next events so on is = on es so is
   ran_on line (refused answer) next events so on is = absurd (cc)
 
-  lines_told : (most number : ℕ) (asides : List (Option Offer)) (lines : List Line) (texts : List (List ℕ)) (earlier events : List StagedEvent) → SpellsLines head lines texts → AreTold head earlier → play_lines (beginning head) most number (mixed asides lines) earlier ≡ ran events → AreTold head events
+  lines_told : (most number : ℕ) (asides : List (Option Offer)) (lines : List Line) (texts : List (List ℕ)) (earlier events : List StagedEvent)
+      → SpellsLines head lines texts → AreTold head earlier → play_lines (beginning head) most number (mixed asides lines) earlier ≡ ran events
+      → AreTold head events
   lines_told most number asides [] texts earlier events spelled so is = let same : earlier ≡ events = cc in subst (AreTold head) same so
   lines_told most number asides (line ∷ lines) [] earlier events spelled so is = absurd spelled
   lines_told most number [] (line ∷ lines) (text ∷ texts) earlier events spelled so is =
@@ -111,13 +92,14 @@ module _ (head : Head) (second : head.version ≡ 2) where
       (keeps_stage offer.host earlier so)
       (λ es here on. lines_told most (number + 1) asides lines texts es events spelled.2 here on) is
 
-  pub events_told : (asides : List (Option Offer)) (lines : List Line) (text : List ℕ) (events : List StagedEvent) → SpellsSchedule head lines text → play head (mixed asides lines) ≡ ran events → AreTold head events
+  pub events_told : (asides : List (Option Offer)) (lines : List Line) (text : List ℕ) (events : List StagedEvent) → SpellsSchedule head lines text
+      → play head (mixed asides lines) ≡ ran events → AreTold head events
   unfolding play
   events_told asides lines text events spelled is = lines_told (most_events + 1) (length (head_lines head) + 1) asides lines spelled.1.1.0 [] events spelled.1.1.1 tt is
 
 -- ---- so can all inner events
 
-came_told : {K : Type 0} (head : Head) (asides : List (Option Offer)) (lines : List Line) (text : List ℕ) (w : StagedOver K) (told : Option Kept) (due : Ended) → head.version ≡ 2 → SpellsSchedule head lines text → play head (mixed asides lines) ≡ due → RanTo due (λ events. PlaysOutside (beginning head) events w told) → IsTold head w told
+came_told : {K : Type 0} (head : Head) (asides : List (Option Offer)) (lines : List Line) (text : List ℕ) (w : StagedOver K) (told : Option Kept) (due : Ended (List StagedEvent)) → head.version ≡ 2 → SpellsSchedule head lines text → play head (mixed asides lines) ≡ due → RanTo due (λ events. PlaysOutside (beginning head) events w told) → IsTold head w told
 came_told head asides lines text w told (ran events) second spelled is plays = record {
   events = events;
   plays = plays;

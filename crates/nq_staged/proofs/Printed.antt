@@ -20,7 +20,8 @@ use Rattle.nq_staged_run.specs.Outside.{outside_run}
 use Rattle.nq_staged_run.specs.declared.StagedEvent.{StagedEvent}
 
 -- a world that plays a staged run keeps to the bounds of its inner run, and is within skew
-lawful : {K : Type 0} (head : Beginning) (events : List StagedEvent) (w : StagedOver K) (told : Option Kept) → PlaysOutside head events w told → IsLawful head (outside_run head events).ran
+lawful : {K : Type 0} (head : Beginning) (events : List StagedEvent) (w : StagedOver K) (told : Option Kept) → PlaysOutside head events w told
+    → IsLawful head (outside_run head events).ran
 lawful head events w told plays =
     let is = plays.reaches.faithful.lawful in
     record { bounds = is.bounds; skew = is.skew }

@@ -24,7 +24,8 @@ use Rattle.nq_replay.specs.Schedules.{PrintsBytes, TellsStop}
 use Rattle.nq_script.specs.Lines.{once}
 use Rattle.nq_script.specs.Schedule.{SpellsSchedule}
 use Rattle.nq_script.specs.declared.heads.Head.{Head}
-use Rattle.nq_staged.specs.Playing.{Ended, play, ran, stopped}
+use Rattle.nq_asides.specs.Playing.{Ended, ran, stopped}
+use Rattle.nq_staged.specs.Playing.{play}
 use Rattle.nq_staged.specs.Text.{FirstBadStaged, SpellsStaged, StagedLine}
 use Rattle.nq_staged_run.specs.declared.StagedEvent.{StagedEvent}
 use Rattle.nq_staged_run.specs.Outer.{Counts, Outside}
@@ -158,6 +159,6 @@ pub record PrintsRun (end : Ending) (head : Head) (events : List StagedEvent) (h
   pub printed : PrintsBytes end bytes held now w w'
 
 -- what running a staged schedule printed, by what is due and the end
-abbrev pub EndsStagedPlayed : Ending → Head → Ended → (held now : Option (List ℕ)) → (w w' : ℕ) → Type 0
+abbrev pub EndsStagedPlayed : Ending → Head → Ended (List StagedEvent) → (held now : Option (List ℕ)) → (w w' : ℕ) → Type 0
 EndsStagedPlayed end head (ran events) held now w w' = PrintsRun end head events held now w w' ⊎ ((end ≡ Ending.Memory) × (now ≡ held))
 EndsStagedPlayed end head (stopped line answer) held now w w' = TellsStop end line (answer_of answer) held now w w'

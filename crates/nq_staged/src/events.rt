@@ -5,8 +5,10 @@ ghost use Rattle.nq_base.specs.declared.Event.{Event};
 ghost use Rattle.nq_commit.specs.Playing.{CanComeOutside};
 ghost use Rattle.nq_model.specs.World.{Head};
 ghost use Rattle.nq_play.specs.Delivering.{Marks};
-ghost use Rattle.nq_staged.specs.Going.{Goes, HasFlagOutside, IsAt};
-ghost use Rattle.nq_staged.specs.Playing.{plain_events, play_event, play_flow, play_round, play_ticks, repeated};
+ghost use Rattle.nq_asides.specs.Going.{Goes};
+ghost use Rattle.nq_staged.specs.Going.{HasFlagOutside, IsAt};
+ghost use Rattle.nq_asides.specs.Playing.{repeated};
+ghost use Rattle.nq_staged.specs.Playing.{plain_events, play_event, play_flow, play_round, play_ticks};
 ghost use Rattle.nq_staged_run.specs.declared.StagedEvent.{StagedEvent};
 ghost use Rattle.nq_world.specs.Playing.{CountsFaults, HasSettings};
 

@@ -10,12 +10,14 @@ ghost use Rattle.nq_model.specs.Stepped.{out_of_skew};
 ghost use Rattle.nq_play.specs.Playing.{beginning};
 ghost use Rattle.nq_play.specs.declared.Played.{Played};
 ghost use Rattle.nq_replay.specs.Ending.{IsUnlessFault};
-ghost use Rattle.nq_replay.specs.Schedules.{HasReason, NeverFails};
+ghost use Rattle.nq_play.specs.Beginning.{NeverFails};
+ghost use Rattle.nq_replay.specs.Schedules.{HasReason};
 ghost use Rattle.nq_replay.specs.declared.Bound.{Bound};
 ghost use Rattle.nq_script.specs.Heads.{FitsHead};
 ghost use Rattle.nq_script.specs.declared.heads.Head.{Head};
-ghost use Rattle.nq_staged.specs.Going.{Comes};
-ghost use Rattle.nq_staged.specs.Playing.{Ended, play};
+ghost use Rattle.nq_asides.specs.Going.{Comes};
+ghost use Rattle.nq_asides.specs.Playing.{Ended};
+ghost use Rattle.nq_staged.specs.Playing.{play};
 ghost use Rattle.nq_staged.specs.Running.{EndsStaged, EndsStagedPlayed, EndsStagedText, FaultyStaged, IsTold, PassesStaged, PrintsRun, RunsStaged, StopsStaged};
 ghost use Rattle.nq_staged.specs.Text.{IsOfHost};
 ghost use Rattle.nq_staged_run.specs.declared.StagedEvent.{StagedEvent};
@@ -30,8 +32,8 @@ use nq_commit::StagedWorld;
 use nq_ending::Ending;
 use nq_io::{Sink, Source, Whole, read_all};
 use nq_keeper::{Keeper, ListKeeper};
-use nq_play::Played;
-use nq_replay::{begin_surely, tell_over, tell_script, tell_stop};
+use nq_play::{Played, begin_surely};
+use nq_replay::{tell_over, tell_script, tell_stop};
 use nq_script::{Head, ScriptFault};
 use nq_world::{MOST_EVENTS, NewFault};
 use std::alloc::Global;
@@ -194,7 +196,7 @@ fn tell<L: Keeper, K: Sink>(
     requires version { head.now.version ≡ 2 }
     requires reason { HasReason played }
     requires told { played ≡ Played.All → IsTold head.now world.now (L.content world.now.inner.server.keeper) }
-    ensures { (due : Ended) → Comes played due (λ events. PlaysOutside (beginning head.now) events world.now (L.content world.now.inner.server.keeper))
+    ensures { (due : Ended (List StagedEvent)) → Comes played due (λ events. PlaysOutside (beginning head.now) events world.now (L.content world.now.inner.server.keeper))
         → EndsStagedPlayed result head.now due (K.held out.old) (K.held out.new) (K.faults out.old) (K.faults out.new) }
 {
     match played {

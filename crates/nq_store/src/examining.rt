@@ -2,7 +2,7 @@
 
 ghost use Rattle.std.specs.Prelude.{◌≡◌, ◌≤◌, All, IfOk, count_by, is_some, length, sum_by};
 ghost use Rattle.std.specs.Option.{ForSome};
-ghost use Rattle.law_migration.specs.Head.{head_one};
+ghost use Rattle.law_image.specs.Head.{head_one};
 ghost use Rattle.nq_disk.specs.Calling.{LeavesNoMore};
 ghost use Rattle.nq_image.specs.Image.{image_one, reached, rows_in};
 ghost use Rattle.nq_image.specs.Layout.{are_zeros as all_zeros, piece};
@@ -70,7 +70,7 @@ fn read_all_rows(alloc: Global, head: &[u8]) -> Result<Rows, ImageFault>
 }
 
 /// The numbers and rows, by the first bytes of the image.
-#[tactic(auto, unfolding(law_migration::specs::Head::head_one))]
+#[tactic(auto, unfolding(law_image::specs::Head::head_one))]
 fn read_head(alloc: Global, head: &[u8]) -> Result<ImageOne, ImageFault>
     requires { length head.now ≡ 28672 }
     ensures told { Reads seen_one result (head_one head.now) }

@@ -1,7 +1,7 @@
 //! Storms: random schedules, of which boxed fates choose the events, and the command `storm KIND START N`.
 //!
-//! [`storm`] gives the events that a fate chooses to a world, one after another, and keeps them; [`run_storm`] prints them, their
-//! journal and counts. What a storm is stands in `specs/Storming`, what a whole one is in `specs/Whole`, and what is printed in
+//! [`run_storm`] gives the events that a fate chooses to a world, one after another, keeps them, and prints them, their journal and
+//! counts. What a storm is stands in `specs/Storming`, what a whole one is in `specs/Whole`, and what is printed in
 //! `specs/Printed`. Of a storm's schedule `storms_are_lawful` says that its run is that storm, is within skew and keeps to the bounds.
 #![tactic(auto)]
 
@@ -16,6 +16,4 @@ mod storms;
 
 pub use laws::storms_are_lawful;
 pub use running::run_storm;
-pub use schedules::{schedule_text, storm_head};
 pub use stormed::Stormed;
-pub use storms::storm;

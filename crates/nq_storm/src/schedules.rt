@@ -13,7 +13,7 @@ use nq_script::{Head, Schedule, print_head};
 use std::alloc::Global;
 
 /// The head of the schedule of a storm.
-pub fn storm_head(alloc: Global) -> Result<Head, NoMemory>
+pub(crate) fn storm_head(alloc: Global) -> Result<Head, NoMemory>
     ensures { IfOk result (λ head. head ≡ storm_head) }
 {
     let mut files = FileList::new(alloc)?;
@@ -39,7 +39,7 @@ fn push_file(files: &mut FileList, name: &[u8]) -> Result<(), NoMemory>
 }
 
 /// The text of the schedule of a storm: its head, a line for each event, and `end`.
-pub fn schedule_text(alloc: Global, head: &Head, ran: &Schedule) -> Result<Vec<u8>, NoMemory>
+pub(crate) fn schedule_text(alloc: Global, head: &Head, ran: &Schedule) -> Result<Vec<u8>, NoMemory>
     requires head { head.now ≡ storm_head }
     requires stormy { AllByRecursion IsStormy ran.now }
     ensures { IfOk result (λ text. SpellsSchedule storm_head (map once ran.now) text.items) }

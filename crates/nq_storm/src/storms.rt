@@ -23,7 +23,7 @@ use std::alloc::Global;
 ///
 /// `Limit` comes exactly where 100,000 events or more than 999,936 packets came before the next event, and `Fault` exactly where the
 /// keeper counted a fault.
-pub fn storm<K: Keeper>(
+pub(crate) fn storm<K: Keeper>(
     alloc: Global,
     world: &mut World<K>,
     fate: &mut dyn Fate,

@@ -153,7 +153,7 @@ fn keep_hosts<K: Keeper>(keeper: &mut K, hosts: u32) -> Result<(), KeepFault>
 /// # Errors
 ///
 /// `Failed` only where the keeper counted a fault, else want of memory. A part may be kept then.
-pub fn keep_head<K: Keeper>(
+pub(crate) fn keep_head<K: Keeper>(
     keeper: &mut K,
     hosts: u32,
     longest: u32,

@@ -16,10 +16,8 @@ mod stepped;
 mod testing;
 mod world;
 
-pub use first::keep_head;
 pub use laws::{bytes_show_the_run, events_send_little, worlds_run};
-pub use sending::send;
 pub use starting::NewFault;
 pub use stepped::{Limit, Stepped};
-pub use testing::{MOST_EVENTS, MOST_SENT, test};
+pub use testing::{MOST_EVENTS, MOST_SENT};
 pub use world::World;

@@ -34,7 +34,7 @@ fn length_at(out: &Outbox, place: usize) -> usize
 }
 
 /// Adds what an outbox holds to the packets, as sent by this party. After a refusal the packets are as before.
-pub fn send(packets: &mut Packets, sender: Party, out: &Outbox) -> Result<(), NoMemory>
+pub(crate) fn send(packets: &mut Packets, sender: Party, out: &Outbox) -> Result<(), NoMemory>
     ensures sent { OnOk result (packets.new.datagrams ≡ packets.old.datagrams ++ map (sent_from sender) out.now.datagrams) }
     ensures refused { OnErr result (packets.new.datagrams ≡ packets.old.datagrams) }
     ensures succeeds { bytes_together out.now.datagrams < 2 ^ 64 → length out.now.datagrams ≤ packets.old.spare

@@ -21,7 +21,7 @@ pub const MOST_SENT: u64 = 999_936;
 
 /// Tests an event before it is taken in, after so many events and packets. The number of events is tested first, then
 /// whether the packet was sent, then the skew, then the number of packets. `Done` says that it may be taken in.
-pub fn test(events: u32, sent: u64, skew: &Skew, event: &Event) -> Stepped
+pub(crate) fn test(events: u32, sent: u64, skew: &Skew, event: &Event) -> Stepped
     ensures tests { (earlier : List Event) → Follows skew.now earlier
         → result ≡ told (stepped_seen events sent (skew_broken (length skew.now.hosts) skew.now.window earlier) event.now) }
     ensures few { result ≡ Stepped.Done → events < most_events }

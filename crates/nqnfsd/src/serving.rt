@@ -10,7 +10,6 @@ use nq_disk::FileDisk;
 use nq_ending::{Ending, Halt};
 use nq_link::{Came, Link, UdpLink};
 use nq_mount::{Greeter, Survey, serve_image};
-use nq_recent::RecentDisk;
 use nq_store::OpenFault;
 use nq_streams::StdSink;
 use nq_traffic::{CountedLink, Report};
@@ -81,7 +80,7 @@ fn is_bound(rt: &HostRuntime, link: &mut UdpLink<HostRuntime>) -> bool {
 fn tell_fault(
     rt: &HostRuntime,
     image: &str,
-    fault: OpenFault<RecentDisk<FileDisk>>,
+    fault: OpenFault<FileDisk>,
 ) -> Result<Ending, AllocError> {
     match fault {
         OpenFault::NotAnImage(_) => {
@@ -128,7 +127,7 @@ fn serve_disk(
     };
     match serve_image(
         rt.alloc(),
-        RecentDisk::new(rt.alloc(), disk),
+        disk,
         MOST_TURNS,
         longest,
         &mut link,

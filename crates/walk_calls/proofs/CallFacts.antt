@@ -20,10 +20,10 @@ use Rattle.nq_base.specs.Calls.{told}
 use Rattle.nq_model.specs.Journal.{Each, Exists, Throughout, AtEachPlace, IsCall, IsAnswer, IsOpen, call_of, told_by}
 use Rattle.nq_model.specs.Message.{Message, call, asker, sequence_of}
 use Rattle.nq_model.specs.Ordered.{IsCallBelow, HasOpen, IsOpenCall, IsBusyNext, IsBeforeCall, IsNumbered, IsResizeBy}
-use Rattle.walk_run.proofs.Members.{exists-in}
-use Rattle.walk_run.proofs.Packets.{In}
-use Rattle.walk_server.proofs.Incarnations.{who-same}
-use Rattle.walk_server.proofs.Rows.{same-number, number-same}
+use Rattle.walk_steps.proofs.Members.{exists-in}
+use Rattle.walk_steps.proofs.Packets.{In}
+use Rattle.walk_steps.proofs.Incarnations.{who-same}
+use Rattle.walk_steps.proofs.Rows.{same-number, number-same}
 use Rattle.nq_model.specs.Table.{same_who}
 
 -- ---- the records

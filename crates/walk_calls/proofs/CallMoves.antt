@@ -12,13 +12,13 @@ use Rattle.nq_base.specs.declared.Who.{Who}
 use Rattle.walk_calls.proofs.Entries.{IsOpenAsTold}
 use Rattle.walk_calls.proofs.CallFacts.{CallsAt, IsBounded, NoneDone, IsPut, Pending, through_number, TicketFits, Requesting, calls-raised, called-below, answered-below, resized-below, asks-told, Bounds, bounds-more}
 use Rattle.walk_calls.proofs.Quiet.{IsNoChange, IsQuiet, told-more, before-more, OpenFits, open-fits-more, ReadFits, read-fits-more}
-use Rattle.walk_client.proofs.ClientMoves.{some-same, none-some}
+use Rattle.walk_steps.proofs.ClientMoves.{some-same, none-some}
 use Rattle.nq_model.specs.Client.{UnderWay, for_call, Ticket}
 use Rattle.nq_base.specs.Calls.{told}
 use Rattle.nq_model.specs.Journal.{Exists, Throughout, IsCall, IsAnswer, IsOpen}
 use Rattle.nq_model.specs.Message.{Message, call, asker, sequence_of}
 use Rattle.nq_model.specs.Ordered.{Writes, Resizes, IsBeforeCall, IsNumbered, IsResizeBy, IsWriteInOrder, IsResizeInOrder}
-use Rattle.walk_run.proofs.Packets.{In, in-last}
+use Rattle.walk_steps.proofs.Packets.{In, in-last}
 
 -- ---- calls
 

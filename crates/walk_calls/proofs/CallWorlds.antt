@@ -17,21 +17,21 @@ use Rattle.walk_calls.proofs.CallsFit.{entry_who}
 use Rattle.walk_calls.proofs.ClientEvents.{CallsOf}
 use Rattle.walk_calls.proofs.ClientMoves.{IsBelow, Doing}
 use Rattle.walk_calls.proofs.Quiet.{IsQuiet, foreign-quiet, OpenFits, open-fits-more, ReadFits, read-fits-later}
-use Rattle.walk_client.proofs.ClientFacts.{fits_job, push_in}
-use Rattle.walk_client.proofs.ClientMoves.{some-same}
+use Rattle.walk_steps.proofs.ClientFacts.{fits_job, push_in}
+use Rattle.walk_steps.proofs.ClientMoves.{some-same}
 use Rattle.nq_model.specs.Client.{Client, ClientStep, Job, attaching, for_call, renewing, pushing, Ticket}
 use Rattle.nq_model.specs.Journal.{Each}
 use Rattle.nq_model.specs.Kept.{host_row}
 use Rattle.nq_model.specs.Message.{Packet, call, reply, asker, sequence_of}
 use Rattle.nq_model.specs.World.{World, from_host, after_client}
-use Rattle.walk_run.proofs.OpenAt.{IsOpenAt}
-use Rattle.walk_run.proofs.Sequences.{Drew}
-use Rattle.walk_run.proofs.RunCases.{clients-after}
-use Rattle.walk_run.proofs.HostLine.{IsSettled}
-use Rattle.walk_leases.proofs.KnownWorlds.{Known}
-use Rattle.walk_run.proofs.Mail.{packets_with, old-told, sent-calls, other-asked}
-use Rattle.walk_run.proofs.Packets.{In, in-append, Asked, Told}
-use Rattle.walk_run.proofs.Worlds.{Holds}
+use Rattle.walk_steps.proofs.OpenAt.{IsOpenAt}
+use Rattle.walk_steps.proofs.Sequences.{Drew}
+use Rattle.walk_steps.proofs.RunCases.{clients-after}
+use Rattle.walk_steps.proofs.HostLine.{IsSettled}
+use Rattle.walk_steps.proofs.KnownWorlds.{Known}
+use Rattle.walk_steps.proofs.Mail.{packets_with, old-told, sent-calls, other-asked}
+use Rattle.walk_steps.proofs.Packets.{In, in-append, Asked, Told}
+use Rattle.walk_steps.proofs.Worlds.{Holds}
 
 -- ---- the world
 

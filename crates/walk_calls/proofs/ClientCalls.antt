@@ -14,10 +14,10 @@ use Rattle.walk_calls.proofs.CallFacts.{NoneDone}
 use Rattle.walk_calls.proofs.CallMoves.{NotForCall}
 use Rattle.walk_calls.proofs.ClientMoves as move
 use Rattle.walk_calls.proofs.ClientMoves.{Doing}
-use Rattle.walk_client.proofs.PartCases.{answers-call-cases, vacates-noticed-cases, reports-cases, if-broken-cases, takes-optional-cases, lease-done-cases, then-caches-cases, caches-write-cases, caches-push-cases, vacates-if-clean-cases}
-use Rattle.walk_client.proofs.RepliedCases.{replied-cases}
-use Rattle.walk_client.proofs.ClientFacts.{fits_job}
-use Rattle.walk_client.proofs.ClientMoves.{some-same, none-some}
+use Rattle.walk_steps.proofs.PartCases.{answers-call-cases, vacates-noticed-cases, reports-cases, if-broken-cases, takes-optional-cases, lease-done-cases, then-caches-cases, caches-write-cases, caches-push-cases, vacates-if-clean-cases}
+use Rattle.walk_steps.proofs.RepliedCases.{replied-cases}
+use Rattle.walk_steps.proofs.ClientFacts.{fits_job}
+use Rattle.walk_steps.proofs.ClientMoves.{some-same, none-some}
 use Rattle.nq_model.specs.Client.{Client, ClientStep, UnderWay, Job, attaching, for_call, renewing, pushing, Notice, Ticket, in_state, begun, notice_on, losses_of, other_losses, loss_list}
 use Rattle.nq_model.specs.Hear.{loses, vacates_lease, vacates_noticed, reports, without_lease, push_refused, breaks_chain, if_broken, holds, takes_grant, takes_optional, answers_call, caches_block, then_caches, read_done, lease_done, caches_write, write_done, purges, knows_revision, ends_push, caches_push, push_done, spends, replied, reply_counts}
 use Rattle.nq_model.specs.Message.{sequence_of}

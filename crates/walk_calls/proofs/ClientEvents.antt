@@ -22,9 +22,9 @@ use Rattle.walk_calls.proofs.ClientMoves.{IsBelow, IsOwn, Fits, Doing, own-more}
 use Rattle.walk_calls.proofs.ClientParts.{settle-keeps, send-keeps}
 use Rattle.walk_calls.proofs.Placed.{IsCachedBy}
 use Rattle.walk_calls.proofs.Quiet.{ReadFits}
-use Rattle.walk_client.proofs.StepCases.{call-cases, unless-cached-cases, tick-cases, evicted-cases, heard-cases}
-use Rattle.walk_client.proofs.ClientFacts.{Alone}
-use Rattle.walk_client.proofs.ClientMoves.{some-same, none-some}
+use Rattle.walk_steps.proofs.StepCases.{call-cases, unless-cached-cases, tick-cases, evicted-cases, heard-cases}
+use Rattle.walk_steps.proofs.ClientFacts.{Alone}
+use Rattle.walk_steps.proofs.ClientMoves.{some-same, none-some}
 use Rattle.nq_model.specs.Client.{Client, ClientStep, begun, losses_of, loss_list}
 use Rattle.nq_model.specs.ClientStep.{begins_call, is_called, says_busy, client_call, at_time, client_tick, next_incarnation, fresh_client, starts, restart}
 use Rattle.nq_base.specs.Calls.{told}
@@ -33,8 +33,8 @@ use Rattle.nq_model.specs.Journal.{Exists, IsCall, IsAnswer, IsOpen}
 use Rattle.nq_model.specs.Message.{Message, call, reply}
 use Rattle.nq_model.specs.Ordered.{HasOpen}
 use Rattle.nq_model.specs.Settle.{said, answers, names_losses, settle}
-use Rattle.walk_run.proofs.Members.{exists-in}
-use Rattle.walk_run.proofs.Packets.{In}
+use Rattle.walk_steps.proofs.Members.{exists-in}
+use Rattle.walk_steps.proofs.Packets.{In}
 
 -- what is known of a client's calls at the end of a step, over this journal
 pub record CallsOf (line : HostRow) (Refused : ℕ → Type 0) (c : Client) (journal : List Entry) : Type 0 where

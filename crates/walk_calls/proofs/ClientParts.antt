@@ -19,9 +19,9 @@ use Rattle.walk_calls.proofs.ClientMoves as move
 use Rattle.walk_calls.proofs.ClientMoves.{Doing, own-more, own-bounded}
 use Rattle.walk_calls.proofs.Placed.{IsCachedBy}
 use Rattle.walk_calls.proofs.Quiet.{IsNoCall}
-use Rattle.walk_client.proofs.SendCases.{send-cases, pushed}
-use Rattle.walk_client.proofs.SettleCases.{IsRead, IsSettling, settle-cases}
-use Rattle.walk_client.proofs.ClientMoves.{some-same, none-some}
+use Rattle.walk_steps.proofs.SendCases.{send-cases, pushed}
+use Rattle.walk_steps.proofs.SettleCases.{IsRead, IsSettling, settle-cases}
+use Rattle.walk_steps.proofs.ClientMoves.{some-same, none-some}
 use Rattle.nq_model.specs.Client.{ClientStep, UnderWay, Job, for_call, Ticket}
 use Rattle.nq_base.specs.Calls.{told}
 use Rattle.nq_model.specs.Journal.{Exists, IsAnswer, IsOpen, call_of}

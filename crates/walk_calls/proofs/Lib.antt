@@ -14,3 +14,13 @@ pub mod ServerAnswers
 pub mod ServerCalls
 pub mod ServerDecides
 pub mod ServerHears
+pub mod WritesFit
+pub mod ServerTells
+pub mod JournalMoves
+pub mod PushLists
+pub mod FactMoves
+pub mod FactPushes
+pub mod FactServer
+pub mod ClientFates
+pub mod HeardFates
+pub mod StepFates

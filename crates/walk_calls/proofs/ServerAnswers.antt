@@ -20,7 +20,7 @@ use Rattle.walk_calls.proofs.ClientMoves.{IsBelow}
 use Rattle.walk_calls.proofs.Quiet.{IsQuiet, told-more}
 use Rattle.walk_calls.proofs.ServerHears.{served-now, silent-quiet, refuse-reply}
 use Rattle.walk_calls.proofs.ServerCalls.{IsStill, Outcome, line_same, line_begins, ServerDoes}
-use Rattle.walk_client.proofs.ClientMoves.{some-same, none-some}
+use Rattle.walk_steps.proofs.ClientMoves.{some-same, none-some}
 use Rattle.nq_model.specs.Client.{Client}
 use Rattle.nq_model.specs.Journal.{Exists, IsCall, call_of}
 use Rattle.nq_model.specs.Kept.{File, host_row, with_row}
@@ -31,12 +31,12 @@ use Rattle.nq_model.specs.Server.{Server, to_host, keeping_with, with_table}
 use Rattle.nq_model.specs.ServerStep.{attaches, serves, grants, leases}
 use Rattle.nq_model.specs.Table.{Table, with_rows}
 use Rattle.nq_model.specs.World.{World}
-use Rattle.walk_leases.proofs.KnownWorlds.{Known}
-use Rattle.walk_run.proofs.Packets.{In, Asked}
-use Rattle.walk_run.proofs.Worlds.{Holds}
-use Rattle.walk_server.proofs.KeptChanges.{other-line, own-line}
-use Rattle.walk_server.proofs.Rows.{same-number, number-same}
-use Rattle.walk_server.proofs.ServerOutcomes.{line_of, IsFrom}
+use Rattle.walk_steps.proofs.KnownWorlds.{Known}
+use Rattle.walk_steps.proofs.Packets.{In, Asked}
+use Rattle.walk_steps.proofs.Worlds.{Holds}
+use Rattle.walk_steps.proofs.KeptChanges.{other-line, own-line}
+use Rattle.walk_steps.proofs.Rows.{same-number, number-same}
+use Rattle.walk_steps.proofs.ServerOutcomes.{line_of, IsFrom}
 
 module _ (w : World) (events : List Event) (held : Holds w) (known : Known w events) (g : CallsKnown w) (sender : ℕ) (d : Datagram)
     (was_sent : (xid : ℕ) (r : Request) → d ≡ request xid r → Asked w.packets sender xid r) (lines : length w.server.kept.hosts ≡ most_hosts) where

@@ -16,20 +16,20 @@ use Rattle.walk_calls.proofs.CallWorlds.{IsRefused, CallsKnown, all-below-more, 
 use Rattle.walk_calls.proofs.ClientEvents.{CallsOf}
 use Rattle.walk_calls.proofs.ClientMoves.{IsBelow}
 use Rattle.walk_calls.proofs.Quiet.{IsNoCall, IsNoChange, IsQuiet, OpenFits, read-fits-later}
-use Rattle.walk_client.proofs.ClientFacts.{fits_job}
-use Rattle.walk_client.proofs.ClientMoves.{some-same, none-some}
+use Rattle.walk_steps.proofs.ClientFacts.{fits_job}
+use Rattle.walk_steps.proofs.ClientMoves.{some-same, none-some}
 use Rattle.nq_model.specs.Client.{Client, Job, attaching, for_call, renewing, pushing, Ticket}
 use Rattle.nq_model.specs.Kept.{host_row}
 use Rattle.nq_model.specs.Message.{Packet, reply, asker, sequence_of}
 use Rattle.nq_model.specs.Server.{ServerStep, to_host}
 use Rattle.nq_model.specs.World.{World, after_server}
-use Rattle.walk_run.proofs.OpenAt.{IsOpenAt, OneOpenAt, Opens}
-use Rattle.walk_run.proofs.Sequences.{asked-before-server}
-use Rattle.walk_run.proofs.HostLine.{LineFits}
-use Rattle.walk_leases.proofs.KnownWorlds.{Known}
-use Rattle.walk_run.proofs.Packets.{In, in-append, Asked, Told, Mail}
-use Rattle.walk_run.proofs.ServerSays.{AllSaid}
-use Rattle.walk_run.proofs.Worlds.{Holds}
+use Rattle.walk_steps.proofs.OpenAt.{IsOpenAt, OneOpenAt, Opens}
+use Rattle.walk_steps.proofs.Sequences.{asked-before-server}
+use Rattle.walk_steps.proofs.HostLine.{LineFits}
+use Rattle.walk_steps.proofs.KnownWorlds.{Known}
+use Rattle.walk_steps.proofs.Packets.{In, in-append, Asked, Told, Mail}
+use Rattle.walk_steps.proofs.ServerSays.{AllSaid}
+use Rattle.walk_steps.proofs.Worlds.{Holds}
 
 -- ---- refusals
 

@@ -23,7 +23,7 @@ use Rattle.walk_calls.proofs.ServerHears.{refuse-none, refuse-both, refuse-notic
 use Rattle.walk_calls.proofs.ServerAnswers as answers
 use Rattle.walk_calls.proofs.ServerAnswers.{asked-by, asker-bounded}
 use Rattle.walk_calls.proofs.ServerCalls.{otherwise, AllRefuse, IsChange, Outcome, line_same, line_decided, ServerDoes}
-use Rattle.walk_client.proofs.ClientMoves.{some-same, none-some}
+use Rattle.walk_steps.proofs.ClientMoves.{some-same, none-some}
 use Rattle.nq_model.specs.Client.{Client}
 use Rattle.nq_model.specs.Decide.{Decision, wrote, decides, creates, writes_through, stores, stores_recovering, resizes, removes, puts_off, verdict_reply, row_after, commits}
 use Rattle.nq_model.specs.Journal.{Exists, IsCall}
@@ -35,14 +35,14 @@ use Rattle.nq_model.specs.Server.{Server, to_host, keeping, keeping_with, after_
 use Rattle.nq_model.specs.ServerStep.{receive}
 use Rattle.nq_model.specs.Table.{Table, with_rows}
 use Rattle.nq_model.specs.World.{World}
-use Rattle.walk_run.proofs.OpenAt.{IsOpenAt}
-use Rattle.walk_leases.proofs.KnownWorlds.{Known}
-use Rattle.walk_run.proofs.Packets.{In, Asked}
-use Rattle.walk_run.proofs.Worlds.{Holds}
-use Rattle.walk_server.proofs.KeptChanges.{other-line, own-line, same-lines}
-use Rattle.walk_server.proofs.Rows.{same-number, number-same}
-use Rattle.walk_server.proofs.ServerCases.{server-hears}
-use Rattle.walk_server.proofs.ServerOutcomes.{IsFresh, error-no-reply}
+use Rattle.walk_steps.proofs.OpenAt.{IsOpenAt}
+use Rattle.walk_steps.proofs.KnownWorlds.{Known}
+use Rattle.walk_steps.proofs.Packets.{In, Asked}
+use Rattle.walk_steps.proofs.Worlds.{Holds}
+use Rattle.walk_steps.proofs.KeptChanges.{other-line, own-line, same-lines}
+use Rattle.walk_steps.proofs.Rows.{same-number, number-same}
+use Rattle.walk_steps.proofs.ServerCases.{server-hears}
+use Rattle.walk_steps.proofs.ServerOutcomes.{IsFresh, error-no-reply}
 
 module _ (w : World) (events : List Event) (held : Holds w) (known : Known w events) (g : CallsKnown w) (sender : ℕ) (d : Datagram)
     (was_sent : (xid : ℕ) (r : Request) → d ≡ request xid r → Asked w.packets sender xid r) (lines : length w.server.kept.hosts ≡ most_hosts) where

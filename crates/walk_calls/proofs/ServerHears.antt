@@ -17,7 +17,7 @@ use Rattle.walk_calls.proofs.ClientMoves.{IsBelow}
 use Rattle.walk_calls.proofs.Placed.{IsServedIn, IsServedInOrder, reads-called}
 use Rattle.walk_calls.proofs.Quiet.{IsQuiet}
 use Rattle.walk_calls.proofs.ServerCalls.{IsWhy, undrawn, Refuses, AllRefuse, line_same, ServerDoes}
-use Rattle.walk_run.proofs.Sequences.{reads-no-seq}
+use Rattle.walk_steps.proofs.Sequences.{reads-no-seq}
 use Rattle.nq_model.specs.Journal.{Each, Exists, IsAnswerBy, call_of}
 use Rattle.nq_model.specs.Kept.{host_row}
 use Rattle.nq_model.specs.LeaseInterval.{requested_file}
@@ -28,9 +28,9 @@ use Rattle.nq_model.specs.Server.{Server, ServerStep, to_host, quiet, drops, say
 use Rattle.nq_model.specs.ServerStep.{vacates, tells_later}
 use Rattle.nq_model.specs.Table.{Table}
 use Rattle.nq_model.specs.World.{World}
-use Rattle.walk_leases.proofs.KnownWorlds.{Known}
-use Rattle.walk_run.proofs.Packets.{In, in-append, Asked, told-same, reply-same}
-use Rattle.walk_run.proofs.Worlds.{Holds}
+use Rattle.walk_steps.proofs.KnownWorlds.{Known}
+use Rattle.walk_steps.proofs.Packets.{In, in-append, Asked, told-same, reply-same}
+use Rattle.walk_steps.proofs.Worlds.{Holds}
 
 -- ---- reads of the journal
 

@@ -1,4 +1,4 @@
-use Rattle.std.proofs.Common.{subst}
+use Rattle.std.proofs.Common.{ap, subst, ◌∙◌}
 use Rattle.nq_mount.specs.Serving.{EndsServing}
 use Rattle.nq_node.specs.Clocks.{clock_told}
 use Rattle.nq_node.specs.Links.{link_told}
@@ -12,10 +12,10 @@ returns g c =
     let ran = c.keep_serving-ended in
     subst (λ (store : StoredStore g.row.D.Denot). EndsServing g.D.Disk.told g.D.Disk.faults g.D.Disk.follows g.D.Disk.leaves c.args.longest c.args.turns
     store ran.result.ended c.into_disk.result (clock_of c.args.clock.now) (clock_of ran.new.clock) (link_of c.args.link.now) (link_of ran.new.link))
-    c.greet.ensures
+    (c.new-keeper.ensures ∙ c.greet.ensures)
     record {
       served = ran.result.keeper;
-      handed = c.into_disk.ensures;
+      handed = c.into_disk.ensures ∙ ap (λ (store : StoredStore g.row.D.Denot). store.disk) c.into_keeper.ensures;
       same = ran.ensures.follows;
       cause = ran.ensures.cause;
       serving = ran.ensures.serves;

@@ -2,7 +2,7 @@ use Rattle.std.proofs.Common.{◌≡◌, ◌+◌, ◌<◌, ◌≤◌, ◌∙◌,
 use Rattle.nq_asides.proofs.Mixing.{mixed-length}
 use Rattle.nq_asides.specs.Text.{HoldsOfAsides, mixed}
 use Rattle.nq_name_script.specs.Text.{IsOfHost}
-use Rattle.nq_naming.proofs.Onward.{comes-here, is-there, line-on, lines-end, lines-step, ran-here, stops-line}
+use Rattle.nq_asides.proofs.Onward.{comes-here, is-there, line-on, lines-end, lines-step, ran-here, stops-line}
 use Rattle.nq_naming.proofs.Moments.{at-end}
 use Rattle.nq_naming.proofs.Steps.{faults-on, settings-on}
 use Rattle.nq_play.specs.Going.{AreForWorld, said}
@@ -44,7 +44,7 @@ returns-in_default g c = record {
       let same = mixed-length c.args.script.now.asides.items c.args.script.now.script.lines in
       let below : c.loop-place.place < length all = omega arith in
       let there = is-there all c.loop-place.place below in
-      comes-here _ _ _ _ _ c.stopped.ensures (lines-step head c.args.most c.args.script.now.script.first c.loop-place.place all there.line on.reached _ there.split on.same)
+      comes-here _ _ _ _ _ c.stopped.ensures (lines-step (play_line head c.args.most) c.args.script.now.script.first c.loop-place.place all there.line on.reached _ there.split on.same)
       (stops-line (c.args.script.now.script.first + c.loop-place.place) _ (play_line head c.args.most there.line on.reached) _ c.play_at.result _ _ refl (c.play_at.ensures.goes there.line there.here head on.reached hosts on.here) c.in_default.not-Done);
   stops = λ done. absurd (c.in_default.not-Done (ap said (sym c.stopped.ensures) ∙ done));
   faults = rw c.stopped.ensures (faults-on c.play_at.result (g.K.Keeper.faults c.args.world.now.inner.server.keeper) (g.K.Keeper.faults c.loop-place.world.inner.server.keeper) (g.K.Keeper.faults c.play_at.new.world.inner.server.keeper) c.loop-place.invariant.faults c.play_at.ensures.faults);
@@ -62,7 +62,7 @@ loop-place-preserved g c = record {
       let below : c.loop-place.place < length all = omega arith in
       let there = is-there all c.loop-place.place below in
       line-on (c.args.script.now.script.first + c.loop-place.place) (play_line head c.args.most there.line on.reached) _ _ _ (c.in-Done.ensures.goes there.line there.here head on.reached hosts on.here)
-      (lines-step head c.args.most c.args.script.now.script.first c.loop-place.place all there.line on.reached _ there.split on.same);
+      (lines-step (play_line head c.args.most) c.args.script.now.script.first c.loop-place.place all there.line on.reached _ there.split on.same);
   faults = c.in-Done.ensures.faults ∙ c.loop-place.invariant.faults;
   follows = g.met.K.Keeper.follows_on _ _ _ c.loop-place.invariant.follows c.play_at.ensures.follows;
   settings = settings-on _ _ _ _ _ c.loop-place.invariant.settings c.play_at.ensures.settings;
@@ -76,4 +76,4 @@ returns-clause-comes g c = λ head hosts plays.
     let many = c.len-place-end.ensures in
     let past : length all ≤ c.loop-place.place = omega arith in
     ran-here _ on.reached _ (at-end head on.reached c.loop-place.world _ c.loop-place.delivered c.loop-place.found.items on.here)
-    (lines-end head c.args.most (c.args.script.now.script.first + c.loop-place.place) c.loop-place.place all on.reached _ past on.same)
+    (lines-end (play_line head c.args.most) (c.args.script.now.script.first + c.loop-place.place) c.loop-place.place all on.reached _ past on.same)

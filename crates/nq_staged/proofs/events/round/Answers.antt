@@ -1,8 +1,9 @@
 use Rattle.std.proofs.Common.{◌≡◌, refl}
 use Rattle.nq_base.specs.declared.Event.{Event}
 use Rattle.nq_staged_run.specs.declared.StagedEvent.{StagedEvent}
-use Rattle.nq_staged.proofs.Onward.{goes-on, goes-same, stops-here}
-use Rattle.nq_staged.specs.Playing.{and_then, play_event, play_round, play_ticks}
+use Rattle.nq_asides.proofs.Onward.{goes-on, goes-same, stops-here}
+use Rattle.nq_asides.specs.Playing.{and_then}
+use Rattle.nq_staged.specs.Playing.{play_event, play_round, play_ticks}
 use Rattle.nq_staged.proofs.events.round.Goals as goal
 
 pub returns-in-Done-clause-goes : goal.returns-in-Done-clause-goes
@@ -10,7 +11,7 @@ unfolding play_round
 returns-in-Done-clause-goes g c = λ head events hosts at.
     let same : and_then (play_ticks head 0 c.args.hosts events) (play_event head (StagedEvent.Plain Event.ServerTick)) ≡ play_round head events = rw (← hosts) refl in
     let on = goes-on (play_ticks head 0 c.args.hosts events) (play_event head (StagedEvent.Plain Event.ServerTick)) _ (play_round head events) (c.in-Done.ensures.goes head events at) same in
-    goes-same c.tick_server.result (play_event head (StagedEvent.Plain Event.ServerTick) on.events) (play_round head events) _ on.same (c.tick_server.ensures.goes head on.events on.here)
+    goes-same c.tick_server.result (play_event head (StagedEvent.Plain Event.ServerTick) on.reached) (play_round head events) _ on.same (c.tick_server.ensures.goes head on.reached on.here)
 
 pub returns-in_default : goal.returns-in_default
 unfolding play_round

@@ -1,15 +1,17 @@
 use Rattle.std.proofs.Common.{◌≡◌, ◌-◌, List, length}
 use Rattle.nq_staged_run.specs.declared.StagedEvent.{StagedEvent}
 use Rattle.nq_model.specs.World.{Head}
-use Rattle.nq_staged.proofs.Onward.{IsOn}
+use Rattle.nq_asides.proofs.Onward.{IsOn}
 use Rattle.nq_staged.specs.Going.{IsAt}
-use Rattle.nq_staged.specs.Playing.{play_round, repeated}
+use Rattle.nq_asides.specs.Playing.{repeated}
+use Rattle.nq_staged.specs.Playing.{play_round}
 use Rattle.nq_world.specs.Playing.{HasSettings}
 use Rattle.nq_staged.proofs.events.rounds.Given as goal
 
 abbrev pub invariant-loop-turn : goal.invariant-loop-turn
 invariant-loop-turn g l = record {
-  on : (head : Head) (events : List StagedEvent) → head.hosts ≡ l.hosts → IsAt head events l.fn.world (g.K.Keeper.content l.fn.world.inner.server.keeper) l.fn.delivered
+  on : (head : Head) (events : List StagedEvent) → head.hosts ≡ l.hosts
+      → IsAt head events l.fn.world (g.K.Keeper.content l.fn.world.inner.server.keeper) l.fn.delivered
       → IsOn (λ es. IsAt head es l.world (g.K.Keeper.content l.world.inner.server.keeper) l.delivered) (repeated (l.times - l.turn) (play_round head)) (repeated l.times (play_round head) events);
   faults : g.K.Keeper.faults l.world.inner.server.keeper ≡ g.K.Keeper.faults l.fn.world.inner.server.keeper;
   follows : g.K.Keeper.follows l.fn.world.inner.server.keeper l.world.inner.server.keeper;

@@ -1,7 +1,8 @@
 use Rattle.std.proofs.Common.{◌+◌, ◌-◌, ◌∙◌}
 use Rattle.nq_base.specs.declared.Event.{Event}
 use Rattle.nq_staged_run.specs.declared.StagedEvent.{StagedEvent}
-use Rattle.nq_staged.proofs.Onward.{goes-on, ticks-step, stops-here}
+use Rattle.nq_asides.proofs.Onward.{goes-on, stops-here}
+use Rattle.nq_staged.proofs.Onward.{ticks-step}
 use Rattle.nq_staged.proofs.Steps.{faults-on, settings-on}
 use Rattle.nq_staged.specs.Playing.{play_event, play_ticks}
 use Rattle.nq_staged.proofs.events.tick_hosts.Goals as goal
@@ -10,7 +11,7 @@ pub returns-in_default : goal.returns-in_default
 returns-in_default g c = record {
   goes = λ head events at.
       let on = c.loop-host.invariant.on head events at in
-      stops-here (play_event head (StagedEvent.Plain (Event.ClientTick c.loop-host.host)) on.events) (play_ticks head (c.loop-host.host + 1) (c.args.hosts - (c.loop-host.host + 1))) c.take.result _ _ _ (c.take.ensures.goes head on.events on.here) c.in_default.not-Done (ticks-step head c.args.hosts c.loop-host.host on.events _ c.loop-host-test.true on.same);
+      stops-here (play_event head (StagedEvent.Plain (Event.ClientTick c.loop-host.host)) on.reached) (play_ticks head (c.loop-host.host + 1) (c.args.hosts - (c.loop-host.host + 1))) c.take.result _ _ _ (c.take.ensures.goes head on.reached on.here) c.in_default.not-Done (ticks-step head c.args.hosts c.loop-host.host on.reached _ c.loop-host-test.true on.same);
   faults = faults-on c.take.result (g.K.Keeper.faults c.args.world.now.inner.server.keeper) (g.K.Keeper.faults c.loop-host.world.inner.server.keeper) (g.K.Keeper.faults c.take.new.world.inner.server.keeper) c.loop-host.invariant.faults c.take.ensures.faults;
   follows = g.met.K.Keeper.follows_on _ _ _ c.loop-host.invariant.follows c.take.ensures.follows;
   settings = settings-on _ _ _ _ _ c.loop-host.invariant.settings c.take.ensures.settings;
@@ -20,7 +21,7 @@ pub loop-host-preserved : goal.loop-host-preserved
 loop-host-preserved g c = record {
   on = λ head events at.
       let on = c.loop-host.invariant.on head events at in
-      goes-on (play_event head (StagedEvent.Plain (Event.ClientTick c.loop-host.host)) on.events) (play_ticks head (c.loop-host.host + 1) (c.args.hosts - (c.loop-host.host + 1))) _ _ (c.in-Done.ensures.goes head on.events on.here) (ticks-step head c.args.hosts c.loop-host.host on.events _ c.loop-host-test.true on.same);
+      goes-on (play_event head (StagedEvent.Plain (Event.ClientTick c.loop-host.host)) on.reached) (play_ticks head (c.loop-host.host + 1) (c.args.hosts - (c.loop-host.host + 1))) _ _ (c.in-Done.ensures.goes head on.reached on.here) (ticks-step head c.args.hosts c.loop-host.host on.reached _ c.loop-host-test.true on.same);
   faults = c.in-Done.ensures.faults ∙ c.loop-host.invariant.faults;
   follows = g.met.K.Keeper.follows_on _ _ _ c.loop-host.invariant.follows c.take.ensures.follows;
   settings = settings-on _ _ _ _ _ c.loop-host.invariant.settings c.take.ensures.settings;

@@ -1,5 +1,0 @@
-use Rattle.law_calm.proofs.SharedRows.{asks-has-row}
-use Rattle.law_calm.proofs.who_asks_has_row.Goals as goal
-
-pub returns : goal.returns
-returns c = asks-has-row

@@ -1,2 +1,0 @@
-pub mod ChainWorlds
-pub mod SomeChained

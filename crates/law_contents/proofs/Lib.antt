@@ -1,4 +1,0 @@
-pub mod WorldFacts
-pub mod RunContents
-pub mod Laws
-pub mod SomeContents

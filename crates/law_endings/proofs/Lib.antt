@@ -1,5 +1,0 @@
-pub mod EndingWorlds
-pub mod SomeEnding
-pub mod ExcuseWorlds
-pub mod ExcusesInRuns
-pub mod SomeLost

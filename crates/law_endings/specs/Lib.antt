@@ -1,2 +1,0 @@
-pub mod EndingsMet
-pub mod ExcusesMet

@@ -1,5 +1,0 @@
-pub mod EachOf
-pub mod FilledServer
-pub mod FilledClient
-pub mod FilledRuns
-pub mod SomeFilled

@@ -1,4 +1,0 @@
-pub mod RestingRuns
-pub mod HeldRuns
-pub mod HeldLaws
-pub mod SomeHeld

@@ -1,2 +1,0 @@
-pub mod LeaseIntervals
-pub mod SomeLease

@@ -1,3 +1,0 @@
-pub mod Migrated
-pub mod Prepared
-pub mod Head

@@ -1,5 +1,0 @@
-use Rattle.law_open_calls.proofs.Theorem.{calls-answered}
-use Rattle.law_open_calls.proofs.calls_answered.Goals as goal
-
-pub returns : goal.returns
-returns c = calls-answered

@@ -1,6 +1,0 @@
-use Rattle.law_open_calls.proofs.InTime.{few-answered}
-use Rattle.law_open_calls.proofs.Theorem.{calls-answered}
-use Rattle.law_open_calls.proofs.few_calls_answered.Goals as goal
-
-pub returns : goal.returns
-returns c = few-answered calls-answered

@@ -1,5 +1,0 @@
-use Rattle.law_open_calls.proofs.SomeCalls.{open-calls-met}
-use Rattle.law_open_calls.proofs.open_calls_are_met.Goals as goal
-
-pub returns : goal.returns
-returns c = open-calls-met

@@ -1,4 +1,0 @@
-pub mod ClientSends
-pub mod NoticeCounts
-pub mod ServerSends
-pub mod WorldSends

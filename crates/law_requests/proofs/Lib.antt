@@ -1,6 +1,0 @@
-pub mod Places
-pub mod WorldSequences
-pub mod OpenRequests
-pub mod SentTimes
-pub mod OneRequests
-pub mod SomeRequests

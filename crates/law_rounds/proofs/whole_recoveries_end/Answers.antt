@@ -1,5 +1,0 @@
-use Rattle.law_rounds.proofs.RecoveryRounds.{whole-recoveries-end}
-use Rattle.law_rounds.proofs.whole_recoveries_end.Goals as goal
-
-pub returns : goal.returns
-returns c = whole-recoveries-end

@@ -1,4 +1,0 @@
-pub mod KeptTags
-pub mod HeardWrites
-pub mod ServerAlone
-pub mod SomeRecovery

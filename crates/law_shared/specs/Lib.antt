@@ -1,4 +1,0 @@
-pub mod SharedFilesAnswered
-pub mod WaitersShare
-pub mod LeaselessAnswered
-pub mod Met

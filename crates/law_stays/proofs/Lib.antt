@@ -1,2 +1,0 @@
-pub mod FilesStay
-pub mod SomeStaying

@@ -1,2 +1,0 @@
-pub mod InTerms
-pub mod SomeTerms

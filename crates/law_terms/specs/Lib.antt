@@ -1,2 +1,0 @@
-pub mod AnsweredInTerms
-pub mod Met

@@ -1,9 +1,0 @@
-pub mod AnswerCauses
-pub mod Causes
-pub mod ClientRests
-pub mod LeaseLengths
-pub mod RunAnswers
-pub mod RunTells
-pub mod ServerEntries
-pub mod ServerTells
-pub mod SomeTold

@@ -1,4 +1,0 @@
-pub mod UndisturbedRuns
-pub mod KnownRuns
-pub mod BoundOrFenced
-pub mod SomeFenced

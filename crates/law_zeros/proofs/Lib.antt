@@ -1,3 +1,0 @@
-pub mod ZeroFiles
-pub mod ZeroSteps
-pub mod ZeroRuns

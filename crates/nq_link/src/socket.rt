@@ -1,0 +1,105 @@
+//! A UDP socket that looks again for a moment before it waits.
+
+ghost use Rattle.std.specs.Prelude.{◌≤◌, length, IfOk};
+
+use std::io;
+use std::io::ErrorKind;
+use std::net::{Net, SocketAddr, UdpSocket};
+use std::time::Duration;
+
+/// How often a receive looks whether a datagram is there, behind one that brought one, before it waits. A look takes a quarter of a
+/// microsecond, and to fall asleep and be woken takes as long as some thirty.
+const LOOKS: u32 = 64;
+
+/// A UDP socket that waits for a datagram, or not at all. Behind a datagram the next one mostly follows soon, so then it looks some
+/// times before it waits.
+#[derive(Drop)]
+pub(crate) struct PatientSocket {
+    socket: UdpSocket,
+    /// Whether a receive may wait.
+    waits: bool,
+    /// Whether the machine waits in the calls of the socket.
+    is_blocking: bool,
+    /// Whether to look some times in the next receive before it waits.
+    is_busy: bool,
+}
+
+/// Whether an error says only that nothing came in time.
+pub(crate) fn is_silence(error: &io::Error) -> bool {
+    matches!(
+        error.kind(),
+        ErrorKind::WouldBlock | ErrorKind::TimedOut | ErrorKind::Interrupted
+    )
+}
+
+impl PatientSocket {
+    /// A socket at this address, which waits for so long in each receive, or not at all.
+    pub(crate) fn bind<R: Net>(
+        net: &R,
+        address: SocketAddr,
+        wait: Option<Duration>,
+    ) -> io::Result<PatientSocket> {
+        let socket = UdpSocket::bind(net, address)?;
+        match wait {
+            Some(wait) => socket.set_read_timeout(Some(wait))?,
+            None => socket.set_nonblocking(true)?,
+        }
+        let waits = wait.is_some();
+        Ok(PatientSocket {
+            socket,
+            waits,
+            is_blocking: waits,
+            is_busy: false,
+        })
+    }
+
+    /// Sends a datagram, and says how many of its bytes were sent.
+    pub(crate) fn send(&self, to: SocketAddr, bytes: &[u8]) -> io::Result<usize> {
+        self.socket.send_to(bytes, to)
+    }
+
+    /// Receives a datagram, and says how many bytes it has and where it came from.
+    pub(crate) fn receive(&mut self, into: &mut [u8]) -> io::Result<(usize, SocketAddr)>
+        ensures { IfOk result (λ r. r.0 ≤ length into.old) }
+    {
+        let came = if self.is_busy {
+            self.look_and_wait(into)
+        } else {
+            self.wait(into)
+        };
+        self.is_busy = self.waits && came.is_ok();
+        came
+    }
+
+    /// Looks some times whether a datagram is there, and then waits for one.
+    fn look_and_wait(&mut self, into: &mut [u8]) -> io::Result<(usize, SocketAddr)>
+        ensures { IfOk result (λ r. r.0 ≤ length into.old) }
+    {
+        self.set_blocking(false)?;
+        for _look in 0..LOOKS {
+            match self.socket.recv_from(into) {
+                Ok(came) => return Ok(came),
+                Err(error) if is_silence(&error) => {}
+                Err(error) => return Err(error),
+            }
+        }
+        self.wait(into)
+    }
+
+    /// Waits for a datagram, where a receive may wait.
+    fn wait(&mut self, into: &mut [u8]) -> io::Result<(usize, SocketAddr)>
+        ensures { IfOk result (λ r. r.0 ≤ length into.old) }
+    {
+        self.set_blocking(self.waits)?;
+        self.socket.recv_from(into)
+    }
+
+    /// Sees to it that the machine waits in the calls of the socket, or does not.
+    fn set_blocking(&mut self, is_blocking: bool) -> io::Result<()> {
+        if self.is_blocking != is_blocking {
+            self.socket.set_nonblocking(!is_blocking)?;
+            self.is_blocking = is_blocking;
+        }
+        Ok(())
+    }
+}

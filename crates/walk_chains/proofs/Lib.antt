@@ -1,7 +1,0 @@
-pub mod ChainFacts
-pub mod ChainLists
-pub mod ChainMoves
-pub mod ChainHears
-pub mod ChainSends
-pub mod ChainReplies
-pub mod ChainClients

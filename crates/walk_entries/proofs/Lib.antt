@@ -1,3 +1,0 @@
-pub mod ServerEntries
-pub mod Losses
-pub mod ClientEntries

@@ -1,2 +1,0 @@
-//! What a step keeps of what the clients and the server know of each other's leases. It has no code.
-#![tactic(auto)]

@@ -1,4 +1,0 @@
-pub mod RowsAfter
-pub mod RowFacts
-pub mod Replies
-pub mod StepSends
