@@ -1,5 +1,6 @@
 -- A client that hears a packet, whether its call stays open or is answered: rows that it was told to give up still go.
-use Rattle.std.proofs.Common.{◌≡◌, ◌≢◌, ◌⊎◌, ℕ, ◌==◌, ◌++◌, Bool, true, false, List, [], ◌∷◌, Option, Some, None, refl, sym, subst, ap, ◌∙◌, inl, inr}
+use Rattle.std.proofs.Common.{◌≡◌, ◌≢◌, ◌⊎◌, ℕ, ◌==◌, ◌++◌, Bool, true, false, List, [], ◌∷◌, Option, Some, None, refl, sym, subst, ap, ◌∙◌, arith, inl, inr}
+use Rattle.std.proofs.lemmas.Bool.Decides.{nat_tests}
 use Rattle.nq_base.specs.declared.Grant.{Grant}
 use Rattle.nq_base.specs.declared.Reply.{Reply}
 use Rattle.nq_base.specs.declared.Request.{Request}
@@ -13,7 +14,7 @@ use Rattle.nq_model.specs.Message.{Message, Packet, call, reply}
 use Rattle.nq_model.specs.Send.{sends_request, after_seq, after_number, takes_push, gives_up, send_next}
 use Rattle.nq_model.specs.Server.{to_host}
 use Rattle.nq_model.specs.Settle.{answers, after_read, reads_cached, after_write, marks_written, settle}
-use Rattle.nq_model.specs.Table.{tag_below, find_row}
+use Rattle.nq_model.specs.Table.{tag_below, later_tag, find_row}
 use Rattle.walk_steps.proofs.ClientCases.{Core, core_of, Closed}
 use Rattle.walk_steps.proofs.ClientFacts.{Alone}
 use Rattle.walk_steps.proofs.ClientMoves.{some-same}
