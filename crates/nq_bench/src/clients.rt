@@ -81,7 +81,8 @@ fn call_often(
             log = Journal::new(alloc).ok()?;
         }
         let call = call_at(writes, files, place)?;
-        match &client.call(&call, &mut out, &mut log) {
+        let answer = client.call(&call, &mut out, &mut log);
+        match &answer {
             Answer::Ok(Value::Body(body)) => sum = sum.wrapping_add(u64::from(body.value())),
             Answer::Ok(Value::Nothing) => sum = sum.wrapping_add(1),
             _ => return None,

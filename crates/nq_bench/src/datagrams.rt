@@ -62,7 +62,8 @@ fn read(what: &str, bytes: &[u8], room: &mut Spare) -> Option<u64>
 {
     let procedure = match what {
         "lookup" => {
-            return match &read_incoming(bytes, room) {
+            let incoming = read_incoming(bytes, room);
+            return match &incoming {
                 Incoming::Request { xid, .. } => Some(u64::from(*xid)),
                 _ => None,
             };
@@ -70,7 +71,8 @@ fn read(what: &str, bytes: &[u8], room: &mut Spare) -> Option<u64>
         "lookup-reply" => Procedure::Lookup,
         _ => Procedure::Read,
     };
-    match &read_heard(Some(Awaited { xid: 1, procedure }), bytes, room) {
+    let heard = read_heard(Some(Awaited { xid: 1, procedure }), bytes, room);
+    match &heard {
         Some(Heard::Reply { reply, .. }) => match reply {
             Reply::Lookup { blocks, .. } => Some(u64::from(*blocks)),
             Reply::Read { body, .. } => Some(u64::from(body.value())),

@@ -84,7 +84,8 @@ fn value_of(decided: &Decided) -> Option<u64> {
 }
 
 fn attach<K: Keeper>(keeper: &mut K) -> Option<u64> {
-    value_of(&decide(keeper, Request::Attach { who: ASKER }, SERVING).ok()?)
+    let decided = decide(keeper, Request::Attach { who: ASKER }, SERVING).ok()?;
+    value_of(&decided)
 }
 
 /// Makes a file, and says its id.
@@ -95,7 +96,8 @@ fn create<K: Keeper>(keeper: &mut K, number: u32, blocks: u32) -> Option<u64> {
         name: Name::new(&[b'a' + (number % 26) as u8])?,
         blocks,
     };
-    value_of(&decide(keeper, request, SERVING).ok()?)
+    let decided = decide(keeper, request, SERVING).ok()?;
+    value_of(&decided)
 }
 
 /// Writes the first block of a file.
@@ -111,7 +113,8 @@ fn write<K: Keeper>(keeper: &mut K, file: FileId, turn: u32) -> Option<u64> {
         push: None,
         body: Block::fill(turn),
     };
-    value_of(&decide(keeper, request, SERVING).ok()?)
+    let decided = decide(keeper, request, SERVING).ok()?;
+    value_of(&decided)
 }
 
 /// Fills an image.

@@ -44,9 +44,7 @@ impl Bench {
             "put" => {
                 let place = number_of(rest.first(), 10)? as usize;
                 let bytes = bytes_of(rt.alloc(), rest.get(1..).context("no bytes")?)?;
-                for (own, byte) in self.image.iter_mut().skip(place).zip(bytes.iter()) {
-                    *own = *byte;
-                }
+                write_over(&mut self.image, place, &bytes);
             }
             "keep" => self.kept = self.image.to_vec(rt.alloc())?,
             _ => self.open(rt)?,
@@ -72,6 +70,13 @@ impl Bench {
             Ok(kept) => tell(rt, &kept, &self.image),
             Err(_) => bail!("no image behind its opening"),
         }
+    }
+}
+
+/// Writes bytes from a place on; those behind the end are left out.
+fn write_over(image: &mut [u8], place: usize, bytes: &[u8]) {
+    for (own, byte) in image.iter_mut().skip(place).zip(bytes) {
+        *own = *byte;
     }
 }
 
