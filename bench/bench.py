@@ -99,12 +99,12 @@ def processor():
     return used.ru_utime + used.ru_stime
 
 
-def often(program, words, times, given=b""):
-    """Seconds of processor time of the fastest of three runs of nq_bench, which is given this, and what it prints."""
+def often(program, words, times):
+    """Seconds of processor time of the fastest of three runs of nq_bench, and what it prints."""
     fastest = None
     for _ in range(3):
         began = processor()
-        done = subprocess.run([program, *words, str(times)], input=given, capture_output=True, check=True)
+        done = subprocess.run([program, *words, str(times)], stdin=subprocess.DEVNULL, capture_output=True, check=True)
         took = processor() - began
         fastest = took if fastest is None else min(took, fastest)
     return fastest, int(done.stdout)
@@ -133,58 +133,16 @@ EXTENTS = ("1-1", "1-32", "1-512", "1-1-of-512", "256-1", "256-32", "256-512")
 FINDS = 2_000_000
 NAMES = ("1", "256")
 
-# What a server is asked that keeps 1 or 256 files, with 1 or 2,048 rows: the requests, and which of its numbers rise with each.
+# What a server is asked that keeps 1 or 256 files, with 1 or 2,048 rows.
 SERVER_REQUESTS = 50_000
 SERVERS = [
-    ("LOOKUP", "lookup", "same"),
-    ("READ", "read", "same"),
-    ("READ that renews a lease", "renewal", "same"),
-    ("WRITE that goes through", "write", "write"),
-    ("a push", "push", "push"),
+    ("LOOKUP", "server-lookup"),
+    ("READ", "server-read"),
+    ("READ that renews a lease", "server-read-wanted"),
+    ("WRITE that goes through", "server-write"),
+    ("a push", "server-push"),
 ]
-
-# The files, those of the last that are shared, and by how many hosts.
-KEPT = {"1-1": (1, 0, 0), "256-1": (256, 0, 0), "256-2048": (256, 32, 64)}
-
-# Procedures, and modes of leases.
-ATTACH, LOOKUP, CREATE, READ, WRITE, GETLEASE = 1, 2, 3, 5, 6, 7
-READING, WRITING = 1, 2
-TERM = 60
-
-
-def words(*numbers):
-    return b"".join(number.to_bytes(4, "big") for number in numbers)
-
-
-def asks(host, procedure, *numbers, behind=b""):
-    """A request of a host in its incarnation 1, behind the host and its length."""
-    datagram = words(1, 0, 2, 0x20004E51, 1, procedure, 0, 0, 0, 0, host, 1, *numbers) + behind
-    return words(host, len(datagram)) + datagram
-
-
-def name_of(number):
-    """The name of the file of this number: two letters."""
-    return words(2) + bytes([97 + number // 16 % 26, 97 + number % 16, 0, 0])
-
-
-def asked_of_server(what, way):
-    """The requests that make the files and the rows, and behind them the one that is asked again and again."""
-    files, shared, holders = KEPT[way]
-    yield from (asks(host, ATTACH) for host in range(64))
-    for number in range(1, files + 1):
-        yield asks(0, CREATE, 0, number, behind=name_of(number) + words(64))
-    yield asks(0, GETLEASE, 1, WRITING if what == "push" else READING, TERM)
-    rows = itertools.product(range(files, files - shared, -1), range(holders))
-    # The asker's row is one of them.
-    yield from (asks(host, GETLEASE, file, READING, TERM) for file, host in itertools.islice(rows, 2047))
-    body = words(4096, *[7] * 1024)
-    yield {
-        "lookup": asks(0, LOOKUP, behind=name_of(1)),
-        "read": asks(0, READ, 0, 1, 1, 0, 0),
-        "renewal": asks(0, READ, 0, 1, 1, 0, 1, READING, TERM),
-        "write": asks(0, WRITE, 0, 1000, 1, 0, 0, 1, 0, 1, 0, behind=body),
-        "push": asks(0, WRITE, 0, 1000, 1, 0, 0, 1, 0, 1, 1, 1, 0, 0, behind=body),
-    }[what]
+KEPT = ("1-1", "256-1", "256-2048")
 
 
 def parts(program):
@@ -196,11 +154,9 @@ def parts(program):
     for way in NAMES:
         each = (often(program, ["find", way], FINDS)[0] - often(program, ["find", way], 0)[0]) / FINDS
         print(f"{'a find, ' + way:36} {each * 1e9:8,.1f} ns {1 / each:14,.0f} per second")
-    for name, what, rises in SERVERS:
+    for name, what in SERVERS:
         for way in KEPT:
-            given = b"".join(asked_of_server(what, way))
-            took = [often(program, ["server", rises], times, given)[0] for times in (SERVER_REQUESTS, 0)]
-            each = (took[0] - took[1]) / SERVER_REQUESTS
+            each = (often(program, [what, way], SERVER_REQUESTS)[0] - often(program, [what, way], 0)[0]) / SERVER_REQUESTS
             print(f"{name + ', ' + way:36} {each * 1e9:8,.1f} ns {1 / each:14,.0f} per second")
     return 0
 

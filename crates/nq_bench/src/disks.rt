@@ -1,6 +1,6 @@
 //! A disk, and a store over it.
 
-use crate::stores::{fill, over};
+use crate::stores::{Deed, fill, over};
 use nq_disk::Disk;
 use nq_store::{Store, format};
 use std::alloc::Global;
@@ -9,15 +9,6 @@ use std::alloc::Global;
 const RECORD: usize = 4352;
 
 const BLOCK: usize = 4096;
-
-/// Does one thing so many times with a disk.
-pub(crate) fn often<D: Disk + Drop>(alloc: Global, disk: D, deed: &str, times: u32) -> Option<u64> {
-    match deed {
-        "store-bare" => bare(alloc, disk, times),
-        "store-open-there" => opens(alloc, disk, times),
-        _ => over_fresh(alloc, disk, deed, times),
-    }
-}
 
 /// Four writes and syncs, as many and as long as those of a change of a block.
 fn write_bare<D: Disk>(disk: &mut D, record: &[u8], block: &[u8]) -> Option<()> {
@@ -31,12 +22,11 @@ fn write_bare<D: Disk>(disk: &mut D, record: &[u8], block: &[u8]) -> Option<()> 
     disk.sync().ok()
 }
 
-fn bare<D: Disk + Drop>(alloc: Global, disk: D, times: u32) -> Option<u64> {
-    let mut disk = disk;
+fn bare<D: Disk>(alloc: Global, disk: &mut D, times: u32) -> Option<u64> {
     let record = vec![in alloc; 7; RECORD].ok()?;
     let block = vec![in alloc; 7; BLOCK].ok()?;
     for _ in 0..times {
-        write_bare(&mut disk, &record, &block)?;
+        write_bare(disk, &record, &block)?;
     }
     Some(u64::from(times))
 }
@@ -50,17 +40,31 @@ fn opens<D: Disk + Drop>(alloc: Global, disk: D, times: u32) -> Option<u64> {
     Some(u64::from(times))
 }
 
-/// Does one thing so many times over a store that is empty or full at first.
-fn over_fresh<D: Disk + Drop>(alloc: Global, disk: D, deed: &str, times: u32) -> Option<u64> {
+fn fresh<D: Disk + Drop>(alloc: Global, disk: D) -> Option<Store<D>> {
     let mut disk = disk;
     format(&mut disk).ok()?;
-    let mut store = Store::open(alloc, disk).ok()?;
+    Store::open(alloc, disk).ok()
+}
+
+fn opens_full<D: Disk + Drop>(alloc: Global, disk: D, times: u32) -> Option<u64> {
+    let mut store = fresh(alloc, disk)?;
+    fill(&mut store)?;
+    opens(alloc, store.into_disk(), times)
+}
+
+fn keeps<D: Disk + Drop>(alloc: Global, disk: D, deed: Deed, times: u32) -> Option<u64> {
+    let mut store = fresh(alloc, disk)?;
+    over(&mut store, deed, times)
+}
+
+/// Does one thing so many times with a disk.
+pub(crate) fn often<D: Disk + Drop>(alloc: Global, disk: D, deed: Deed, times: u32) -> Option<u64> {
+    let mut disk = disk;
     match deed {
-        "store-open" => opens(alloc, store.into_disk(), times),
-        "store-open-full" => {
-            fill(&mut store)?;
-            opens(alloc, store.into_disk(), times)
-        }
-        _ => over(&mut store, deed, times),
+        Deed::Bare => bare(alloc, &mut disk, times),
+        Deed::Open => opens(alloc, fresh(alloc, disk)?.into_disk(), times),
+        Deed::OpenFull => opens_full(alloc, disk, times),
+        Deed::OpenThere => opens(alloc, disk, times),
+        Deed::Commit | Deed::Read => keeps(alloc, disk, deed, times),
     }
 }

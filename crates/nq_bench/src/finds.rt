@@ -12,27 +12,49 @@ const TERM: u32 = 30;
 /// The number of the first READDIRLOOK.
 const FIRST_NUMBER: u32 = 1 << 31;
 
-/// Finds one name after another so many times, where so many are kept, and adds up the ids of the files; None where memory is wanting.
+/// Finds one name after another so many times, where so many are kept; None where there is no such word, or memory is wanting.
 pub(crate) fn often(alloc: Global, way: &str, times: u64) -> Option<u64> {
-    let count = if way == "256" { 256 } else { 1 };
+    let count = match way {
+        "1" => 1,
+        "256" => 256,
+        _ => return None,
+    };
     let cache = listed(alloc, count)?;
+    let names = names(alloc, count)?;
+    Some(find_often(&cache, &names, times))
+}
+
+/// Adds up the ids of the files that are found.
+fn find_often(cache: &NameCache, names: &[Name], times: u64) -> u64 {
+    let mut sum: u64 = 0;
+    let mut place = 0;
+    for _time in 0..times {
+        if place >= names.len() {
+            place = 0;
+        }
+        if let Some(name) = names.get(place) {
+            sum = sum.wrapping_add(id_found(cache, name));
+            place += 1;
+        }
+    }
+    sum
+}
+
+/// The id of the file that has a name; 0 where none has it, or it is not known.
+fn id_found(cache: &NameCache, name: &Name) -> u64 {
+    match cache.find(name, Ticks(1)) {
+        Found::File(file) => u64::from(file.0),
+        Found::Absent | Found::Unknown => 0,
+    }
+}
+
+/// So many names.
+fn names(alloc: Global, count: u32) -> Option<Vec<Name>> {
     let mut names = Vec::new(alloc);
     for number in 0..count {
         names.push(name_of(number)?).ok()?;
     }
-    let mut sum: u64 = 0;
-    let mut place = 0;
-    for _ in 0..times {
-        if place >= names.len() {
-            place = 0;
-        }
-        match cache.find(names.get(place)?, Ticks(1)) {
-            Found::File(file) => sum = sum.wrapping_add(u64::from(file.0)),
-            Found::Absent | Found::Unknown => return None,
-        }
-        place += 1;
-    }
-    Some(sum)
+    Some(names)
 }
 
 /// The name of this number: a letter and three digits.
@@ -62,7 +84,7 @@ fn listed(alloc: Global, count: u32) -> Option<NameCache> {
     Some(cache)
 }
 
-/// The reply with the page of this number. Its lease goes on in the chain of the first.
+/// The reply with the page of this number.
 fn page_bytes(alloc: Global, page: u32, count: u32) -> Option<Vec<u8>> {
     let first = page.checked_mul(MOST_NAMES)?;
     let end = first.saturating_add(MOST_NAMES).min(count);
@@ -79,7 +101,12 @@ fn page_bytes(alloc: Global, page: u32, count: u32) -> Option<Vec<u8>> {
     }
     let number = FIRST_NUMBER.checked_add(page)?;
     let begun = BegunPage::new(alloc, number, 1, &entries, end < count).ok()?;
-    let grant = Grant {
+    Some(begun.end(&Some(grant(page))))
+}
+
+/// The lease of the page of this number: each goes on in the chain of the first.
+fn grant(page: u32) -> Grant {
+    Grant {
         mode: Mode::Reading,
         term: TERM,
         tag: Tag {
@@ -89,6 +116,5 @@ fn page_bytes(alloc: Global, page: u32, count: u32) -> Option<Vec<u8>> {
         since: Tag { boot: 1, number: 1 },
         rev: Rev(0),
         blocks: 0,
-    };
-    Some(begun.end(&Some(grant)))
+    }
 }

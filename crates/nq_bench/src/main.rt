@@ -2,9 +2,9 @@
 //! all that came out. Its words are what, which way and how often: `lookup`, `lookup-reply` or `read-reply` with
 //! `encode` or `decode`; `client-read`, `client-read-cached` or `client-write` with 1 or 256, the files held, and 1, 32 or
 //! 512, the blocks read or written, or with 1-1-of-512; `find` with 1 or 256, the names that a host keeps;
-//! `server` with `same`, `write` or `push`, which of its requests the last one is; or `store-commit` or `store-read` with `list`,
-//! `memory` or the path of a file, where is kept what a server keeps, and `store-bare`, `store-open`, `store-open-full` or
-//! `store-open-there` with `memory` or the path of a file.
+//! `server-lookup`, `server-read`, `server-read-wanted`, `server-write` or `server-push` with 1-1, 256-1 or 256-2048, the
+//! files and the rows of the server; or `store-commit` or `store-read` with `list`, `memory` or the path of a file, where is kept
+//! what a server keeps, and `store-bare`, `store-open`, `store-open-full` or `store-open-there` with `memory` or the path of a file.
 #![tactic(auto)]
 
 mod clients;
@@ -14,6 +14,11 @@ mod finds;
 mod servers;
 mod stores;
 
+use crate::clients::Act;
+use crate::datagrams::Kind;
+use crate::servers::Ask;
+use crate::stores::Deed;
+use std::alloc::Global;
 use std::env;
 use std::process::ExitCode;
 
@@ -30,18 +35,46 @@ fn main(rt: HostRuntime) -> ExitCode {
 /// What the words ask for; None where they ask for nothing that is here, memory is wanting, or a disk fails.
 fn asked(rt: &HostRuntime) -> Option<u64> {
     let mut words = env::args(rt).ok()?.skip(1);
-    let (what, way, times) = (words.next()?, words.next()?, words.next()?);
-    let (what, way, times) = (what.as_str(), way.as_str(), times.as_str().parse().ok()?);
+    let what = words.next()?;
+    let way = words.next()?;
+    let times = words.next()?.as_str().parse::<u64>().ok()?;
+    done(rt, what.as_str(), way.as_str(), times)
+}
+
+fn done(rt: &HostRuntime, what: &str, way: &str, times: u64) -> Option<u64> {
+    match deed_of(what) {
+        Some(deed) => stores::often(rt, deed, way, times),
+        None => done_without_store(rt.alloc(), what, way, times),
+    }
+}
+
+/// What is done with a store, where the word says such a thing.
+fn deed_of(what: &str) -> Option<Deed> {
     match what {
-        "lookup" | "lookup-reply" | "read-reply" => datagrams::often(rt.alloc(), what, way, times),
-        "client-read" | "client-read-cached" | "client-write" => clients::often(
-            rt.alloc(),
-            what,
-            way,
-            times,
-        ),
-        "find" => finds::often(rt.alloc(), way, times),
-        "server" => servers::often(rt, way, times),
-        deed => stores::often(rt, deed, way, times),
+        "store-commit" => Some(Deed::Commit),
+        "store-read" => Some(Deed::Read),
+        "store-bare" => Some(Deed::Bare),
+        "store-open" => Some(Deed::Open),
+        "store-open-full" => Some(Deed::OpenFull),
+        "store-open-there" => Some(Deed::OpenThere),
+        _ => None,
+    }
+}
+
+fn done_without_store(alloc: Global, what: &str, way: &str, times: u64) -> Option<u64> {
+    match what {
+        "lookup" => datagrams::often(alloc, Kind::Lookup, way, times),
+        "lookup-reply" => datagrams::often(alloc, Kind::LookupReply, way, times),
+        "read-reply" => datagrams::often(alloc, Kind::ReadReply, way, times),
+        "client-read" => clients::often(alloc, Act::Read, way, times),
+        "client-read-cached" => clients::often(alloc, Act::ReadCached, way, times),
+        "client-write" => clients::often(alloc, Act::Write, way, times),
+        "find" => finds::often(alloc, way, times),
+        "server-lookup" => servers::often(alloc, Ask::Lookup, way, times),
+        "server-read" => servers::often(alloc, Ask::Read, way, times),
+        "server-read-wanted" => servers::often(alloc, Ask::ReadWanted, way, times),
+        "server-write" => servers::often(alloc, Ask::Write, way, times),
+        "server-push" => servers::often(alloc, Ask::Push, way, times),
+        _ => None,
     }
 }

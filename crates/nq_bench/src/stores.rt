@@ -7,6 +7,7 @@ use nq_base::{
 use nq_disk::{FileDisk, MemDisk, Room};
 use nq_files::{ReadOut, decide, read_block};
 use nq_keeper::{Keeper, ListKeeper};
+use std::alloc::Global;
 
 /// How many files of how many blocks fill an image.
 const MOST_FILES: u32 = 16;
@@ -33,43 +34,57 @@ const SERVING: Gate = Gate::Serving {
     writing_row: false,
 };
 
+/// What is done again and again.
+#[derive(Clone, Copy)]
+pub(crate) enum Deed {
+    /// A change of a block.
+    Commit,
+    /// A read of a block.
+    Read,
+    /// Four writes and syncs, as a change of a block has.
+    Bare,
+    /// The opening of an empty image.
+    Open,
+    /// The opening of the largest image.
+    OpenFull,
+    /// The opening of what stands on the disk.
+    OpenThere,
+}
+
 /// Does one thing so many times, with lists, with a disk in memory, or with the file at this path; None where that cannot be done
 /// there, memory is wanting, or the disk fails.
-pub(crate) fn often(rt: &HostRuntime, deed: &str, place: &str, times: u64) -> Option<u64> {
+pub(crate) fn often(rt: &HostRuntime, deed: Deed, place: &str, times: u64) -> Option<u64> {
     let alloc = rt.alloc();
     let times = u32::try_from(times).ok()?;
     match place {
-        "list" => {
-            let mut keeper = ListKeeper::new(alloc, Vec::new(alloc)).ok()?;
-            over(&mut keeper, deed, times)
-        }
-        "memory" => {
-            let disk = MemDisk::new(alloc, Vec::new(alloc), ROOM, Vec::new(alloc), None).ok()?;
-            disks::often(alloc, disk, deed, times)
-        }
-        path => {
-            let disk = FileDisk::new(alloc, rt.clone().ok()?, path).ok()?;
-            disks::often(alloc, disk, deed, times)
-        }
+        "list" => in_lists(alloc, deed, times),
+        "memory" => in_memory(alloc, deed, times),
+        path => in_file(rt, deed, path, times),
     }
 }
 
-/// So many changes or reads of the first block of a file, over what is kept.
-pub(crate) fn over<K: Keeper>(keeper: &mut K, deed: &str, times: u32) -> Option<u64> {
-    attach(keeper)?;
-    let file = FileId(u32::try_from(create(keeper, 0, 1)?).ok()?);
-    let mut last = 0;
-    for turn in 0..times {
-        last = match deed {
-            "store-commit" => write(keeper, file, turn)?,
-            "store-read" => match read_block(keeper, file, BlockNo(0)).ok()? {
-                ReadOut::Got { .. } => 1,
-                _ => return None,
-            },
-            _ => return None,
-        };
+fn in_lists(alloc: Global, deed: Deed, times: u32) -> Option<u64> {
+    let mut keeper = ListKeeper::new(alloc, Vec::new(alloc)).ok()?;
+    over(&mut keeper, deed, times)
+}
+
+fn in_memory(alloc: Global, deed: Deed, times: u32) -> Option<u64> {
+    let disk = MemDisk::new(alloc, Vec::new(alloc), ROOM, Vec::new(alloc), None).ok()?;
+    disks::often(alloc, disk, deed, times)
+}
+
+fn in_file(rt: &HostRuntime, deed: Deed, path: &str, times: u32) -> Option<u64> {
+    let disk = FileDisk::new(rt.alloc(), rt.clone().ok()?, path).ok()?;
+    disks::often(rt.alloc(), disk, deed, times)
+}
+
+/// Does one thing over what is kept.
+pub(crate) fn over<K: Keeper>(keeper: &mut K, deed: Deed, times: u32) -> Option<u64> {
+    match deed {
+        Deed::Commit => commits(keeper, times),
+        Deed::Read => reads(keeper, times),
+        _ => None,
     }
-    Some(last)
 }
 
 /// The value of a request that was done.
@@ -84,20 +99,22 @@ fn value_of(decided: &Decided) -> Option<u64> {
 }
 
 fn attach<K: Keeper>(keeper: &mut K) -> Option<u64> {
-    let decided = decide(keeper, Request::Attach { who: ASKER }, SERVING).ok()?;
+    let request = Request::Attach { who: ASKER };
+    let decided = decide(keeper, request, SERVING).ok()?;
     value_of(&decided)
 }
 
 /// Makes a file, and says its id.
-fn create<K: Keeper>(keeper: &mut K, number: u32, blocks: u32) -> Option<u64> {
+fn create<K: Keeper>(keeper: &mut K, number: u32, blocks: u32) -> Option<FileId> {
+    let letter = [b'a' + (number % 26) as u8];
     let request = Request::Create {
         who: ASKER,
         seq: Seq(u64::from(number) + 1),
-        name: Name::new(&[b'a' + (number % 26) as u8])?,
+        name: Name::new(&letter)?,
         blocks,
     };
     let decided = decide(keeper, request, SERVING).ok()?;
-    value_of(&decided)
+    Some(FileId(u32::try_from(value_of(&decided)?).ok()?))
 }
 
 /// Writes the first block of a file.
@@ -117,11 +134,41 @@ fn write<K: Keeper>(keeper: &mut K, file: FileId, turn: u32) -> Option<u64> {
     value_of(&decided)
 }
 
+/// So many changes of a block.
+fn commits<K: Keeper>(keeper: &mut K, times: u32) -> Option<u64> {
+    attach(keeper)?;
+    let file = create(keeper, 0, 1)?;
+    let mut last = 0;
+    for turn in 0..times {
+        last = write(keeper, file, turn)?;
+    }
+    Some(last)
+}
+
+/// Reads the first block of a file.
+fn read<K: Keeper>(keeper: &mut K, file: FileId) -> Option<u64> {
+    match read_block(keeper, file, BlockNo(0)).ok()? {
+        ReadOut::Got { .. } => Some(1),
+        _ => None,
+    }
+}
+
+/// So many reads of a block.
+fn reads<K: Keeper>(keeper: &mut K, times: u32) -> Option<u64> {
+    attach(keeper)?;
+    let file = create(keeper, 0, 1)?;
+    let mut last = 0;
+    for _ in 0..times {
+        last = read(keeper, file)?;
+    }
+    Some(last)
+}
+
 /// Fills an image.
-pub(crate) fn fill<K: Keeper>(keeper: &mut K) -> Option<()> {
+pub(crate) fn fill<K: Keeper>(keeper: &mut K) -> Option<u64> {
     attach(keeper)?;
     for number in 0..MOST_FILES {
         create(keeper, number, MOST_BLOCKS)?;
     }
-    Some(())
+    Some(0)
 }
