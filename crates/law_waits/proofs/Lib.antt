@@ -1,0 +1,5 @@
+pub mod Unwritten
+pub mod ReadEnds
+pub mod FiveRounds
+pub mod Theorem
+pub mod SomeUnwritten

@@ -1,0 +1,2 @@
+pub mod UnwrittenFiles
+pub mod Met

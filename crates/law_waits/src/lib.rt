@@ -1,0 +1,28 @@
+//! Calls that wait for rows of other hosts. The statements stand in `specs/`, and their proofs in `proofs/`.
+#![tactic(auto)]
+
+ghost use Rattle.law_waits.specs.Met.{UnwrittenIsMet};
+ghost use Rattle.law_waits.specs.UnwrittenFiles.{UnwrittenFilesAnswered, UnwrittenReadsAnswered, WritelessInTime};
+
+/// In every run, whatever is under way, once the server serves: where no `write` to a file is open, no `read` and no `fetch` of it is open after 4 calm
+/// rounds more, and after any number more.
+pub fn unwritten_reads_answered()
+    ensures { UnwrittenReadsAnswered }
+{}
+
+/// In every run, whatever is under way, once the server serves: where no `write` to a file is open, no open call reads or changes it after 8 calm rounds
+/// more, and after any number more.
+pub fn unwritten_files_answered()
+    ensures { UnwrittenFilesAnswered }
+{}
+
+/// In every run, whatever is under way: where no `write` is open at first, all clients are attached and no call is open after as many calm rounds as the
+/// longest term of all boots has ticks, and 17 more.
+pub fn writeless_in_time()
+    ensures { WritelessInTime }
+{}
+
+/// A schedule with a recovery, two reads and a put meets all premises of these laws.
+pub fn unwritten_is_met()
+    ensures { UnwrittenIsMet }
+{}
