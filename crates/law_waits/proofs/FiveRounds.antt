@@ -17,7 +17,7 @@ use Rattle.law_rounds.proofs.Flows.{round-small, rounds-small}
 use Rattle.law_answered.proofs.EndRounds.{fresh-quiet}
 use Rattle.walk_client.proofs.ClientMoves.{some-same, none-some}
 use Rattle.law_shared.proofs.CalmRounds.{Round, next-state}
-use Rattle.law_shared.proofs.Ends.{Of, IsCall, Idle, At, rounds-idle, rounds-of, rounds-call}
+use Rattle.law_shared.proofs.Ends.{IsCall, Idle, At, rounds-idle, rounds-of, rounds-call}
 use Rattle.law_shared.proofs.Step.{IsOpen}
 use Rattle.law_shared.proofs.Theorem.{left-over}
 

@@ -1,63 +1,41 @@
 -- Four rounds in which no `write` to a file is open: whoever reads it asks, and then no other host has a writing row of the file any more; and as he asks
 -- again he is answered.
 use Rattle.std.proofs.Common.{◌≡◌, ◌≢◌, ◌≤◌, ◌<◌, ◌⊎◌, ℕ, ◌+◌, Bool, true, false, nat_le, zero, suc, List, [], ◌∷◌, Option, Some, None, length, refl, sym, subst, ap, ◌∙◌, arith, inl, inr}
-use Rattle.std.specs.Prelude.{not, slice_get}
+use Rattle.std.specs.Prelude.{slice_get}
 use Rattle.nq_base.specs.declared.Call.{Call}
 use Rattle.nq_base.specs.declared.Event.{Event}
 use Rattle.nq_base.specs.declared.Request.{Request}
 use Rattle.nq_base.specs.declared.Row.{Row}
 use Rattle.nq_base.specs.declared.Want.{Want}
-use Rattle.nq_model.specs.Client.{Client, UnderWay}
-use Rattle.nq_model.specs.ClientStep.{client_tick}
-use Rattle.nq_model.specs.Lines.{Play, play, play_flow, flow_first, play_hosts, play_rounds}
-use Rattle.nq_model.specs.Server.{serving, recovering, Server, ServerStep, quiet, keeping_with, with_table}
-use Rattle.nq_model.specs.ServerStep.{tick, at_time, opens, ends_writing, end_reading, is_over}
-use Rattle.nq_model.specs.Table.{caches, find_row, is_row_of, with_rows}
-use Rattle.nq_model.specs.World.{Head, World, after_client, after_server, at_client}
-use Rattle.law_calm.proofs.ClientCount.{client-count}
-use Rattle.law_calm.proofs.HostsBelow.{get-below}
+use Rattle.nq_model.specs.Client.{Client, UnderWay, Job, attaching, for_call, renewing, pushing, Ticket}
+use Rattle.nq_model.specs.Lines.{Play, play, play_flow, flow_first, play_rounds}
+use Rattle.nq_model.specs.Table.{find_row, is_writing}
+use Rattle.nq_model.specs.World.{Head, World, from_host, run}
 use Rattle.law_deliveries.specs.DeliveryEnds.{enough_deliveries}
-use Rattle.law_deliveries.proofs.Flow.{stays-empty}
-use Rattle.law_progress.specs.CalmRound.{calm_round, calm_rounds}
 use Rattle.law_progress.specs.CalmRoundsAreLawful.{IsLawful}
 use Rattle.law_progress.specs.QuietDeliveries.{recovers}
-use Rattle.law_progress.proofs.CalmIsLawful.{flows, round, calm-round}
-use Rattle.law_progress.proofs.SoonRounds.{same-end}
 use Rattle.law_queues.proofs.NoRenewals.{CallsFirst, tick-first}
-use Rattle.law_queues.proofs.TagRuns.{keys-unique}
 use Rattle.walk_client.proofs.ClientFacts.{Alone, fits_job}
 use Rattle.walk_client.proofs.ClientMoves.{some-same, none-some}
 use Rattle.walk_run.proofs.Worlds.{run-holds}
-use Rattle.walk_server.proofs.RowChanges.{HasUniqueKeys, found-kept, unique-filtered}
-use Rattle.walk_server.proofs.ServerCases.{server-ticks}
-use Rattle.walk_server.proofs.ServerMoves.{tick-keeps}
 use Rattle.walk_server.proofs.Tests.{is-at-most, is-not-at-most}
-use Rattle.law_answered.proofs.Calling.{hear-keeps}
-use Rattle.law_answered.proofs.Hosts.{flow-keeps, ticked}
 use Rattle.law_answered.proofs.LookTickets.{tick-opens}
 use Rattle.law_open_calls.proofs.Delivery.{State}
 use Rattle.law_open_calls.proofs.Frames.{no-hope}
-use Rattle.law_open_calls.proofs.Hope.{file_of_call, Hopeful, Goes, told, waits, vacated}
-use Rattle.law_open_calls.proofs.Queue.{packets_of, queue}
-use Rattle.law_open_calls.proofs.Served.{Fits}
+use Rattle.law_open_calls.proofs.Hope.{file_of_call, Hopeful, Goes, told, waits, vacated, access_of_call}
+use Rattle.law_open_calls.proofs.Queue.{packets_of, queue, in-comes}
 use Rattle.law_open_calls.proofs.Ticks.{tick-pause}
-use Rattle.law_open_calls.proofs.UnderWay.{WantedNow, of_call, of_row, serves-is}
+use Rattle.law_open_calls.proofs.UnderWay.{WantedNow, of_call, of_row}
 use Rattle.law_shared.proofs.CalmRounds.{Round, done-lawful, done-fresh, done-serves, after-ticks, next-state, early-hopes, soon}
 use Rattle.nq_base.specs.declared.Access.{Access}
-use Rattle.nq_model.specs.Client.{Job, attaching, for_call, renewing, pushing, Ticket}
 use Rattle.nq_model.specs.Message.{call}
-use Rattle.nq_model.specs.Table.{is_writing}
-use Rattle.nq_model.specs.World.{from_host, run}
 use Rattle.nq_base.specs.declared.Mode.{Mode}
 use Rattle.law_calm.proofs.Meant.{requests-are-meant}
 use Rattle.law_open_calls.proofs.Begin.{FromTicket, round-tickets}
-use Rattle.law_open_calls.proofs.Hope.{access_of_call}
-use Rattle.law_open_calls.proofs.Queue.{in-comes}
 use Rattle.law_open_calls.proofs.Served.{IsWant}
 use Rattle.walk_run.proofs.Packets.{In, message-same, call-same}
-use Rattle.std.specs.Prelude.{is_some}
-use Rattle.law_shared.proofs.Step.{IsOpen, Over, Going, NoCache, Renewing, Calm, calm-on, Cut, Goal, over, open_on, delivers}
-use Rattle.law_shared.proofs.Ends.{IsCall, Idle, At, flow-idle, ticks-make, tick-idle, round-idle, ticked-rows}
+use Rattle.law_shared.proofs.Step.{IsOpen, Over, Calm, calm-on, Cut, Goal, over, open_on, delivers}
+use Rattle.law_shared.proofs.Ends.{IsCall, flow-idle, ticks-make, tick-idle, round-idle, ticked-rows}
 use Rattle.law_waits.specs.UnwrittenFiles.{written_by}
 use Rattle.law_waits.proofs.Unwritten as step
 use Rattle.law_waits.proofs.Unwritten.{NoWriter, Mild, to_read, anew, Unwritten, NoWrite, WriteGoes, writing-caches, mode-of, not-other}

@@ -1,5 +1,5 @@
 -- Where no `write` to a file is open, each call on it is answered in eight calm rounds: whoever reads it in four, and the others in four more.
-use Rattle.std.proofs.Common.{◌≡◌, ◌≤◌, ℕ, ◌+◌, false, List, Option, Some, None, length, refl, sym, subst, ap, ◌∙◌, arith, inr}
+use Rattle.std.proofs.Common.{◌≡◌, ◌≤◌, ℕ, ◌+◌, false, List, Some, length, refl, sym, subst, ap, ◌∙◌, arith, inr}
 use Rattle.std.specs.Prelude.{All, slice_get}
 use Rattle.nq_base.specs.declared.Access.{Access}
 use Rattle.nq_base.specs.declared.Call.{Call}

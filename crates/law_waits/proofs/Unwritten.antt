@@ -1,6 +1,6 @@
 -- One packet of a calm delivery while the server serves, where no `write` to a file is open: nobody comes to hold a writing row of the file, rows that are to
 -- go go on to do so, and who reads the file is put off for a writing row alone.
-use Rattle.std.proofs.Common.{◌≡◌, ◌≢◌, ◌≤◌, ◌<◌, ◌⊎◌, ℕ, ◌==◌, ◌++◌, Bool, true, false, not, List, [], ◌∷◌, Option, Some, None, is_some, nat_le, length, refl, sym, subst, ap, ◌∙◌, arith, inl, inr, append-nil}
+use Rattle.std.proofs.Common.{◌≡◌, ◌≢◌, ◌≤◌, ◌<◌, ◌⊎◌, ℕ, ◌==◌, ◌++◌, Bool, true, false, List, [], ◌∷◌, Option, Some, None, is_some, nat_le, length, refl, sym, subst, ap, ◌∙◌, arith, inl, inr, append-nil}
 use Rattle.std.specs.Prelude.{map, slice_get, slice_set}
 use Rattle.std.proofs.lemmas.Bool.{and_from}
 use Rattle.nq_base.specs.declared.Access.{Access}
@@ -16,61 +16,47 @@ use Rattle.nq_base.specs.declared.Who.{Who}
 use Rattle.nq_promises.specs.RowsStandApart.{WritesAlone}
 use Rattle.nq_model.specs.Ask.{mode_conflicts}
 use Rattle.nq_model.specs.Client.{Client, ClientStep, Job, attaching, for_call, renewing, pushing, Notice, Ticket, UnderWay, begun, lease_on, notice_on}
-use Rattle.nq_model.specs.Hear.{hear, refusal_counts, holds_later, cancels, evicted, goes_on}
-use Rattle.nq_model.specs.Kept.{find_file, host_row}
+use Rattle.nq_model.specs.Hear.{hear, holds_later, cancels, evicted, goes_on}
+use Rattle.nq_model.specs.Kept.{host_row}
 use Rattle.nq_model.specs.Lines.{Play, play}
-use Rattle.nq_model.specs.Message.{Message, Packet, call, asker, datagram_of}
+use Rattle.nq_model.specs.Message.{Message, Packet, call, datagram_of}
 use Rattle.nq_model.specs.Server.{serving, ServerStep, to_host}
 use Rattle.nq_model.specs.ServerStep.{receive}
 use Rattle.nq_model.specs.Table.{caches, is_writing, same_who, tag_below, greater_mode, find_row}
 use Rattle.nq_model.specs.World.{Head, World, from_host, after_client, after_server, sending_host, step, run}
-use Rattle.law_calm.specs.NamedRows.{by_vacated}
 use Rattle.law_calm.specs.RequestsAreMeant.{wanted, IsMeant}
-use Rattle.law_calm.specs.SharedFiles.{HasCachingRow}
 use Rattle.law_calm.proofs.ClientCount.{client-count}
 use Rattle.law_calm.proofs.HostsBelow.{run-local, stands-apart}
 use Rattle.law_calm.proofs.Meant.{requests-are-meant}
-use Rattle.law_calm.proofs.NamedRows.{named-rows}
-use Rattle.law_calm.proofs.SharedRows.{shared-stay}
-use Rattle.law_calm.proofs.SharingRows.{rows-to-go}
 use Rattle.law_leases.proofs.LeaseIntervals.{run-runs}
 use Rattle.law_packets.proofs.NoticeCounts.{HostedBelow}
 use Rattle.law_progress.specs.CalmRoundsAreLawful.{IsLawful}
-use Rattle.law_progress.specs.QuietDeliveries.{recovers}
 use Rattle.law_progress.proofs.PacketsCome.{Comes}
-use Rattle.law_progress.proofs.Attaching.{hear-stays}
-use Rattle.law_progress.proofs.CalmEnds.{IsRising, played-rising}
-use Rattle.law_progress.proofs.CalmIsLawful.{played-quiet}
-use Rattle.law_progress.proofs.QuietFlows.{delivered-phase}
-use Rattle.law_queues.proofs.NoRenewals.{CallsFirst, hear-first}
+use Rattle.law_queues.proofs.NoRenewals.{CallsFirst}
 use Rattle.law_requests.proofs.WorldSequences.{run-draws}
 use Rattle.law_rounds.proofs.Next.{OneLink, IsNext}
 use Rattle.law_rounds.proofs.Coming.{in-map, Delivery, no_packet, at_server, at_host, ignored, no_client, delivery}
 use Rattle.walk_client.proofs.ClientFacts.{fits_job}
 use Rattle.walk_client.proofs.ClientMoves.{some-same, none-some}
-use Rattle.walk_run.proofs.Packets.{In, in-left, in-right, in-append, in-get, Asked, Told, message-same, told-same, call-same, not-both}
-use Rattle.walk_run.proofs.Worlds.{IsAt, Holds, IsSent, by_host, by_server, get-set-same, get-set-other, set-there, to-told, run-holds}
+use Rattle.walk_run.proofs.Packets.{In, in-left, in-right, in-append, in-get, Asked, Told, message-same, told-same, not-both}
+use Rattle.walk_run.proofs.Worlds.{IsAt, Holds, IsSent, by_host, by_server, get-set-other, set-there, to-told, run-holds}
 use Rattle.walk_sends.proofs.StepSends.{HearSends, hear-sends}
 use Rattle.walk_server.proofs.Rows.{same-number, number-same, found-row}
-use Rattle.walk_server.proofs.ServerMoves.{receive-keeps}
-use Rattle.walk_server.proofs.ServerOutcomes.{line_of}
 use Rattle.walk_server.proofs.Tests.{is-at-most, is-not-at-most}
-use Rattle.walk_tables.proofs.ServerNumbers.{IdsFitOf}
 use Rattle.law_answered.proofs.Calling.{hear-keeps}
 use Rattle.law_open_calls.proofs.CallRequests.{run-asks}
 use Rattle.law_open_calls.proofs.ClientHopes.{map-in, Leaves, gives_up, notes, Hearer}
 use Rattle.law_open_calls.proofs.ClientHopes as client
-use Rattle.law_open_calls.proofs.Given.{AllInLine, ordered, ordered-on, tags, served}
+use Rattle.law_open_calls.proofs.Given.{ordered, tags, served}
 use Rattle.law_open_calls.proofs.HearerAt.{hearer}
-use Rattle.law_open_calls.proofs.Hope.{file_of_call, access_of_call, conflict-caches, Cancels, PutsOff, Hopeful, Goes, told, waits, vacated, InWay, safe-rest, safe-append, safe-none}
+use Rattle.law_open_calls.proofs.Hope.{file_of_call, access_of_call, Cancels, PutsOff, Hopeful, Goes, told, waits, vacated, safe-rest, safe-append, safe-none}
 use Rattle.law_open_calls.proofs.Queue.{packets_of, queue, queue-parts, queue-next, head-packet, rest-comes, rest-later, there-is}
-use Rattle.law_open_calls.proofs.Served.{IsStill, IsWant, by_read, by_lease, RowFrom, stays, shares, begins, renews, Outcome, quiet, by_own, by_others, IsServed, Fits, read_fits, write_fits}
+use Rattle.law_open_calls.proofs.Served.{IsStill, IsWant, by_read, by_lease, RowFrom, stays, shares, begins, renews, Outcome, quiet, by_own, by_others, IsServed}
 use Rattle.law_open_calls.proofs.ServerHopes.{IsOff, Fate, all_on, off}
 use Rattle.law_open_calls.proofs.UnderWay.{InOrder, TagsFit, hear-sent, serves-is}
 use Rattle.law_shared.proofs.Asking.{Caller, fate, other-hopes, goes-on}
-use Rattle.law_shared.proofs.Barred.{Shares, Barred, shared, gone, gone-receive, shared-receive, run-ids, rows-kept}
 use Rattle.law_shared.proofs.Leaving.{waits-leave, told-leaves}
-use Rattle.law_shared.proofs.Step.{IsOpen, Over, Renewing, Calm, calm-on}
+use Rattle.law_shared.proofs.Step.{IsOpen, Renewing, Calm, calm-on}
 use Rattle.law_waits.specs.UnwrittenFiles.{written_by}
 
 -- ---- what is under way
