@@ -3,3 +3,4 @@ pub mod ReadEnds
 pub mod FiveRounds
 pub mod Theorem
 pub mod SomeUnwritten
+pub mod ByWrites

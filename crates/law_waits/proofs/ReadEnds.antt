@@ -311,6 +311,11 @@ module _ (most : ℕ) (head : Head) where
                 let one : t.client ≡ c = some-same t.client c (sym t.at ∙ subst (λ h. slice_get (next r).world.clients h ≡ Some c) same.0 at) in
                 of-job t.ticket (ap (λ (z : Client). z.ticket) (sym one) ∙ t.asks) (sym request.1) t.ticket.job refl
               where
+                fits-now : (l : Ticket) → c.ticket ≡ Some l → l.request ≡ q → (job : Job) → l.job ≡ job → fits_job job q ≡ true
+                fits-now l asks req job is =
+                    let alone = ((run-holds head (next r).events).clients host c there).alone in
+                    subst (λ z. fits_job job z ≡ true) req (subst (λ j. fits_job j l.request ≡ true) is (alone.asking.ticketed l asks).fits)
+
                 of-job : (l : Ticket) → c.ticket ≡ Some l → l.request ≡ q → (job : Job) → l.job ≡ job → want.mode ≡ Mode.Reading
                 of-job l asks req for_call job = which (mode-of c l u q f want req (requests-are-meant head (next r).events host c l u there asks job has) w)
                   where
@@ -318,10 +323,8 @@ module _ (most : ℕ) (head : Head) where
                     which (inl e) = e
                     which (inr e) = absurd (none host c u at has e)
                 of-job l asks req renewing job = absurd (st.none_renew host c l u at asks has job)
-                of-job l asks req attaching job = absurd (not-other attaching q f want (subst (λ z. fits_job attaching z ≡ true) req (subst
-                    (λ j. fits_job j l.request ≡ true) job (((run-holds head (next r).events).clients host c there).alone.asking.ticketed l asks).fits)) (inl refl) w)
-                of-job l asks req pushing job = absurd (not-other pushing q f want (subst (λ z. fits_job pushing z ≡ true) req (subst
-                    (λ j. fits_job j l.request ≡ true) job (((run-holds head (next r).events).clients host c there).alone.asking.ticketed l asks).fits)) (inr refl) w)
+                of-job l asks req attaching job = absurd (not-other attaching q f want (fits-now l asks req attaching job) (inl refl) w)
+                of-job l asks req pushing job = absurd (not-other pushing q f want (fits-now l asks req pushing job) (inr refl) w)
 
     NoneOf : Client → Type 0
     NoneOf c = (u : UnderWay) → c.call ≡ Some u → written_by u.call ≡ Some f → ⊥

@@ -121,11 +121,11 @@ module _ (most : ℕ) (head : Head) (events : List Event) (bounds : KeepsBounds 
   abbrev base : Play
   base = calmed head events under_way
 
-  lawful : IsLawful most head base
+  pub lawful : IsLawful most head base
   unfolding calmed
   lawful = record { is_run = refl; bounds = bounds; within = within }
 
-  fewer : (n last : ℕ) → IsSmall (calm_rounds last base) → n ≤ last → IsSmall (calm_rounds n base)
+  pub fewer : (n last : ℕ) → IsSmall (calm_rounds last base) → n ≤ last → IsSmall (calm_rounds n base)
   fewer n last small below =
       let z = left-over last n below in
       rounds-small z.0 (calm_rounds n base) (subst (λ (q : Play). IsSmall q) (ap (λ i. calm_rounds i base) z.1 ∙ rounds-more n z.0 base) small)
@@ -159,7 +159,7 @@ module _ (most : ℕ) (head : Head) (events : List Event) (bounds : KeepsBounds 
     write-so m a c small at = writes-not most head base lawful (calmed-rising head events under_way all) file start plain-at small
         (λ k few. serves-at (start + 7) start k small (omega arith) (omega arith)) m a c at
 
-    call-so : (more a : ℕ) (c : Client) → IsSmall (calm_rounds (start + 11) base) → slice_get (calm_rounds (start + 11 + more) base).world.clients a ≡ Some c
+    pub call-so : (more a : ℕ) (c : Client) → IsSmall (calm_rounds (start + 11) base) → slice_get (calm_rounds (start + 11 + more) base).world.clients a ≡ Some c
         → HasNoCallOn file c
     call-so more a c small at =
         let same : start + 11 ≡ (start + 4) + 7 = omega arith in

@@ -1,6 +1,7 @@
 //! Calls that wait for rows of other hosts. The statements stand in `specs/`, and their proofs in `proofs/`.
 #![tactic(auto)]
 
+ghost use Rattle.law_waits.specs.CallsByWrites.{AnsweredByWrites};
 ghost use Rattle.law_waits.specs.Met.{UnwrittenIsMet};
 ghost use Rattle.law_waits.specs.UnwrittenFiles.{UnwrittenFilesAnswered, UnwrittenReadsAnswered, WritelessInTime};
 
@@ -20,6 +21,12 @@ pub fn unwritten_files_answered()
 /// longest term of all boots has ticks, and 17 more.
 pub fn writeless_in_time()
     ensures { WritelessInTime }
+{}
+
+/// In every run, whatever is under way: all clients are attached and no call is open after as many calm rounds as the longest term of all boots has ticks, 17
+/// more, and 4 for each call that is open at first on a file to which a `write` is open, or on none.
+pub fn answered_by_writes()
+    ensures { AnsweredByWrites }
 {}
 
 /// A schedule with a recovery, two reads and a put meets all premises of these laws.
