@@ -11,7 +11,7 @@ use Rattle.nq_model.specs.Skew.{IsWithinSkew}
 use Rattle.nq_model.specs.World.{Head, World, run}
 use Rattle.law_calm.proofs.ClientCount.{client-count}
 use Rattle.law_deliveries.specs.DeliveryEnds.{AreUnderWay, calmed}
-use Rattle.law_progress.specs.CallsAreAnswered.{IsAnswered}
+use Rattle.law_progress.specs.CallsAreAnswered.{IsAnswered, rounds_enough}
 use Rattle.law_progress.specs.CalmRound.{calm_round, calm_rounds}
 use Rattle.law_progress.specs.CalmRoundsAreLawful.{IsLawful}
 use Rattle.law_progress.specs.QuietDeliveries.{recovers}
@@ -34,7 +34,7 @@ use Rattle.law_shared.specs.SharedFilesAnswered.{file_in, rounds_served}
 use Rattle.law_shared.proofs.Ends.{At, Idle, IsCall, rounds-idle, rounds-call, rounds-of}
 use Rattle.law_shared.proofs.Theorem.{left-over}
 use Rattle.law_waits.specs.UnwrittenFiles.{written_by, WritesNotTo}
-use Rattle.law_waits.specs.CallsByWrites.{is_file, is_write_to, is_written, may_wait, one_if_waits, waiting_of, waiting_calls, rounds_by_writes, AnsweredByWrites}
+use Rattle.law_waits.specs.CallsByWrites.{is_file, is_write_to, is_written, may_wait, one_if_waits, waiting_of, waiting_calls, rounds_by_writes, AnsweredByWrites, FewWritesAnswered}
 use Rattle.law_waits.proofs.Theorem.{lawful, fewer, call-so}
 
 -- ---- counts
@@ -255,3 +255,11 @@ answered-by-writes most head events bounds within under_way more all small =
     (all-found IsAnswered (calm_rounds ((most + 17) + (4 * calls + more)) base).world.clients (λ host c at.
     answered-in most head events bounds within under_way all calls (4 * calls + more) (omega arith) (few-left most head events bounds within under_way all first)
     fits host c at))
+
+pub few-writes-answered : AnsweredByWrites → FewWritesAnswered
+few-writes-answered answered most head events bounds within under_way count all few many small =
+    let base = calmed head events under_way in
+    let calls = waiting_calls (run head events).clients in
+    let z = left-over count (rounds_by_writes most calls) (omega arith) in
+    subst (λ m. All IsAnswered (calm_rounds m base).world.clients) (sym z.1)
+    (answered most head events bounds within under_way z.0 all (subst (λ m. IsSmall (calm_rounds m base)) z.1 small))

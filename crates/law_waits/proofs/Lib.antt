@@ -4,3 +4,4 @@ pub mod FiveRounds
 pub mod Theorem
 pub mod SomeUnwritten
 pub mod ByWrites
+pub mod SomeWrites

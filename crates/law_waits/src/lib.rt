@@ -1,8 +1,8 @@
 //! Calls that wait for rows of other hosts. The statements stand in `specs/`, and their proofs in `proofs/`.
 #![tactic(auto)]
 
-ghost use Rattle.law_waits.specs.CallsByWrites.{AnsweredByWrites};
-ghost use Rattle.law_waits.specs.Met.{UnwrittenIsMet};
+ghost use Rattle.law_waits.specs.CallsByWrites.{AnsweredByWrites, FewWritesAnswered};
+ghost use Rattle.law_waits.specs.Met.{ByWritesIsMet, UnwrittenIsMet};
 ghost use Rattle.law_waits.specs.UnwrittenFiles.{UnwrittenFilesAnswered, UnwrittenReadsAnswered, WritelessInTime};
 
 /// In every run, whatever is under way, once the server serves: where no `write` to a file is open, no `read` and no `fetch` of it is open after 4 calm
@@ -29,7 +29,17 @@ pub fn answered_by_writes()
     ensures { AnsweredByWrites }
 {}
 
-/// A schedule with a recovery, two reads and a put meets all premises of these laws.
+/// So where 4 times these calls are no more than the longest term has ticks, and 9, all is answered after twice as many calm rounds as it has ticks, and 26.
+pub fn few_writes_answered()
+    ensures { FewWritesAnswered }
+{}
+
+/// A schedule with a recovery, two reads and a put meets all premises of the laws of files to which no `write` is open.
 pub fn unwritten_is_met()
     ensures { UnwrittenIsMet }
+{}
+
+/// A schedule with a recovery, a `write` to one file and two reads of another meets all premises of the laws that count calls.
+pub fn by_writes_is_met()
+    ensures { ByWritesIsMet }
 {}
