@@ -1,7 +1,6 @@
 -- Calls on files to which no `write` is open are answered first; then four rounds are enough for each call that is left.
-use Rattle.std.proofs.Common.{◌≡◌, ◌≤◌, ◌<◌, ◌⊎◌, ℕ, ◌+◌, ◌*◌, ◌==◌, ◌||◌, Bool, true, false, zero, suc, List, [], ◌∷◌, Option, Some, None, if◌then◌else◌, length, refl, sym, subst, ap, ◌∙◌, arith, inl, inr}
+use Rattle.std.proofs.Common.{◌≡◌, ◌≤◌, ◌<◌, ◌⊎◌, ℕ, ◌+◌, ◌*◌, ◌||◌, Bool, true, false, zero, suc, List, [], ◌∷◌, Option, Some, None, if◌then◌else◌, length, refl, sym, subst, ap, ◌∙◌, arith, inl, inr}
 use Rattle.std.specs.Prelude.{All, slice_get}
-use Rattle.nq_base.specs.declared.Call.{Call}
 use Rattle.nq_base.specs.declared.Event.{Event}
 use Rattle.nq_promises.specs.Bounds.{KeepsBounds}
 use Rattle.nq_model.specs.Client.{Client, UnderWay}
@@ -11,7 +10,7 @@ use Rattle.nq_model.specs.Skew.{IsWithinSkew}
 use Rattle.nq_model.specs.World.{Head, World, run}
 use Rattle.law_calm.proofs.ClientCount.{client-count}
 use Rattle.law_deliveries.specs.DeliveryEnds.{AreUnderWay, calmed}
-use Rattle.law_progress.specs.CallsAreAnswered.{IsAnswered, rounds_enough}
+use Rattle.law_progress.specs.CallsAreAnswered.{IsAnswered}
 use Rattle.law_progress.specs.CalmRound.{calm_round, calm_rounds}
 use Rattle.law_progress.specs.CalmRoundsAreLawful.{IsLawful}
 use Rattle.law_progress.specs.QuietDeliveries.{recovers}
@@ -31,7 +30,7 @@ use Rattle.walk_server.proofs.Rows.{number-same}
 use Rattle.law_open_calls.proofs.Counts.{one_if_open, open_calls, none-open}
 use Rattle.law_open_calls.proofs.FourRounds.{Rounds, blocks, attached-last}
 use Rattle.law_shared.specs.SharedFilesAnswered.{file_in, rounds_served}
-use Rattle.law_shared.proofs.Ends.{At, Idle, IsCall, rounds-idle, rounds-call, rounds-of}
+use Rattle.law_shared.proofs.Ends.{rounds-idle, rounds-call, rounds-of}
 use Rattle.law_shared.proofs.Theorem.{left-over}
 use Rattle.law_waits.specs.UnwrittenFiles.{written_by, WritesNotTo}
 use Rattle.law_waits.specs.CallsByWrites.{is_file, is_write_to, is_written, may_wait, one_if_waits, waiting_of, waiting_calls, rounds_by_writes, AnsweredByWrites, FewWritesAnswered}
@@ -253,7 +252,8 @@ answered-by-writes most head events bounds within under_way more all small =
     ((most + 17) + (4 * calls + more)) fits (omega arith) in
     subst (λ m. All IsAnswered (calm_rounds m base).world.clients) (sym e)
     (all-found IsAnswered (calm_rounds ((most + 17) + (4 * calls + more)) base).world.clients (λ host c at.
-    answered-in most head events bounds within under_way all calls (4 * calls + more) (omega arith) (few-left most head events bounds within under_way all first)
+    answered-in most head events bounds within under_way all calls (4 * calls + more) (omega arith)
+    (few-left most head events bounds within under_way all first)
     fits host c at))
 
 pub few-writes-answered : AnsweredByWrites → FewWritesAnswered

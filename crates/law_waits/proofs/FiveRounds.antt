@@ -134,7 +134,9 @@ module _ (most : ℕ) (head : Head) (base : Play) (l : IsLawful most head base) 
               at = there;
               opened = open_then;
               same = refl;
-              first = record { none = λ w also t asks job. (next-state most head (calm_rounds (n + 2) base) k0 k1.serves).none_renew a d t w there asks also job };
+              first = record {
+                none = λ w also t asks job. (next-state most head (calm_rounds (n + 2) base) k0 k1.serves).none_renew a d t w there asks also job;
+              };
             })))
 
         with-client : (d : Client) → slice_get (next (calm_rounds (n + 2) base)).world.clients a ≡ Some d → (v : Option UnderWay) → d.call ≡ v → ⊥
@@ -148,5 +150,6 @@ module _ (most : ℕ) (head : Head) (base : Play) (l : IsLawful most head base) 
     -- nor later
     pub none-later : (more a : ℕ) (c : Client) → slice_get (calm_rounds (n + 7 + more) base).world.clients a ≡ Some c → HasNone P c
     none-later more a c at =
-        rounds-of most head a (λ op. P op → ⊥) more (calm_rounds (n + 7) base) (rounds most head (n + 7) base l) (λ d there u has such. at-end a d there u has such)
+        rounds-of most head a (λ op. P op → ⊥) more (calm_rounds (n + 7) base) (rounds most head (n + 7) base l)
+        (λ d there u has such. at-end a d there u has such)
         c (subst (λ (q : Play). slice_get q.world.clients a ≡ Some c) (rounds-more (n + 7) more base) at)

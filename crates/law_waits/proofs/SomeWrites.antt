@@ -1,5 +1,5 @@
 -- A schedule that keeps to all bounds, in which one of three open calls may wait for a `write`.
-use Rattle.std.proofs.Common.{◌≡◌, ◌≤◌, ℕ, true, nat_le, [], ◌∷◌, length, refl, sym, subst, ap, ◌∙◌, arith}
+use Rattle.std.proofs.Common.{◌≡◌, ℕ, true, nat_le, [], ◌∷◌, length, refl, sym, subst, ap, ◌∙◌, arith}
 use Rattle.std.specs.Prelude.{All, slice_get}
 use Rattle.nq_base.specs.Block.{filled, zeros}
 use Rattle.nq_base.specs.declared.Call.{Call}
@@ -21,7 +21,7 @@ use Rattle.walk_run.proofs.GivenRuns.{given-run}
 use Rattle.walk_run.proofs.NoCrash.{one-first}
 use Rattle.walk_server.proofs.Tests.{is-at-most}
 use Rattle.law_open_calls.specs.CallsAnswered.{open_calls}
-use Rattle.law_waits.specs.CallsByWrites.{waiting_calls, rounds_by_writes}
+use Rattle.law_waits.specs.CallsByWrites.{waiting_calls}
 use Rattle.law_waits.specs.Met.{files_head, files_events, ByWritesIsMet}
 
 files-boots : All (BootsWithin 6) files_events

@@ -159,7 +159,8 @@ module _ (most : ℕ) (head : Head) (events : List Event) (bounds : KeepsBounds 
     write-so m a c small at = writes-not most head base lawful (calmed-rising head events under_way all) file start plain-at small
         (λ k few. serves-at (start + 7) start k small (omega arith) (omega arith)) m a c at
 
-    pub call-so : (more a : ℕ) (c : Client) → IsSmall (calm_rounds (start + 11) base) → slice_get (calm_rounds (start + 11 + more) base).world.clients a ≡ Some c
+    pub call-so : (more a : ℕ) (c : Client) → IsSmall (calm_rounds (start + 11) base)
+        → slice_get (calm_rounds (start + 11 + more) base).world.clients a ≡ Some c
         → HasNoCallOn file c
     call-so more a c small at =
         let same : start + 11 ≡ (start + 4) + 7 = omega arith in
