@@ -24,7 +24,7 @@ use Rattle.law_rounds.proofs.Flows.{Covered, whole-small, wholes-small, wholes-c
 use Rattle.law_rounds.proofs.Orders.{whole-lawful, whole-rising}
 use Rattle.law_rounds.proofs.Quiet.{order-ends-quiet}
 use Rattle.law_rounds.proofs.RecoveryRounds.{recoveries-end, serving-rounds}
-use Rattle.law_answered.proofs.Hosts.{all-found}
+use Rattle.law_answered.proofs.Hosts.{all-found, all-get}
 use Rattle.walk_client.proofs.ClientMoves.{some-same, none-some}
 use Rattle.walk_server.proofs.Rows.{number-same}
 use Rattle.law_open_calls.proofs.Counts.{one_if_open, open_calls, none-open}
@@ -32,8 +32,9 @@ use Rattle.law_open_calls.proofs.FourRounds.{Rounds, blocks, attached-last}
 use Rattle.law_shared.specs.SharedFilesAnswered.{file_in, rounds_served}
 use Rattle.law_shared.proofs.Ends.{rounds-idle, rounds-call, rounds-of}
 use Rattle.law_shared.proofs.Theorem.{left-over}
-use Rattle.law_waits.specs.UnwrittenFiles.{written_by, WritesNotTo}
+use Rattle.law_waits.specs.UnwrittenFiles.{written_by, WritesNotTo, HasNoFileless}
 use Rattle.law_waits.specs.CallsByWrites.{is_file, is_write_to, is_written, may_wait, one_if_waits, waiting_of, waiting_calls, rounds_by_writes, AnsweredByWrites, FewWritesAnswered}
+use Rattle.law_waits.proofs.Fileless.{fileless-answered}
 use Rattle.law_waits.proofs.Theorem.{lawful, fewer, call-so}
 
 -- ---- counts
@@ -141,7 +142,13 @@ module _ (most : ℕ) (head : Head) (events : List Event) (bounds : KeepsBounds 
 
     waits-for : (u v : UnderWay) → d.call ≡ Some u → c.call ≡ Some v → u.call ≡ v.call → (o : Option ℕ) → file_in v.call ≡ o
         → may_wait (run head events).clients (file_in v.call) ≡ true
-    waits-for u v now was same None none = ap (may_wait (run head events).clients) none
+    waits-for u v now was same None none =
+        let last : most + 17 ≡ rounds_served most 4 + 4 = omega arith in
+        let more : most + 17 ≡ rounds_served most 4 + 4 + 0 = omega arith in
+        absurd (all-get HasNoFileless (calm_rounds (rounds_served most 4 + 4 + 0) base).world.clients i d
+        (subst (λ m. slice_get (calm_rounds m base).world.clients i ≡ Some d) more there)
+        (fileless-answered most head events bounds within under_way 4 0 all (subst (λ m. IsSmall (calm_rounds m base)) last small)) u now
+        (ap file_in same ∙ none))
     waits-for u v now was same (Some f) on = by (is_written f (run head events).clients) refl
       where
         by : (b : Bool) → is_written f (run head events).clients ≡ b → may_wait (run head events).clients (file_in v.call) ≡ true

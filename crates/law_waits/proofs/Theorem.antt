@@ -131,7 +131,7 @@ module _ (most : ℕ) (head : Head) (events : List Event) (bounds : KeepsBounds 
       rounds-small z.0 (calm_rounds n base) (subst (λ (q : Play). IsSmall q) (ap (λ i. calm_rounds i base) z.1 ∙ rounds-more n z.0 base) small)
 
   -- the server serves from then on
-  serves-at : (last n k : ℕ) → IsSmall (calm_rounds last base) → most + 8 ≤ n + 2 → (n + 2) + k ≤ last
+  pub serves-at : (last n k : ℕ) → IsSmall (calm_rounds last base) → most + 8 ≤ n + 2 → (n + 2) + k ≤ last
       → recovers (calm_rounds ((n + 2) + k) base).world.server.phase ≡ false
   serves-at last n k small late below =
       let z = left-over ((n + 2) + k) (most + (skew + write_slack)) (omega arith) in

@@ -1,6 +1,6 @@
 -- Of the open calls only those count that are on files to which a `write` is open: every call is answered after 4 rounds for each of them, and 17 more than
 -- the longest term has ticks.
-use Rattle.std.specs.Prelude.{◌≤◌, ℕ, ◌+◌, ◌*◌, ◌==◌, Bool, true, false, ◌||◌, List, [], ◌∷◌, Option, Some, None, All, length, if◌then◌else◌}
+use Rattle.std.specs.Prelude.{◌≤◌, ℕ, ◌+◌, ◌*◌, ◌==◌, Bool, false, ◌||◌, List, [], ◌∷◌, Option, Some, None, All, length, if◌then◌else◌}
 use Rattle.nq_base.specs.declared.Event.{Event}
 use Rattle.nq_promises.specs.Bounds.{KeepsBounds}
 use Rattle.nq_model.specs.Client.{Client, UnderWay}
@@ -28,9 +28,9 @@ abbrev pub is_written : ℕ → List Client → Bool
 is_written file [] = false
 is_written file (c ∷ clients) = is_write_to file c.call || is_written file clients
 
--- whether a call may wait for a `write`: to its file one is open, or it reads and changes none
+-- whether a call may wait for a `write`: to its file one is open
 abbrev pub may_wait : List Client → Option ℕ → Bool
-may_wait clients None = true
+may_wait clients None = false
 may_wait clients (Some file) = is_written file clients
 
 -- 1 for an open call that may wait for a `write`

@@ -10,7 +10,7 @@ use Rattle.law_deliveries.specs.DeliveryEnds.{AreUnderWay, calmed}
 use Rattle.law_progress.specs.CallsAreAnswered.{IsAnswered}
 use Rattle.law_progress.specs.CalmRound.{calm_rounds}
 use Rattle.law_rounds.specs.RoundsEndQuiet.{IsSmall}
-use Rattle.law_shared.specs.SharedFilesAnswered.{HasNoCallOn, rounds_served}
+use Rattle.law_shared.specs.SharedFilesAnswered.{file_in, HasNoCallOn, rounds_served}
 
 -- the file to which a call is a `write`, if it is one
 abbrev pub written_by : Call → Option ℕ
@@ -59,6 +59,21 @@ UnwrittenFilesAnswered =
     → All (WritesNotTo file) (calm_rounds (rounds_served most count) (calmed head events under_way)).world.clients
     → IsSmall (calm_rounds (rounds_served most count + 8) (calmed head events under_way))
     → All (HasNoCallOn file) (calm_rounds (rounds_served most count + 8 + more) (calmed head events under_way)).world.clients
+
+-- no open call of a client is one that reads and changes no file
+abbrev pub HasNoFileless : Client → Type 0
+HasNoFileless c = (u : UnderWay) → c.call ≡ Some u → file_in u.call ≡ None → ⊥
+
+-- no row is in the way of a call that reads and changes no file: none is open after 4 rounds more, whatever else is
+abbrev pub FilelessAnswered : Type 0
+FilelessAnswered =
+    (most : ℕ) (head : Head) (events : List Event)
+    → KeepsBounds most head events
+    → IsWithinSkew head.hosts most events
+    → (under_way : List ℕ) (count more : ℕ)
+    → AreUnderWay (length (run head events).packets) under_way
+    → IsSmall (calm_rounds (rounds_served most count + 4) (calmed head events under_way))
+    → All HasNoFileless (calm_rounds (rounds_served most count + 4 + more) (calmed head events under_way)).world.clients
 
 -- rounds that are enough where no `write` is open
 abbrev pub rounds_unwritten : (most : ℕ) → ℕ

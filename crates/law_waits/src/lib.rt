@@ -3,7 +3,7 @@
 
 ghost use Rattle.law_waits.specs.CallsByWrites.{AnsweredByWrites, FewWritesAnswered};
 ghost use Rattle.law_waits.specs.Met.{ByWritesIsMet, UnwrittenIsMet};
-ghost use Rattle.law_waits.specs.UnwrittenFiles.{UnwrittenFilesAnswered, UnwrittenReadsAnswered, WritelessInTime};
+ghost use Rattle.law_waits.specs.UnwrittenFiles.{FilelessAnswered, UnwrittenFilesAnswered, UnwrittenReadsAnswered, WritelessInTime};
 
 /// In every run, whatever is under way, once the server serves: where no `write` to a file is open, no `read` and no `fetch` of it is open after 4 calm
 /// rounds more, and after any number more.
@@ -17,6 +17,12 @@ pub fn unwritten_files_answered()
     ensures { UnwrittenFilesAnswered }
 {}
 
+/// In every run, whatever is under way, once the server serves: no call that reads and changes no file is open after 4 calm rounds more, and after any number
+/// more.
+pub fn fileless_answered()
+    ensures { FilelessAnswered }
+{}
+
 /// In every run, whatever is under way: where no `write` is open at first, all clients are attached and no call is open after as many calm rounds as the
 /// longest term of all boots has ticks, and 17 more.
 pub fn writeless_in_time()
@@ -24,7 +30,7 @@ pub fn writeless_in_time()
 {}
 
 /// In every run, whatever is under way: all clients are attached and no call is open after as many calm rounds as the longest term of all boots has ticks, 17
-/// more, and 4 for each call that is open at first on a file to which a `write` is open, or on none.
+/// more, and 4 for each call that is open at first on a file to which a `write` is open.
 pub fn answered_by_writes()
     ensures { AnsweredByWrites }
 {}
