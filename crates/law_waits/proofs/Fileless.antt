@@ -30,7 +30,7 @@ use Rattle.law_shared.proofs.Ends as shared
 use Rattle.law_shared.proofs.Step.{IsOpen}
 use Rattle.law_waits.specs.UnwrittenFiles.{HasNoFileless, FilelessAnswered}
 use Rattle.law_waits.proofs.FiveRounds.{next, k0, k1, k2, k3, k4, none-later}
-use Rattle.law_waits.proofs.Theorem.{lawful, serves-at}
+use Rattle.law_waits.proofs.Theorem.{lawful, serves-late, serving}
 
 -- ---- there is no file 0
 
@@ -114,4 +114,5 @@ fileless-answered most head events bounds within under_way count more all small 
     subst (λ m. All HasNoFileless (calm_rounds (m + more) base).world.clients) (sym last)
     (all-found HasNoFileless (calm_rounds ((most + 6 + count) + 7 + more) base).world.clients (λ a c at.
     fileless-end most head base (lawful most head events bounds within under_way all) (calmed-rising head events under_way all) (most + 6 + count) fits
-    (λ k few. serves-at most head events bounds within under_way all ((most + 6 + count) + 7) (most + 6 + count) k fits (omega arith) (omega arith)) more a c at))
+    (λ k few. serving most head events bounds within under_way all (most + 6 + count) ((most + 6 + count) + 7) k
+    (serves-late most head events bounds within under_way all (most + 6 + count + 2) (omega arith)) fits (omega arith)) more a c at))

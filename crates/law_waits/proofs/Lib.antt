@@ -6,3 +6,4 @@ pub mod Fileless
 pub mod SomeUnwritten
 pub mod ByWrites
 pub mod SomeWrites
+pub mod SomeServed

@@ -21,8 +21,9 @@ use Rattle.law_progress.proofs.AllAttached.{rounds-more}
 use Rattle.law_progress.proofs.CalmEnds.{IsRising, calmed-rising}
 use Rattle.law_progress.proofs.CalmIsLawful.{rounds}
 use Rattle.law_rounds.specs.RoundsEndQuiet.{IsSmall}
+use Rattle.law_rounds.proofs.CalmOrders.{calm_orders, calms-are}
 use Rattle.law_rounds.proofs.Flows.{rounds-small}
-use Rattle.law_rounds.proofs.RecoveryRounds.{recoveries-end}
+use Rattle.law_rounds.proofs.RecoveryRounds.{recoveries-end, serving-rounds}
 use Rattle.law_answered.proofs.Hosts.{all-found, all-get}
 use Rattle.walk_client.proofs.ClientMoves.{some-same, none-some}
 use Rattle.law_open_calls.proofs.Hope.{file_of_call, access_of_call}
@@ -130,54 +131,71 @@ module _ (most : ℕ) (head : Head) (events : List Event) (bounds : KeepsBounds 
       let z = left-over last n below in
       rounds-small z.0 (calm_rounds n base) (subst (λ (q : Play). IsSmall q) (ap (λ i. calm_rounds i base) z.1 ∙ rounds-more n z.0 base) small)
 
-  -- the server serves from then on
-  pub serves-at : (last n k : ℕ) → IsSmall (calm_rounds last base) → most + 8 ≤ n + 2 → (n + 2) + k ≤ last
+  -- the server serves after so many rounds, and from then on
+  abbrev pub Serves : ℕ → Type 0
+  Serves n = (m : ℕ) → n ≤ m → IsSmall (calm_rounds m base) → recovers (calm_rounds m base).world.server.phase ≡ false
+
+  pub serves-late : (n : ℕ) → most + 8 ≤ n → Serves n
+  serves-late n late m later small =
+      let z = left-over m (most + (skew + write_slack)) (omega arith) in
+      subst (λ k. recovers (calm_rounds k base).world.server.phase ≡ false) (sym z.1)
+      (recoveries-end most head events bounds within under_way z.0 all (subst (λ k. IsSmall (calm_rounds k base)) z.1 small))
+
+  same-phase : recovers (run head events).server.phase ≡ false → recovers base.world.server.phase ≡ false
+  unfolding calmed
+  same-phase serves = serves
+
+  -- where it serves already
+  pub serves-early : (n : ℕ) → recovers (run head events).server.phase ≡ false → Serves n
+  serves-early n serves m later small = subst (λ (q : Play). recovers q.world.server.phase ≡ false) (sym (calms-are m base))
+      (serving-rounds (calm_orders m base) base (same-phase serves))
+
+  pub serving : (n last k : ℕ) → Serves (n + 2) → IsSmall (calm_rounds last base) → (n + 2) + k ≤ last
       → recovers (calm_rounds ((n + 2) + k) base).world.server.phase ≡ false
-  serves-at last n k small late below =
-      let z = left-over ((n + 2) + k) (most + (skew + write_slack)) (omega arith) in
-      subst (λ m. recovers (calm_rounds m base).world.server.phase ≡ false) (sym z.1)
-      (recoveries-end most head events bounds within under_way z.0 all (subst (λ m. IsSmall (calm_rounds m base)) z.1 (fewer ((n + 2) + k) last small below)))
+  serving n last k serves small below = serves ((n + 2) + k) (omega arith) (fewer ((n + 2) + k) last small below)
 
-  module _ (count file : ℕ) (plain : All (WritesNotTo file) (calm_rounds (rounds_served most count) base).world.clients) where
-    abbrev start : ℕ
-    start = most + 6 + count
-
-    first : rounds_served most count ≡ start + 3
-    first = omega arith
-
-    plain-at : (a : ℕ) (c : Client) → slice_get (calm_rounds (start + 3) base).world.clients a ≡ Some c → WritesNotTo file c
-    plain-at a c at = all-get (WritesNotTo file) (calm_rounds (start + 3) base).world.clients a c at (subst (λ m. All (WritesNotTo file)
-        (calm_rounds m base).world.clients) first plain)
-
-    read-so : (more a : ℕ) (c : Client) → IsSmall (calm_rounds (start + 7) base) → slice_get (calm_rounds (start + 7 + more) base).world.clients a ≡ Some c
+  module _ (n file : ℕ) (serves : Serves (n + 2)) (plain : (a : ℕ) (c : Client) → slice_get (calm_rounds (n + 3) base).world.clients a ≡ Some c
+      → WritesNotTo file c) where
+    read-so : (more a : ℕ) (c : Client) → IsSmall (calm_rounds (n + 7) base) → slice_get (calm_rounds (n + 7 + more) base).world.clients a ≡ Some c
         → ReadsNot file c
-    read-so more a c small at = reads-end most head base lawful (calmed-rising head events under_way all) file start plain-at small
-        (λ k few. serves-at (start + 7) start k small (omega arith) (omega arith)) more a c at
+    read-so more a c small at = reads-end most head base lawful (calmed-rising head events under_way all) file n plain small
+        (λ k few. serving n (n + 7) k serves small (omega arith)) more a c at
 
-    write-so : (m a : ℕ) (c : Client) → IsSmall (calm_rounds (start + 7) base) → slice_get (calm_rounds (start + 3 + m) base).world.clients a ≡ Some c
+    write-so : (m a : ℕ) (c : Client) → IsSmall (calm_rounds (n + 7) base) → slice_get (calm_rounds (n + 3 + m) base).world.clients a ≡ Some c
         → WritesNotTo file c
-    write-so m a c small at = writes-not most head base lawful (calmed-rising head events under_way all) file start plain-at small
-        (λ k few. serves-at (start + 7) start k small (omega arith) (omega arith)) m a c at
+    write-so m a c small at = writes-not most head base lawful (calmed-rising head events under_way all) file n plain small
+        (λ k few. serving n (n + 7) k serves small (omega arith)) m a c at
 
-    pub call-so : (more a : ℕ) (c : Client) → IsSmall (calm_rounds (start + 11) base)
-        → slice_get (calm_rounds (start + 11 + more) base).world.clients a ≡ Some c
+    pub call-so : (more a : ℕ) (c : Client) → IsSmall (calm_rounds (n + 11) base)
+        → slice_get (calm_rounds (n + 11 + more) base).world.clients a ≡ Some c
         → HasNoCallOn file c
     call-so more a c small at =
-        let same : start + 11 ≡ (start + 4) + 7 = omega arith in
-        calls-end most head base lawful (calmed-rising head events under_way all) file (start + 4) both (subst (λ m. IsSmall (calm_rounds m base)) same small)
-        (λ k few. serves-at (start + 11) (start + 4) k small (omega arith) (omega arith)) more a c
+        let same : n + 11 ≡ (n + 4) + 7 = omega arith in
+        calls-end most head base lawful (calmed-rising head events under_way all) file (n + 4) both (subst (λ m. IsSmall (calm_rounds m base)) same small)
+        (λ k few. serving (n + 4) (n + 11) k later small (omega arith)) more a c
         (subst (λ m. slice_get (calm_rounds (m + more) base).world.clients a ≡ Some c) same at)
       where
-        early : IsSmall (calm_rounds (start + 7) base)
-        early = fewer (start + 7) (start + 11) small (omega arith)
+        later : Serves ((n + 4) + 2)
+        later m late few = serves m (omega arith) few
 
-        both : (b : ℕ) (d : Client) → slice_get (calm_rounds ((start + 4) + 3) base).world.clients b ≡ Some d → ReadsNot file d × WritesNotTo file d
+        early : IsSmall (calm_rounds (n + 7) base)
+        early = fewer (n + 7) (n + 11) small (omega arith)
+
+        both : (b : ℕ) (d : Client) → slice_get (calm_rounds ((n + 4) + 3) base).world.clients b ≡ Some d → ReadsNot file d × WritesNotTo file d
         both b d there =
-            let reads : (start + 4) + 3 ≡ start + 7 + 0 = omega arith in
-            let writes : (start + 4) + 3 ≡ start + 3 + 4 = omega arith in (
+            let reads : (n + 4) + 3 ≡ n + 7 + 0 = omega arith in
+            let writes : (n + 4) + 3 ≡ n + 3 + 4 = omega arith in (
               read-so 0 b d early (subst (λ m. slice_get (calm_rounds m base).world.clients b ≡ Some d) reads there),
               write-so 4 b d early (subst (λ m. slice_get (calm_rounds m base).world.clients b ≡ Some d) writes there),
             )
+
+-- no `write` to the file is open after so many rounds
+plain-from : (most count file : ℕ) (base : Play) → All (WritesNotTo file) (calm_rounds (rounds_served most count) base).world.clients → (a : ℕ) (c : Client)
+    → slice_get (calm_rounds (most + 6 + count + 3) base).world.clients a ≡ Some c → WritesNotTo file c
+plain-from most count file base plain a c at =
+    let same : rounds_served most count ≡ most + 6 + count + 3 = omega arith in
+    all-get (WritesNotTo file) (calm_rounds (most + 6 + count + 3) base).world.clients a c at (subst (λ m. All (WritesNotTo file)
+    (calm_rounds m base).world.clients) same plain)
 
 pub unwritten-reads-answered : UnwrittenReadsAnswered
 unwritten-reads-answered most head events bounds within under_way count more file all plain small =
@@ -185,7 +203,9 @@ unwritten-reads-answered most head events bounds within under_way count more fil
     let last : rounds_served most count + 4 ≡ (most + 6 + count) + 7 = omega arith in
     subst (λ m. All (ReadsNot file) (calm_rounds (m + more) base).world.clients) (sym last)
     (all-found (ReadsNot file) (calm_rounds ((most + 6 + count) + 7 + more) base).world.clients (λ a c at.
-    read-so most head events bounds within under_way all count file plain more a c (subst (λ m. IsSmall (calm_rounds m base)) last small) at))
+    read-so most head events bounds within under_way all (most + 6 + count) file
+    (serves-late most head events bounds within under_way all (most + 6 + count + 2) (omega arith)) (plain-from most count file base plain) more a c
+    (subst (λ m. IsSmall (calm_rounds m base)) last small) at))
 
 pub unwritten-files-answered : UnwrittenFilesAnswered
 unwritten-files-answered most head events bounds within under_way count more file all plain small =
@@ -193,7 +213,9 @@ unwritten-files-answered most head events bounds within under_way count more fil
     let last : rounds_served most count + 8 ≡ (most + 6 + count) + 11 = omega arith in
     subst (λ m. All (HasNoCallOn file) (calm_rounds (m + more) base).world.clients) (sym last)
     (all-found (HasNoCallOn file) (calm_rounds ((most + 6 + count) + 11 + more) base).world.clients (λ a c at.
-    call-so most head events bounds within under_way all count file plain more a c (subst (λ m. IsSmall (calm_rounds m base)) last small) at))
+    call-so most head events bounds within under_way all (most + 6 + count) file
+    (serves-late most head events bounds within under_way all (most + 6 + count + 2) (omega arith)) (plain-from most count file base plain) more a c
+    (subst (λ m. IsSmall (calm_rounds m base)) last small) at))
 
 -- where no `write` is open at first
 module _ (most : ℕ) (head : Head) (events : List Event) (bounds : KeepsBounds most head events) (within : IsWithinSkew head.hosts most events)
@@ -211,9 +233,8 @@ module _ (most : ℕ) (head : Head) (events : List Event) (bounds : KeepsBounds 
   reads f a c at =
       let same : rounds_served most 4 ≡ (most + 6 + 0) + 7 + 0 = omega arith in
       let fits : rounds_unwritten most ≡ (most + 6 + 0) + 11 = omega arith in
-      read-so most head events bounds within under_way all 0 f
-      (all-found (WritesNotTo f) (calm_rounds (rounds_served most 0) (calmed head events under_way)).world.clients (λ b d there.
-      writes f (rounds_served most 0) b d there)) 0 a c
+      read-so most head events bounds within under_way all (most + 6 + 0) f
+      (serves-late most head events bounds within under_way all (most + 6 + 0 + 2) (omega arith)) (λ b d there. writes f (most + 6 + 0 + 3) b d there) 0 a c
       (fewer most head events bounds within under_way all ((most + 6 + 0) + 7) ((most + 6 + 0) + 11) (subst (λ m. IsSmall (calm_rounds m
       (calmed head events under_way))) fits small) (omega arith)) (subst (λ m. slice_get (calm_rounds m (calmed head events under_way)).world.clients a
       ≡ Some c) same at)

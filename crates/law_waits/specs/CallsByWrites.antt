@@ -1,6 +1,6 @@
 -- Of the open calls only those count that are on files to which a `write` is open: every call is answered after 4 rounds for each of them, and 17 more than
 -- the longest term has ticks.
-use Rattle.std.specs.Prelude.{◌≤◌, ℕ, ◌+◌, ◌*◌, ◌==◌, Bool, false, ◌||◌, List, [], ◌∷◌, Option, Some, None, All, length, if◌then◌else◌}
+use Rattle.std.specs.Prelude.{◌≡◌, ◌≤◌, ℕ, ◌+◌, ◌*◌, ◌==◌, Bool, false, ◌||◌, List, [], ◌∷◌, Option, Some, None, All, length, if◌then◌else◌}
 use Rattle.nq_base.specs.declared.Event.{Event}
 use Rattle.nq_promises.specs.Bounds.{KeepsBounds}
 use Rattle.nq_model.specs.Client.{Client, UnderWay}
@@ -9,6 +9,7 @@ use Rattle.nq_model.specs.World.{Head, run}
 use Rattle.law_deliveries.specs.DeliveryEnds.{AreUnderWay, calmed}
 use Rattle.law_progress.specs.CallsAreAnswered.{IsAnswered, rounds_enough}
 use Rattle.law_progress.specs.CalmRound.{calm_rounds}
+use Rattle.law_progress.specs.QuietDeliveries.{recovers}
 use Rattle.law_rounds.specs.RoundsEndQuiet.{IsSmall}
 use Rattle.law_shared.specs.SharedFilesAnswered.{file_in}
 use Rattle.law_waits.specs.UnwrittenFiles.{written_by}
@@ -62,6 +63,22 @@ AnsweredByWrites =
     → AreUnderWay (length (run head events).packets) under_way
     → IsSmall (calm_rounds (rounds_by_writes most (waiting_calls (run head events).clients) + more) (calmed head events under_way))
     → All IsAnswered (calm_rounds (rounds_by_writes most (waiting_calls (run head events).clients) + more) (calmed head events under_way)).world.clients
+
+-- rounds that are enough for so many such calls while the server serves
+abbrev pub served_rounds_by_writes : (calls : ℕ) → ℕ
+served_rounds_by_writes calls = 11 + 4 * calls
+
+-- so where the server serves already, fewer are enough
+abbrev pub ServedByWrites : Type 0
+ServedByWrites =
+    (most : ℕ) (head : Head) (events : List Event)
+    → KeepsBounds most head events
+    → IsWithinSkew head.hosts most events
+    → recovers (run head events).server.phase ≡ false
+    → (under_way : List ℕ) (more : ℕ)
+    → AreUnderWay (length (run head events).packets) under_way
+    → IsSmall (calm_rounds (served_rounds_by_writes (waiting_calls (run head events).clients) + more) (calmed head events under_way))
+    → All IsAnswered (calm_rounds (served_rounds_by_writes (waiting_calls (run head events).clients) + more) (calmed head events under_way)).world.clients
 
 -- so where few of them may wait for a `write`, as many rounds are enough as a search suggests for any number of open calls
 abbrev pub FewWritesAnswered : Type 0

@@ -1,5 +1,5 @@
 -- That these laws speak of something: a schedule keeps to all their bounds, and its calls are open for long.
-use Rattle.std.specs.Prelude.{◌≡◌, true, [], ◌∷◌, List, All, slice_get}
+use Rattle.std.specs.Prelude.{◌≡◌, true, false, [], ◌∷◌, List, All, slice_get}
 use Rattle.nq_base.specs.Block.{filled}
 use Rattle.nq_base.specs.declared.Call.{Call}
 use Rattle.nq_base.specs.declared.Event.{Event}
@@ -7,11 +7,12 @@ use Rattle.nq_model.specs.World.{Head, run}
 use Rattle.law_deliveries.specs.DeliveryEnds.{calmed}
 use Rattle.law_progress.specs.CalmRound.{calm_rounds}
 use Rattle.law_progress.specs.CalmRoundsAreLawful.{IsLawful}
+use Rattle.law_progress.specs.QuietDeliveries.{recovers}
 use Rattle.law_progress.specs.SomeNeedHalf.{is_open, late_head, late_events}
 use Rattle.law_rounds.specs.RoundsEndQuiet.{IsSmall}
 use Rattle.law_open_calls.specs.CallsAnswered.{open_calls}
 use Rattle.law_shared.specs.SharedFilesAnswered.{rounds_served}
-use Rattle.law_waits.specs.CallsByWrites.{waiting_calls, rounds_by_writes}
+use Rattle.law_waits.specs.CallsByWrites.{waiting_calls, rounds_by_writes, served_rounds_by_writes}
 use Rattle.law_waits.specs.UnwrittenFiles.{WritesNothing, rounds_unwritten}
 
 -- a crash, and then, while the server recovers, two reads and a put, and no `write`. A read is open after 15 calm rounds, and the put after 18, of the 23 that
@@ -38,3 +39,15 @@ pub record ByWritesIsMet : Type 0 where
   pub waiting : waiting_calls (run files_head files_events).clients ≡ 1
   pub unanswered : is_open (slice_get (calm_rounds 14 (calmed files_head files_events [])).world.clients 0) ≡ true
   pub small : IsSmall (calm_rounds (rounds_by_writes 6 1) (calmed files_head files_events []))
+
+-- the same calls without a crash; the newest event first
+abbrev pub served_events : List Event
+served_events = Event.Call 2 (Call.Read 2 0) ∷ Event.Call 1 (Call.Read 2 0) ∷ Event.Call 0 (Call.Write 1 0 (filled 7)) ∷ []
+
+-- the server serves, and all that was sent is lost. The `write` is open after 2 calm rounds, of the 15 that are enough by the law
+pub record ServedIsMet : Type 0 where
+  pub lawful : IsLawful 6 files_head (calmed files_head served_events [])
+  pub serves : recovers (run files_head served_events).server.phase ≡ false
+  pub waiting : waiting_calls (run files_head served_events).clients ≡ 1
+  pub unanswered : is_open (slice_get (calm_rounds 2 (calmed files_head served_events [])).world.clients 0) ≡ true
+  pub small : IsSmall (calm_rounds (served_rounds_by_writes 1) (calmed files_head served_events []))

@@ -1,8 +1,8 @@
 //! Calls that wait for rows of other hosts. The statements stand in `specs/`, and their proofs in `proofs/`.
 #![tactic(auto)]
 
-ghost use Rattle.law_waits.specs.CallsByWrites.{AnsweredByWrites, FewWritesAnswered};
-ghost use Rattle.law_waits.specs.Met.{ByWritesIsMet, UnwrittenIsMet};
+ghost use Rattle.law_waits.specs.CallsByWrites.{AnsweredByWrites, FewWritesAnswered, ServedByWrites};
+ghost use Rattle.law_waits.specs.Met.{ByWritesIsMet, ServedIsMet, UnwrittenIsMet};
 ghost use Rattle.law_waits.specs.UnwrittenFiles.{FilelessAnswered, UnwrittenFilesAnswered, UnwrittenReadsAnswered, WritelessInTime};
 
 /// In every run, whatever is under way, once the server serves: where no `write` to a file is open, no `read` and no `fetch` of it is open after 4 calm
@@ -35,6 +35,12 @@ pub fn answered_by_writes()
     ensures { AnsweredByWrites }
 {}
 
+/// In every run, whatever is under way: where the server serves already, all clients are attached and no call is open after 11 calm rounds, and 4 for each
+/// such call.
+pub fn served_by_writes()
+    ensures { ServedByWrites }
+{}
+
 /// So where 4 times these calls are no more than the longest term has ticks, and 9, all is answered after twice as many calm rounds as it has ticks, and 26.
 pub fn few_writes_answered()
     ensures { FewWritesAnswered }
@@ -48,4 +54,9 @@ pub fn unwritten_is_met()
 /// A schedule with a recovery, a `write` to one file and two reads of another meets all premises of the laws that count calls.
 pub fn by_writes_is_met()
     ensures { ByWritesIsMet }
+{}
+
+/// A schedule in which the server serves meets all premises of the law for such schedules.
+pub fn served_is_met()
+    ensures { ServedIsMet }
 {}
