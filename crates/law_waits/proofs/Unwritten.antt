@@ -52,9 +52,8 @@ use Rattle.law_answered.proofs.HearerAt.{hearer}
 use Rattle.law_answered.proofs.Hope.{file_of_call, access_of_call, Cancels, PutsOff, Hopeful, Goes, told, waits, vacated, safe-rest, safe-append, safe-none}
 use Rattle.law_answered.proofs.Queue.{packets_of, queue, queue-parts, queue-next, head-packet, rest-comes, rest-later, there-is}
 use Rattle.law_answered.proofs.Served.{IsStill, IsWant, by_read, by_lease, RowFrom, stays, shares, begins, renews, Outcome, quiet, by_own, by_others, IsServed}
-use Rattle.law_answered.proofs.ServerHopes.{IsOff, Fate, all_on, off}
 use Rattle.law_answered.proofs.UnderWay.{InOrder, TagsFit, hear-sent, serves-is}
-use Rattle.law_answered.proofs.Asking.{Caller, fate, other-hopes, goes-on}
+use Rattle.law_answered.proofs.Asking.{IsOff, Fate, all_on, off, Caller, fate, other-hopes, goes-on}
 use Rattle.law_answered.proofs.Leaving.{waits-leave, told-leaves}
 use Rattle.law_answered.proofs.Step.{IsOpen, Renewing, Calm, calm-on}
 use Rattle.law_waits.specs.UnwrittenFiles.{written_by}
