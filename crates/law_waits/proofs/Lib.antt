@@ -1,0 +1,9 @@
+pub mod Unwritten
+pub mod ReadEnds
+pub mod FiveRounds
+pub mod Theorem
+pub mod Fileless
+pub mod SomeUnwritten
+pub mod ByWrites
+pub mod SomeWrites
+pub mod SomeServed

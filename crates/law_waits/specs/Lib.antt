@@ -1,0 +1,3 @@
+pub mod UnwrittenFiles
+pub mod CallsByWrites
+pub mod Met
