@@ -18,7 +18,6 @@ use Rattle.walk_steps.proofs.Rows.{same-number, number-same}
 use Rattle.law_answered.specs.PutOff.{file_of, access_by}
 use Rattle.law_answered.proofs.Hope.{file_of_call, access_of_call, Safe, Hopeful, Goes, told, waits, vacated, InWay, safe-rest, safe-append, safe-none}
 use Rattle.law_answered.proofs.Served.{IsStill, OnlyStays, AreTold, Outcome, quiet, by_own, by_others, IsServed}
-use Rattle.law_answered.proofs.ServerHopes.{Fate, all_on, off}
 
 -- what is known of the host that asked, and of its rows
 pub record Caller (rows : List Row) (b x : ℕ) (r : Request) (c : Client) : Type 0 where
@@ -31,6 +30,24 @@ pub record Caller (rows : List Row) (b x : ℕ) (r : Request) (c : Client) : Typ
   -- no lease is later than the row
   pub held : (f : ℕ) (own : Row) → find_row f b rows ≡ Some own → holds_later own.tag (lease_on f c.leases) ≡ false
   pub holder : (f : ℕ) (own : Row) → find_row f b rows ≡ Some own → own.who ≡ c.who
+
+-- who is put off for rows of others stops hoping
+pub record IsOff (rows after : List Row) (more : List Packet) (b : ℕ) (c : Client) : Type 0 where
+  pub u : UnderWay
+  pub f : ℕ
+  pub ch : ℕ
+  pub clash : Row
+  pub opened : c.call ≡ Some u
+  pub file : file_of_call u.call ≡ Some f
+  pub way : InWay rows b f (access_of_call u.call) ch clash
+  pub told_all : (h : ℕ) (row : Row) → InWay after b f (access_of_call u.call) h row → (row.evicting ≡ true) × (n : ℕ)
+      × In more (to_host h (call n (Request.Evicted row.who f row.tag)))
+  pub only : OnlyStays rows after
+
+-- who hoped hopes on; or all but the asker do, who was put off
+pub data Fate (rows after : List Row) (clients : List Client) (y : Packet) (ys more : List Packet) (b : ℕ) (c : Client) : Type 0 where
+  all_on : ((h : ℕ) → Hopeful clients (y ∷ ys) h → Hopeful clients (ys ++ more) h) → Fate rows after clients y ys more b c
+  off : ((h : ℕ) → h ≢ b → Hopeful clients (y ∷ ys) h → Hopeful clients (ys ++ more) h) → IsOff rows after more b c → Fate rows after clients y ys more b c
 
 module _ (rows after : List Row) (clients : List Client) (y : Packet) (ys more : List Packet) (b x : ℕ) (r : Request) (c : Client)
     (at : slice_get clients b ≡ Some c) (is : y ≡ from_host b (call x r)) (served : IsServed rows after more b c.who x r) where
@@ -110,7 +127,7 @@ module _ (rows after : List Row) (clients : List Client) (y : Packet) (ys more :
 
     -- ---- put off for rows of others
 
-    only-own : (h : ℕ) → Hopeful clients (y ∷ ys) h → h ≡ b → (c.call ≡ None) → ⊥
+    pub only-own : (h : ℕ) → Hopeful clients (y ∷ ys) h → h ≡ b → (c.call ≡ None) → ⊥
     only-own h k same none = none-some k.under (sym none ∙ ap (λ (z : Client). z.call) (own-client k.client (subst
         (λ n. slice_get clients n ≡ Some k.client) same k.at)) ∙ k.opened)
 

@@ -1,6 +1,6 @@
 -- While a host shares a file, no host comes to cache it: the row that shares it stays through all packets but a REMOVE of the file, and through ticks
 -- until it ends. And a file that was removed has no rows, and never comes back.
-use Rattle.std.proofs.Common.{◌≡◌, ◌≢◌, ◌≤◌, ◌<◌, ◌⊎◌, ℕ, ◌+◌, ◌==◌, ◌&&◌, nat_le, Bool, true, false, not, List, ◌∷◌, [], ◌++◌, Option, Some, None, if◌then◌else◌, is_some, length, refl, sym, subst, ap, ◌∙◌, arith, inl, inr}
+use Rattle.std.proofs.Common.{◌≡◌, ◌≢◌, ◌≤◌, ◌<◌, ◌⊎◌, ℕ, ◌+◌, ◌==◌, ◌&&◌, nat_le, Bool, true, false, not, List, ◌∷◌, [], ◌++◌, Option, Some, None, if◌then◌else◌, is_some, refl, sym, subst, ap, ◌∙◌, arith, inl, inr}
 use Rattle.std.specs.List.{find}
 use Rattle.std.specs.Option.{option_map}
 use Rattle.std.proofs.lemmas.Bool.{and_parts}
@@ -24,11 +24,10 @@ use Rattle.nq_model.specs.Server.{Server, Phase, serving, recovering, after_noti
 use Rattle.nq_model.specs.ServerStep.{access_of, to_read, attaches, vacates, vacated_rows, tells_later, serves, leases, receive, tick, fence, is_over, is_due, end_reading}
 use Rattle.nq_model.specs.Skew.{IsWithinSkew}
 use Rattle.nq_model.specs.Table.{Table, caches, is_writing, same_tag, find_row, is_row_of, drop_host, drop_rows_of, drop_row, put_row, with_rows, after_draw}
-use Rattle.nq_model.specs.World.{Head, after_server, after_client, sending_host, run}
+use Rattle.nq_model.specs.World.{Head, run}
 use Rattle.law_bounds.proofs.LeaseIntervals.{run-runs}
 use Rattle.walk_steps.proofs.ClientMoves.{some-same, none-some}
 use Rattle.walk_steps.proofs.Runs.{none-served}
-use Rattle.walk_steps.proofs.RunCases.{Keeps, run-keeps}
 use Rattle.walk_steps.proofs.AskCases.{with_marked, IsGranted, shares_again, begins_sharing, begins_caching, renews_row}
 use Rattle.walk_steps.proofs.KeptChanges.{found-replaced, found-added, find-removed, find-not-removed}
 use Rattle.walk_steps.proofs.RowChanges.{HasUniqueKeys, kept_if, mark, mark-is, find-marked, find-put, of-key, find-kept, find-other-dropped, find-other-host-dropped, find-other-file-dropped, found-any, unique-filtered}
@@ -36,8 +35,7 @@ use Rattle.walk_steps.proofs.Rows.{choice, found-row, find-passes, same-number, 
 use Rattle.walk_steps.proofs.ServerCases.{server-hears}
 use Rattle.walk_steps.proofs.ServerMoves.{server-moves, tick-moves}
 use Rattle.walk_steps.proofs.ServerOutcomes.{line_of}
-use Rattle.walk_steps.proofs.LogFits.{fits-start}
-use Rattle.walk_steps.proofs.ServerNumbers.{IdsFitOf, ids-receive, ids-tick, ids-crash}
+use Rattle.walk_steps.proofs.ServerNumbers.{IdsFitOf}
 use Rattle.walk_steps.proofs.ServerTables.{NoneRecovering, StandingFits}
 use Rattle.law_rounds.proofs.Requests.{message-of}
 
@@ -373,25 +371,6 @@ module _ (s : Server) (now f x least : ℕ) (unique : HasUniqueKeys s.table.rows
   })
 
 -- ---- in every run
-
-ids-keep : (most : ℕ) (head : Head) → Keeps most head (λ w. IdsFitOf w.server)
-unfolding after_client after_server
-ids-keep most head = record {
-  starts = λ b. (fits-start most head b.hosts b.first_long b.first_short).ids;
-  called = λ events host c op during is g. g;
-  ticked = λ events host c during is g. g;
-  restarted = λ events host c during is g. g;
-  heard = λ events k p host c t during sent to is hears g. g;
-  received =
-      λ events k p during sent to g. ids-receive (run head events).server (sending_host p.sender) (length (run head events).packets)
-      (datagram_of p.message) g;
-  server_ticked = λ events during g. ids-tick (run head events).server ((run head events).server.now + 1) g;
-  crashed = λ events longest during long few g. ids-crash (run head events).server longest g;
-}
-
-pub run-ids : (most : ℕ) (head : Head) (events : List Event) → KeepsBounds most head events → IsWithinSkew head.hosts most events
-    → IdsFitOf (run head events).server
-run-ids most head events bounds within = run-keeps (ids-keep most head) events bounds within
 
 -- a row is of a kept file
 pub rows-kept : (most : ℕ) (head : Head) (events : List Event) → KeepsBounds most head events → IsWithinSkew head.hosts most events → (f h : ℕ) (row : Row)

@@ -18,7 +18,6 @@ use Rattle.nq_model.specs.Table.{caches, greater_mode, find_row}
 use Rattle.nq_model.specs.World.{Head, World, from_host, after_client, after_server, at_client, step, run}
 use Rattle.law_rounds.specs.RequestsAreMeant.{wanted, IsMeant}
 use Rattle.law_rounds.proofs.ClientCount.{client-count}
-use Rattle.law_rounds.proofs.HostsBelow.{get-below}
 use Rattle.law_rounds.proofs.Meant.{requests-are-meant}
 use Rattle.law_bounds.proofs.LeaseIntervals.{run-runs}
 use Rattle.law_rounds.specs.CalmRoundsAreLawful.{IsLawful}
@@ -40,6 +39,7 @@ use Rattle.law_answered.proofs.FoundLeases.{run-found}
 use Rattle.law_answered.proofs.Queue.{queue, in-comes}
 use Rattle.law_answered.proofs.Served.{IsWant, by_read, by_lease, Fits, read_fits, write_fits}
 use Rattle.law_answered.proofs.TickRenews.{Renews, tick-renews}
+use Rattle.law_rounds.proofs.ClientSteps.{get-below}
 
 -- ---- what is under way
 
@@ -135,7 +135,7 @@ all-ticks (suc count) h p all free =
     subst (λ n. OfTickets n (play_hosts count (h + 1) (play p (Event.ClientTick h)))) e (all-ticks count (h + 1) (play p (Event.ClientTick h)) one.0 one.1)
 
 -- a tick of the server's clock sends nothing
-silent : (s : Server) (now : ℕ) → (tick s now).sends ≡ []
+pub silent : (s : Server) (now : ℕ) → (tick s now).sends ≡ []
 unfolding quiet at_time opens ends_writing keeping_with with_table
 silent s now = server-ticks s now (λ (t : ServerStep). t.sends ≡ []) (record {
   waits = λ until heard last p goes. refl;

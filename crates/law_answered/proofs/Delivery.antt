@@ -54,7 +54,8 @@ use Rattle.law_answered.proofs.Hope.{Cancels, PutsOff, Clear}
 use Rattle.law_answered.proofs.Front.{Fronts, to-front, moves-from}
 use Rattle.law_answered.proofs.Queue.{packets_of, queue, queue-parts, rest-parts, before-apart, queue-next, head-packet, head-comes, rest-comes, rest-later, there-is}
 use Rattle.law_answered.proofs.Served.{IsWant, by_read, by_lease, IsServed, Fits, read_fits, write_fits, Wanting, by_call, by_renewal}
-use Rattle.law_answered.proofs.ServerHopes.{Asker, Fate, all_on, off, fate, clear-on, off-clear, off-hope}
+use Rattle.law_answered.proofs.Asking.{Fate, all_on, off, fate}
+use Rattle.law_answered.proofs.ServerHopes.{Asker, clear-on, off-clear, off-hope}
 use Rattle.law_answered.proofs.UnderWay.{InOrder, TagsFit, WantedNow, of_call, of_row, Wants, NoneRenew, Moves, all_move, all_but, Paused, hear-sent, none-renews, serves-is}
 
 -- ---- a state
@@ -158,11 +159,13 @@ module _ (most : ℕ) (head : Head) where
 
         asker-now : Asker p.world.server.table.rows p.world.clients rest b x r c
         asker-now = record {
-          same = λ t asks number. (mine.mail.asked x r c.who there (order.asks x r head-is)).same refl t asks number;
-          meant = λ t u f asks job has on. ((run-asks head p.events b c (at-run b c at)).about t u asks job has).about f on;
-          unrenewed = λ t u asks has job. st.none_renew b c t u at asks has job;
-          held = λ f own found. (tags most head p st.lawful b c at (st.on b c at)).held f own found;
-          holder = λ f own found. holder b c at f own found;
+          caller = record {
+            same = λ t asks number. (mine.mail.asked x r c.who there (order.asks x r head-is)).same refl t asks number;
+            meant = λ t u f asks job has on. ((run-asks head p.events b c (at-run b c at)).about t u asks job has).about f on;
+            unrenewed = λ t u asks has job. st.none_renew b c t u at asks has job;
+            held = λ f own found. (tags most head p st.lawful b c at (st.on b c at)).held f own found;
+            holder = λ f own found. holder b c at f own found;
+          };
           alone = alone;
           wants = λ f want w. wanting f want (st.wants b x f c r want at (subst (λ z. In (queue p) z) is (in-head y sent)) w);
           unreplied = λ f want w t a asks i inc. order.unreplied x f r want t a head-is w asks (rest-comes p k next st.rising (to_host b
@@ -181,7 +184,7 @@ module _ (most : ℕ) (head : Head) where
           none_renew = st.none_renew;
           on = st.on;
           pauses = λ a d u here has. (d, u, here, has, λ late. (refl, refl));
-          moves = by (fate p.world.server.table.rows t.server.table.rows p.world.clients y rest t.sends b x r c at is s asker-now);
+          moves = by (fate p.world.server.table.rows t.server.table.rows p.world.clients y rest t.sends b x r c at is s asker-now.caller);
         }
           where
             clear : (g : Bool) (host : ℕ) → Clear g p.world.server.table.rows p.world.clients (y ∷ rest) host

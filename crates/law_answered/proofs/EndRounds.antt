@@ -16,7 +16,6 @@ use Rattle.nq_model.specs.Table.{caches, is_writing}
 use Rattle.nq_model.specs.World.{Head, World, run}
 use Rattle.nq_promises.specs.Bounds.{KeepsBounds}
 use Rattle.law_rounds.proofs.ClientCount.{client-count}
-use Rattle.law_rounds.proofs.HostsBelow.{get-below}
 use Rattle.law_rounds.specs.DeliveryEnds.{calmed, enough_deliveries}
 use Rattle.law_bounds.proofs.LeaseIntervals.{run-runs}
 use Rattle.law_rounds.specs.CallsAreAnswered.{IsAnswered}
@@ -39,6 +38,7 @@ use Rattle.law_rounds.proofs.Quiet.{ends-quiet}
 use Rattle.law_answered.specs.StoredOnceAnswered.{StoredOnceAnswered}
 use Rattle.law_answered.proofs.LeaseEnds.{EndsWithin, hear-ends, tick-ends}
 use Rattle.law_answered.proofs.Hosts.{all-found, all-get, At, flow-keeps, ticked}
+use Rattle.law_rounds.proofs.ClientSteps.{get-below}
 
 -- ---- how long a lease runs
 

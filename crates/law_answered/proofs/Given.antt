@@ -16,7 +16,6 @@ use Rattle.nq_model.specs.ServerStep.{receive}
 use Rattle.nq_model.specs.Table.{find_row}
 use Rattle.nq_model.specs.World.{Head, World}
 use Rattle.law_rounds.proofs.ClientCount.{client-count}
-use Rattle.law_rounds.proofs.HostsBelow.{get-below}
 use Rattle.law_rounds.specs.CalmRoundsAreLawful.{IsLawful}
 use Rattle.law_rounds.proofs.CalmEnds.{IsRising}
 use Rattle.walk_steps.proofs.RowChanges.{HasUniqueKeys}
@@ -28,6 +27,7 @@ use Rattle.law_answered.proofs.TagRuns.{TagsAreNoLater, run-no-later, keys-uniqu
 use Rattle.law_answered.proofs.UnderWay.{InOrder, TagsFit}
 use Rattle.law_answered.proofs.Served.{IsWant, by_read, by_lease, IsServed}
 use Rattle.law_answered.proofs.ServedBy.{served-by}
+use Rattle.law_rounds.proofs.ClientSteps.{get-below}
 
 -- who wants a lease gives none up
 want-no-vacated : (r : Request) (f : ℕ) (want : Want) → IsWant r f want → NoVacated r

@@ -12,7 +12,7 @@ use Rattle.law_answered.specs.CallsAnswered.{open_calls, rounds_for, CallsAnswer
 use Rattle.law_answered.proofs.Counts.{at-most-all}
 use Rattle.law_answered.specs.AnsweredInTerms.{rounds_in_terms, AnsweredInTerms, LongTermsAnswered}
 
-left-over : (low high : ℕ) → low ≤ high → (r : ℕ) × (high ≡ low + r)
+pub left-over : (low high : ℕ) → low ≤ high → (r : ℕ) × (high ≡ low + r)
 left-over zero high below = (high, omega arith)
 left-over (suc low) zero below = absurd (omega arith)
 left-over (suc low) (suc high) below = let z = left-over low high (omega arith) in (z.0, let e = z.1 in omega arith)

@@ -1,5 +1,5 @@
 -- Since every call is answered, all that is delayed is stored soon, and who syncs is answered.
-use Rattle.std.proofs.Common.{◌≡◌, ◌≤◌, ℕ, ◌+◌, ◌*◌, zero, suc, sym, subst, ap, ◌∙◌, arith}
+use Rattle.std.proofs.Common.{◌≡◌, ◌≤◌, ℕ, ◌+◌, ◌*◌, sym, subst, ap, ◌∙◌, arith}
 use Rattle.std.specs.Prelude.{All}
 use Rattle.nq_base.specs.declared.Call.{Call}
 use Rattle.nq_base.specs.declared.Event.{Event}
@@ -16,6 +16,7 @@ use Rattle.law_answered.proofs.EndRounds.{stored-once-answered}
 use Rattle.law_answered.proofs.Syncs.{syncs-answered-once}
 use Rattle.law_answered.specs.CallsAnswered.{open_calls, rounds_for, CallsAnswered, FewCallsAnswered}
 use Rattle.law_answered.specs.StoredInTime.{StoredInTime, SyncsInTime}
+use Rattle.law_answered.proofs.InTerms.{left-over}
 
 split : (most calls_then more : ℕ) → rounds_for most calls_then + more ≡ 2 + (most + 6 + (4 * calls_then + 1) + more)
 split most calls_then more = omega arith
@@ -52,12 +53,6 @@ syncs-in-time calls most head events bounds within under_way more host file all 
     (subst (λ n. IsSmall (all_delivered (play (calm_rounds n base) (Event.Call host (Call.Sync file))))) e after))
 
 -- ---- few calls
-
--- so many more rounds
-left-over : (low high : ℕ) → low ≤ high → (r : ℕ) × (high ≡ low + r)
-left-over zero high below = (high, omega arith)
-left-over (suc low) zero below = absurd (omega arith)
-left-over (suc low) (suc high) below = let z = left-over low high (omega arith) in (z.0, let e = z.1 in omega arith)
 
 enough : (most calls count : ℕ) → 4 * calls ≤ most + 17 → rounds_enough most ≤ count → rounds_for most calls ≤ count
 enough most calls count few many = omega arith

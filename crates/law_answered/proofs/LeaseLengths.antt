@@ -1,7 +1,6 @@
 -- In every run each lease of a client tells a length that its file had at the server.
-use Rattle.std.proofs.Common.{◌≡◌, ◌≢◌, ℕ, ◌+◌, List, [], ◌∷◌, Option, Some, None, length, refl, sym, subst, ap, ◌∙◌, inl, inr}
+use Rattle.std.proofs.Common.{◌≡◌, ℕ, ◌+◌, List, [], ◌∷◌, Option, Some, None, length, refl, sym, subst, ap, ◌∙◌, inr}
 use Rattle.std.specs.Prelude.{slice_get, ⊤}
-use Rattle.nq_base.specs.declared.Entry.{Entry}
 use Rattle.nq_base.specs.declared.Event.{Event}
 use Rattle.nq_base.specs.declared.Grant.{Grant}
 use Rattle.nq_base.specs.declared.Party.{Party}
@@ -10,7 +9,7 @@ use Rattle.nq_base.specs.declared.Request.{Request}
 use Rattle.nq_model.specs.Client.{Client, ClientStep, Ticket, lease_on}
 use Rattle.nq_model.specs.ClientStep.{attached_client, client_call, client_tick, fresh_client, restart}
 use Rattle.nq_model.specs.Hear.{hear, inc_of}
-use Rattle.nq_model.specs.Message.{Message, Packet, reply, datagram_of}
+use Rattle.nq_model.specs.Message.{Packet, reply, datagram_of}
 use Rattle.nq_model.specs.Server.{ServerStep}
 use Rattle.nq_model.specs.ServerStep.{receive, tick, crash}
 use Rattle.nq_model.specs.World.{Head, World, after_server, after_client, at_client, after_hearing, sending_host, deliver_to_client, deliver_to, deliver, start, run}

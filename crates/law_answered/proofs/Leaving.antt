@@ -1,5 +1,6 @@
 -- A client that hears a packet, whether its call stays open or is answered: rows that it was told to give up still go.
-use Rattle.std.proofs.Common.{◌≡◌, ◌≢◌, ◌⊎◌, ℕ, ◌==◌, ◌++◌, Bool, true, false, List, [], ◌∷◌, Option, Some, None, refl, sym, subst, ap, ◌∙◌, inl, inr}
+use Rattle.std.proofs.Common.{◌≡◌, ◌≢◌, ◌⊎◌, ℕ, ◌==◌, ◌++◌, Bool, true, false, List, [], ◌∷◌, Option, Some, None, refl, sym, subst, ap, ◌∙◌, arith, inl, inr}
+use Rattle.std.proofs.lemmas.Bool.Decides.{nat_tests}
 use Rattle.nq_base.specs.declared.Grant.{Grant}
 use Rattle.nq_base.specs.declared.Reply.{Reply}
 use Rattle.nq_base.specs.declared.Request.{Request}
@@ -13,7 +14,7 @@ use Rattle.nq_model.specs.Message.{Message, Packet, call, reply}
 use Rattle.nq_model.specs.Send.{sends_request, after_seq, after_number, takes_push, gives_up, send_next}
 use Rattle.nq_model.specs.Server.{to_host}
 use Rattle.nq_model.specs.Settle.{answers, after_read, reads_cached, after_write, marks_written, settle}
-use Rattle.nq_model.specs.Table.{tag_below, find_row}
+use Rattle.nq_model.specs.Table.{tag_below, later_tag, find_row}
 use Rattle.walk_steps.proofs.ClientCases.{Core, core_of, Closed}
 use Rattle.walk_steps.proofs.ClientFacts.{Alone}
 use Rattle.walk_steps.proofs.ClientMoves.{some-same}
@@ -26,7 +27,25 @@ use Rattle.walk_steps.proofs.Worlds.{IsAt, given-by}
 use Rattle.walk_steps.proofs.Rows.{same-number, number-same}
 use Rattle.nq_model.proofs.ClientLists.{other-notice-dropped, other-notice-put, put-notice-found}
 use Rattle.law_answered.proofs.ClientHopes.{Leaves, gives_up as leaves_gives_up, notes as leaves_notes}
-use Rattle.law_answered.proofs.HearerAt.{later-of-two, later-of-old}
+
+-- ---- tags
+
+pub tag-one : (a b : Tag) → tag_below a b ≡ false → tag_below b a ≡ false → a ≡ b
+tag-one a b e f =
+    let boots : a.boot ≡ b.boot = grind (arith, nat_tests) in
+    let numbers : a.number ≡ b.number = grind (arith, nat_tests) in
+    ap (λ n. record { boot = n; number = a.number }) boots ∙ ap (λ n. record { boot = b.boot; number = n }) numbers
+
+-- the later of a row's tag and one that is no later is the row's
+pub later-of-two : (a b : Tag) → tag_below b a ≡ false → later_tag a b ≡ b
+later-of-two a b e = by (tag_below a b) refl
+  where
+    by : (t : Bool) → tag_below a b ≡ t → later_tag a b ≡ b
+    by true f = rw f refl
+    by false f = rw f (tag-one a b f e)
+
+pub later-of-old : (a b : Tag) → tag_below a b ≡ false → later_tag a b ≡ a
+later-of-old a b e = rw e refl
 
 -- ---- notices
 

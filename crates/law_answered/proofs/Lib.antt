@@ -28,9 +28,11 @@ pub mod HeardNotices
 pub mod Queue
 pub mod Hope
 pub mod Served
+pub mod Asking
 pub mod ServerHopes
 pub mod ClientHopes
 pub mod CallRequests
+pub mod Leaving
 pub mod HearerAt
 pub mod Counts
 pub mod UnderWay
@@ -53,8 +55,6 @@ pub mod Given
 pub mod CallsAnswered
 pub mod Waiters
 pub mod Barred
-pub mod Leaving
-pub mod Asking
 pub mod Step
 pub mod CalmRounds
 pub mod SharedRounds

@@ -20,7 +20,6 @@ use Rattle.nq_model.specs.Profile.{xid_end}
 use Rattle.nq_model.specs.Server.{Server, to_host, notices, after_notices, keeping, keeping_with, with_table, quiet, drops, says}
 use Rattle.nq_model.specs.ServerStep.{attaches, vacates, tells_later, serves, leases, receive}
 use Rattle.nq_model.specs.World.{Head, World, from_host, after_client, after_server, sending_host, step, run}
-use Rattle.law_rounds.proofs.HostsBelow.{get-below}
 use Rattle.law_bounds.proofs.LeaseIntervals.{run-runs}
 use Rattle.law_rounds.specs.CalmRoundsAreLawful.{IsLawful}
 use Rattle.law_rounds.specs.QuietDeliveries.{recovers}
@@ -38,6 +37,7 @@ use Rattle.walk_steps.proofs.ServerOutcomes.{error-no-reply, IsPlain, unattached
 use Rattle.law_rounds.proofs.Coming.{Delivery, no_packet, at_server, at_host, ignored, no_client, delivery}
 use Rattle.law_answered.proofs.Hosts.{At, stepped}
 use Rattle.law_answered.proofs.LookTickets.{is_look, Looking, hear-looking}
+use Rattle.law_rounds.proofs.ClientSteps.{get-below}
 
 -- ---- what the server sends
 
@@ -68,7 +68,7 @@ drawn-no-look (Request.Lookup who name) n is look = none-some n is
 drawn-no-look (Request.GetAttr who f) n is look = none-some n is
 drawn-no-look other n is look = let bad : false ≡ true = look in cc
 
-done-not : (i value inc : ℕ) (st : Refusal) (z : Request) → done_reply i value z ≡ Reply.Refused inc st → ⊥
+pub done-not : (i value inc : ℕ) (st : Refusal) (z : Request) → done_reply i value z ≡ Reply.Refused inc st → ⊥
 done-not i value inc st (Request.Create who seq name blocks) e = cc
 done-not i value inc st (Request.Write who seq file block first last push body) e = cc
 done-not i value inc st (Request.Resize who seq q file blocks) e = cc
@@ -187,12 +187,12 @@ get-either [] ys n q is = inr (in-get ys n q is)
 get-either (x ∷ xs) ys zero q is = inl is
 get-either (x ∷ xs) ys (suc n) q is = get-either xs ys n q is
 
-from-least : (first count n : ℕ) → In (numbers_from first count) n → first ≤ n
+pub from-least : (first count n : ℕ) → In (numbers_from first count) n → first ≤ n
 from-least first zero n i = absurd i
 from-least first (suc count) n (inl e) = omega arith
 from-least first (suc count) n (inr i) = let more = from-least (first + 1) count n i in omega arith
 
-still-fresh : (e : Event) (fresh : List ℕ) (n : ℕ) → In (delivered e fresh) n → In fresh n
+pub still-fresh : (e : Event) (fresh : List ℕ) (n : ℕ) → In (delivered e fresh) n → In fresh n
 still-fresh (Event.Deliver k) fresh n i = (in-filter (λ m. not (m == k)) fresh n i).0
 still-fresh (Event.Call host op) fresh n i = i
 still-fresh Event.ServerTick fresh n i = i

@@ -8,11 +8,9 @@ use Rattle.nq_model.specs.ClientStep.{client_tick}
 use Rattle.nq_model.specs.Lines.{Play, play, play_hosts, play_rounds}
 use Rattle.nq_model.specs.Message.{Message, Packet}
 use Rattle.nq_model.specs.Profile.{skew, write_slack}
-use Rattle.nq_model.specs.Server.{Server, ServerStep, quiet, keeping_with, with_table}
-use Rattle.nq_model.specs.ServerStep.{tick, at_time, opens, ends_writing}
+use Rattle.nq_model.specs.Server.{Server}
 use Rattle.nq_model.specs.World.{Head, World, from_host, after_client, after_server, at_client, step}
 use Rattle.law_rounds.proofs.ClientCount.{client-count}
-use Rattle.law_rounds.proofs.HostsBelow.{get-below}
 use Rattle.law_rounds.specs.DeliveryEnds.{calmed, enough_deliveries}
 use Rattle.law_rounds.specs.CalmRound.{calm_round, calm_rounds}
 use Rattle.law_rounds.specs.CalmRoundsAreLawful.{IsLawful}
@@ -26,7 +24,6 @@ use Rattle.walk_steps.proofs.ClientFacts.{Alone}
 use Rattle.walk_steps.proofs.ClientMoves.{none-some}
 use Rattle.walk_steps.proofs.Packets.{In}
 use Rattle.walk_steps.proofs.Worlds.{run-holds}
-use Rattle.walk_steps.proofs.ServerCases.{server-ticks}
 use Rattle.law_rounds.specs.RoundsEndQuiet.{IsSmall, all_delivered, IsQuiet}
 use Rattle.law_rounds.proofs.Flows.{round-small, rounds-small}
 use Rattle.law_rounds.proofs.RecoveryRounds.{recoveries-end}
@@ -35,21 +32,13 @@ use Rattle.law_answered.proofs.EndRounds.{fresh-quiet}
 use Rattle.law_answered.proofs.Hosts.{all-found, At, ticked}
 use Rattle.law_answered.proofs.LookTickets.{Looking, tick-looking, tick-opens}
 use Rattle.law_answered.proofs.LookReplies.{State, flow-state, comes-from, no-replies}
+use Rattle.law_answered.proofs.Begin.{silent}
+use Rattle.law_rounds.proofs.ClientSteps.{get-below}
 
 -- ---- nothing under way is for a host
 
 abbrev ForServer : Play → Type 0
 ForServer p = (q : Packet) → Comes p q → (host : ℕ) → q.to ≡ Party.Client host → ⊥
-
--- a tick of the server's clock sends nothing
-silent : (s : Server) (now : ℕ) → (tick s now).sends ≡ []
-unfolding quiet at_time opens ends_writing keeping_with with_table
-silent s now = server-ticks s now (λ (t : ServerStep). t.sends ≡ []) (record {
-  waits = λ until heard last p goes. refl;
-  opening = λ until heard last p over. refl;
-  ends_reading = λ p ends. refl;
-  ending_writing = λ row p due. refl;
-})
 
 own-packets : (h : ℕ) (ms : List Message) (q : Packet) (host : ℕ) → In (map (from_host h) ms) q → q.to ≡ Party.Client host → ⊥
 own-packets h [] q host j to = j

@@ -2,7 +2,7 @@
 use Rattle.std.proofs.Common.{◌≡◌, ◌≤◌, ◌<◌, ◌⊎◌, ℕ, ◌+◌, ◌-◌, ◌==◌, ◌++◌, not, true, zero, suc, List, [], ◌∷◌, Some, length, refl, sym, ap, ◌∙◌, arith, inl, inr}
 use Rattle.std.specs.Prelude.{map, slice_get}
 use Rattle.nq_base.specs.declared.Event.{Event}
-use Rattle.nq_model.specs.Lines.{Play, play, delivered, numbers_from, added}
+use Rattle.nq_model.specs.Lines.{Play, play, delivered, added}
 use Rattle.nq_model.specs.Message.{Packet}
 use Rattle.nq_model.specs.World.{step}
 use Rattle.law_rounds.proofs.Items.{Rise}
@@ -13,6 +13,7 @@ use Rattle.walk_steps.proofs.Members.{in-filter}
 use Rattle.walk_steps.proofs.Packets.{In, in-append}
 use Rattle.walk_steps.proofs.Rows.{number-same}
 use Rattle.law_rounds.proofs.Next.{OneLink, IsNext, sent-later}
+use Rattle.law_answered.proofs.LookReplies.{from-least, still-fresh}
 
 -- ---- lists by place
 
@@ -52,19 +53,6 @@ rise-bounds low high n (k ∷ numbers) r (inl e) = let within = rise-high (k + 1
     rise-high low high (m ∷ numbers) r = let rest = rise-high (m + 1) high numbers r.1 in let first : low ≤ m = r.0 in omega arith
 rise-bounds low high n (k ∷ numbers) r (inr i) = let rest = rise-bounds (k + 1) high n numbers r.1 i in let first : low ≤ k = r.0 in let least = rest.0 in
     (omega arith, rest.1)
-
-from-least : (first count n : ℕ) → In (numbers_from first count) n → first ≤ n
-from-least first zero n i = absurd i
-from-least first (suc count) n (inl e) = omega arith
-from-least first (suc count) n (inr i) = let more = from-least (first + 1) count n i in omega arith
-
-pub still-fresh : (e : Event) (fresh : List ℕ) (n : ℕ) → In (delivered e fresh) n → In fresh n
-still-fresh (Event.Deliver k) fresh n i = (in-filter (λ m. not (m == k)) fresh n i).0
-still-fresh (Event.Call host op) fresh n i = i
-still-fresh Event.ServerTick fresh n i = i
-still-fresh (Event.ClientTick host) fresh n i = i
-still-fresh (Event.Restart host) fresh n i = i
-still-fresh (Event.Crash longest) fresh n i = i
 
 -- ---- packets under way
 

@@ -47,12 +47,12 @@ serves-not : (s : Server) → s.phase ≡ serving → IsRecovering s → ⊥
 serves-not s serves rec = let two : serving ≡ recovering rec.until rec.heard rec.last = sym serves ∙ rec.phase in cc
 
 -- the file of a request that asks the lease table
-asked-file : (r : Request) (file : ℕ) → requested_file r ≡ Some file → (file_of r ≡ Some file) × (access_by r ≡ access_of (wanted_by r))
+pub asked-file : (r : Request) (file : ℕ) → requested_file r ≡ Some file → (file_of r ≡ Some file) × (access_by r ≡ access_of (wanted_by r))
 asked-file (Request.Read who q f block want) file is = (is, refl)
 asked-file (Request.GetLease who f want) file is = (is, refl)
 asked-file other file is = none-some file is
 
-changed-file : (r : Request) (file : ℕ) → file_changed_by r ≡ Some file → (file_of r ≡ Some file) × (access_by r ≡ Access.Write)
+pub changed-file : (r : Request) (file : ℕ) → file_changed_by r ≡ Some file → (file_of r ≡ Some file) × (access_by r ≡ Access.Write)
 changed-file (Request.Write who seq f block first last push body) file is = (is, refl)
 changed-file (Request.Resize who seq q f blocks) file is = (is, refl)
 changed-file (Request.Remove who seq q f) file is = (is, refl)

@@ -11,8 +11,8 @@ use Rattle.nq_model.specs.Hear.{hear}
 use Rattle.nq_model.specs.Kept.{host_row}
 use Rattle.nq_model.specs.Lines.{Play, play, play_hosts, play_rounds}
 use Rattle.nq_model.specs.Message.{Message, Packet, call, reply, datagram_of}
-use Rattle.nq_model.specs.Server.{Server, ServerStep, quiet, keeping_with, with_table, to_host}
-use Rattle.nq_model.specs.ServerStep.{receive, tick, at_time, opens, ends_writing}
+use Rattle.nq_model.specs.Server.{Server, to_host}
+use Rattle.nq_model.specs.ServerStep.{receive}
 use Rattle.nq_model.specs.World.{Head, World, from_host, after_client, after_server, at_client, sending_host, step, run}
 use Rattle.law_rounds.proofs.ClientCount.{client-count}
 use Rattle.law_bounds.proofs.LeaseIntervals.{run-runs}
@@ -31,20 +31,10 @@ use Rattle.walk_steps.proofs.Packets.{in-get, Told, not-both, message-same}
 use Rattle.walk_steps.proofs.Sequences.{Seqs}
 use Rattle.walk_steps.proofs.Worlds.{Holds, run-holds, to-told, received-said, get-set-same, get-set-other}
 use Rattle.walk_steps.proofs.Rows.{same-number, number-same}
-use Rattle.walk_steps.proofs.ServerCases.{server-ticks}
 use Rattle.law_answered.proofs.InLine.{InLine, empty-line, other-line, client-line, server-line}
 use Rattle.law_answered.proofs.NewPackets.{get-mapped}
 use Rattle.law_answered.proofs.StepNumbers.{hear-sent, tick-sent}
-
--- a tick of the server's clock sends nothing
-pub silent : (s : Server) (now : ℕ) → (tick s now).sends ≡ []
-unfolding quiet at_time opens ends_writing keeping_with with_table
-silent s now = server-ticks s now (λ (t : ServerStep). t.sends ≡ []) (record {
-  waits = λ until heard last p goes. refl;
-  opening = λ until heard last p over. refl;
-  ends_reading = λ p ends. refl;
-  ending_writing = λ row p due. refl;
-})
+use Rattle.law_answered.proofs.Begin.{silent}
 
 -- what another host sends, or nothing
 others-sent : (host h : ℕ) → host ≢ h → (ms : List Message) (q : Packet) (i : ℕ) → slice_get (map (from_host h) ms) i ≡ Some q

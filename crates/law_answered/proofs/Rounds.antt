@@ -9,7 +9,6 @@ use Rattle.nq_model.specs.Message.{Packet, call}
 use Rattle.nq_model.specs.Profile.{patience}
 use Rattle.nq_model.specs.World.{Head, World}
 use Rattle.law_rounds.proofs.ClientCount.{client-count}
-use Rattle.law_rounds.proofs.HostsBelow.{get-below}
 use Rattle.law_rounds.specs.CalmRoundsAreLawful.{IsLawful}
 use Rattle.law_rounds.specs.QuietDeliveries.{recovers}
 use Rattle.law_rounds.proofs.Attaching.{tick-stays}
@@ -35,6 +34,7 @@ use Rattle.law_answered.proofs.Given.{begins}
 use Rattle.law_answered.proofs.Hope.{PutsOff, Hopeful, Clear, safe-none}
 use Rattle.law_answered.proofs.Queue.{packets_of, queue, in-comes}
 use Rattle.law_answered.proofs.Ticks.{tick-pause}
+use Rattle.law_rounds.proofs.ClientSteps.{get-below}
 
 -- ---- who pauses
 

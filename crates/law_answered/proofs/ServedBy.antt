@@ -11,7 +11,7 @@ use Rattle.nq_base.specs.declared.Verdict.{Verdict}
 use Rattle.nq_base.specs.declared.Want.{Want}
 use Rattle.nq_base.specs.declared.Who.{Who}
 use Rattle.nq_model.specs.Ask.{conflicts, marked, mode_conflicts, term_of, sharing_row, caching_row, shared_again, renewed_row}
-use Rattle.nq_model.specs.Decide.{in_the_way, verdict_reply, done_reply, decides, creates, writes_through, stores, stores_recovering, wrote, resizes, removes, puts_off, commits}
+use Rattle.nq_model.specs.Decide.{in_the_way, verdict_reply, decides, creates, writes_through, stores, stores_recovering, wrote, resizes, removes, puts_off, commits}
 use Rattle.nq_model.specs.Hear.{is_put_off, wants_of}
 use Rattle.nq_model.specs.LeaseInterval.{requested_file}
 use Rattle.nq_model.specs.Message.{Message, Packet, call, reply, Datagram, request, datagram_of, asker, sequence_of}
@@ -25,7 +25,7 @@ use Rattle.walk_steps.proofs.AskCases.{shares_again, begins_sharing, begins_cach
 use Rattle.walk_steps.proofs.RowChanges.{HasUniqueKeys, of-key, mark-is, found-marked, found-put, found-any, is-clash, no-clash}
 use Rattle.walk_steps.proofs.Rows.{found-row, find-passes, number-same, same-number}
 use Rattle.walk_steps.proofs.ServerCases.{server-hears}
-use Rattle.walk_steps.proofs.ServerOutcomes.{error-no-reply, line_of, wanted_by, file_changed_by, IsRecovering, IsPlain, unattached, attached_again, not_yet, no_entry, entry, no_attributes, attributes, no_file, no_block, decided_again, is_old, IsDeclined, bad_length, name_taken, no_room, not_kept, outside, no_row, not_under, not_over, not_while_recovering, bad_size, no_room_to_grow}
+use Rattle.walk_steps.proofs.ServerOutcomes.{error-no-reply, line_of, wanted_by, IsRecovering, IsPlain, unattached, attached_again, not_yet, no_entry, entry, no_attributes, attributes, no_file, no_block, decided_again, is_old, IsDeclined, bad_length, name_taken, no_room, not_kept, outside, no_row, not_under, not_over, not_while_recovering, bad_size, no_room_to_grow}
 use Rattle.walk_steps.proofs.Replies.{replies-are}
 use Rattle.walk_steps.proofs.RowFacts.{vacated-takes, in-the-way, holder-told}
 use Rattle.walk_steps.proofs.RowsAfter.{GoesOn, RowIs, goes_on, waits, granted, rows-are, rows-go, RowGoes, stays as stands_on, vacated, attached, removed}
@@ -33,6 +33,8 @@ use Rattle.law_answered.proofs.InLine.{came}
 use Rattle.law_answered.specs.PutOff.{file_of, access_by}
 use Rattle.law_answered.proofs.Hope.{InWay}
 use Rattle.law_answered.proofs.Served.{IsStill, IsWant, by_read, by_lease, RowFrom, stays, shares, begins, renews, OnlyStays, AreTold, Outcome, quiet, by_own, by_others, IsServed}
+use Rattle.law_answered.proofs.PutOffs.{asked-file, changed-file}
+use Rattle.law_answered.proofs.LookReplies.{done-not}
 
 -- ---- requests
 
@@ -52,25 +54,7 @@ wanted-file (Request.Read who q file block (Some w)) f want on wants = let same 
 wanted-file (Request.GetLease who file w) f want on wants = number-same file f (some-same file f on)
 wanted-file other f want on wants = none-some f on
 
-asked-file : (r : Request) (file : ℕ) → requested_file r ≡ Some file → (file_of r ≡ Some file) × (access_by r ≡ access_of (wanted_by r))
-asked-file (Request.Read who q f block want) file is = (is, refl)
-asked-file (Request.GetLease who f want) file is = (is, refl)
-asked-file other file is = none-some file is
-
-changed-file : (r : Request) (file : ℕ) → file_changed_by r ≡ Some file → (file_of r ≡ Some file) × (access_by r ≡ Access.Write)
-changed-file (Request.Write who seq f block first last push body) file is = (is, refl)
-changed-file (Request.Resize who seq q f blocks) file is = (is, refl)
-changed-file (Request.Remove who seq q f) file is = (is, refl)
-changed-file other file is = none-some file is
-
 -- ---- replies
-
-done-not : (i value inc : ℕ) (st : Refusal) (z : Request) → done_reply i value z ≡ Reply.Refused inc st → ⊥
-done-not i value inc st (Request.Create who seq name blocks) e = cc
-done-not i value inc st (Request.Write who seq file block first last push body) e = cc
-done-not i value inc st (Request.Resize who seq q file blocks) e = cc
-done-not i value inc st (Request.Remove who seq q file) e = cc
-done-not i value inc st other e = cc
 
 status-of : (i j : ℕ) (a b : Refusal) → Reply.Refused i a ≡ Reply.Refused j b → a ≡ b
 status-of i j a b e = cc

@@ -1,7 +1,7 @@
 -- Four rounds in which a file stays shared: whoever has a call on it asks, and then no other host caches the file any more; and as he asks again he is
 -- answered.
 use Rattle.std.proofs.Common.{◌≡◌, ◌≢◌, ◌≤◌, ◌<◌, ◌⊎◌, ℕ, ◌+◌, Bool, true, false, nat_le, zero, suc, List, [], ◌∷◌, Option, Some, None, length, refl, sym, subst, ap, ◌∙◌, arith, inl, inr}
-use Rattle.std.specs.Prelude.{not, slice_get}
+use Rattle.std.specs.Prelude.{slice_get}
 use Rattle.nq_base.specs.declared.Call.{Call}
 use Rattle.nq_base.specs.declared.Event.{Event}
 use Rattle.nq_base.specs.declared.Request.{Request}
@@ -9,13 +9,12 @@ use Rattle.nq_base.specs.declared.Row.{Row}
 use Rattle.nq_base.specs.declared.Want.{Want}
 use Rattle.nq_model.specs.Client.{Client, UnderWay}
 use Rattle.nq_model.specs.ClientStep.{client_tick}
-use Rattle.nq_model.specs.Lines.{Play, play, play_flow, flow_first, play_hosts, play_rounds}
-use Rattle.nq_model.specs.Server.{serving, recovering, Server, ServerStep, quiet, keeping_with, with_table}
-use Rattle.nq_model.specs.ServerStep.{tick, at_time, opens, ends_writing, end_reading, is_over}
-use Rattle.nq_model.specs.Table.{caches, find_row, is_row_of, with_rows}
-use Rattle.nq_model.specs.World.{Head, World, after_client, after_server, at_client}
+use Rattle.nq_model.specs.Lines.{Play, play, play_flow, flow_first, play_rounds}
+use Rattle.nq_model.specs.Server.{Server, quiet}
+use Rattle.nq_model.specs.ServerStep.{tick}
+use Rattle.nq_model.specs.Table.{caches, find_row}
+use Rattle.nq_model.specs.World.{Head, World, after_server}
 use Rattle.law_rounds.proofs.ClientCount.{client-count}
-use Rattle.law_rounds.proofs.HostsBelow.{get-below}
 use Rattle.law_rounds.specs.DeliveryEnds.{enough_deliveries}
 use Rattle.law_rounds.proofs.Flow.{stays-empty}
 use Rattle.law_rounds.specs.CalmRound.{calm_round, calm_rounds}
@@ -28,8 +27,7 @@ use Rattle.law_answered.proofs.TagRuns.{keys-unique}
 use Rattle.walk_steps.proofs.ClientFacts.{Alone}
 use Rattle.walk_steps.proofs.ClientMoves.{some-same, none-some}
 use Rattle.walk_steps.proofs.Worlds.{run-holds}
-use Rattle.walk_steps.proofs.RowChanges.{HasUniqueKeys, found-kept, unique-filtered}
-use Rattle.walk_steps.proofs.ServerCases.{server-ticks}
+use Rattle.walk_steps.proofs.RowChanges.{HasUniqueKeys}
 use Rattle.walk_steps.proofs.ServerMoves.{tick-keeps}
 use Rattle.walk_steps.proofs.Tests.{is-at-most, is-not-at-most}
 use Rattle.law_answered.proofs.Calling.{hear-keeps}
@@ -40,11 +38,12 @@ use Rattle.law_answered.proofs.Frames.{no-hope}
 use Rattle.law_answered.proofs.Hope.{file_of_call, Hopeful, Goes, told, waits, vacated}
 use Rattle.law_answered.proofs.Queue.{packets_of, queue}
 use Rattle.law_answered.proofs.Served.{Fits}
-use Rattle.law_answered.proofs.Ticks.{tick-pause}
+use Rattle.law_answered.proofs.Ticks.{tick-pause, hosts-server, rows-tick}
 use Rattle.law_answered.proofs.UnderWay.{WantedNow, of_call, of_row, serves-is}
 use Rattle.law_answered.proofs.Barred.{Barred, shared, gone, gone-tick, shared-tick}
 use Rattle.law_answered.proofs.CalmRounds.{Round, done-lawful, done-fresh, done-serves, after-ticks, next-state, early-hopes, soon}
 use Rattle.law_answered.proofs.Step.{IsOpen, Over, Going, NoCache, Bar, NoWish, Renewing, Unwanted, Shut, fits-on, Calm, calm-on, Cut, Goal, over, open_on, delivers, delivered-now}
+use Rattle.law_rounds.proofs.ClientSteps.{get-below}
 
 -- ---- what stays so of a client
 
@@ -113,30 +112,6 @@ module _ (most : ℕ) (head : Head) (a : ℕ) where
   rounds-call op n p l all = rounds-of (λ z. z ≡ op) n p l all
 
 -- ---- ticks of the server
-
-hosts-server : (count h : ℕ) (p : Play) → (play_hosts count h p).world.server ≡ p.world.server
-unfolding after_client
-hosts-server zero h p = refl
-hosts-server (suc count) h p = hosts-server count (h + 1) (play p (Event.ClientTick h)) ∙ by (slice_get p.world.clients h)
-  where
-    by : (o : Option Client) → (at_client p.world h (λ c. client_tick c (c.now + 1)) o).server ≡ p.world.server
-    by None = refl
-    by (Some c) = refl
-
--- a row that stands after a tick of a server that serves stood before
-rows-tick : (s : Server) (now : ℕ) → HasUniqueKeys s.table.rows → s.phase ≡ serving → (f h : ℕ) (row : Row)
-    → find_row f h (tick s now).server.table.rows ≡ Some row → find_row f h s.table.rows ≡ Some row
-unfolding quiet at_time opens ends_writing keeping_with with_table with_rows
-rows-tick s now unique phase = server-ticks s now (λ (t : ServerStep). (f h : ℕ) (row : Row) → find_row f h t.server.table.rows ≡ Some row
-    → find_row f h s.table.rows ≡ Some row) (record {
-      waits = λ until heard last p goes. let two : serving ≡ recovering until heard last = sym phase ∙ p in absurd (cc);
-      opening = λ until heard last p over. let two : serving ≡ recovering until heard last = sym phase ∙ p in absurd (cc);
-      ends_reading = λ p none f h row found. (found-kept (λ r. not (is_over now r)) f h s.table.rows row unique found).0;
-      ending_writing = λ ended p due f h row found.
-          (found-kept (λ r. not (is_over now r)) f h s.table.rows row unique
-          (found-kept (λ r. not (is_row_of ended.file ended.who.host r)) f h (end_reading now s.table.rows) row (unique-filtered (λ r. not
-          (is_over now r)) s.table.rows unique) found).0).0;
-    })
 
 -- a flow, and then another
 flow-more : (n m : ℕ) (p : Play) → play_flow (n + m) p ≡ play_flow m (play_flow n p)

@@ -7,7 +7,6 @@ use Rattle.nq_base.specs.declared.Call.{Call}
 use Rattle.nq_base.specs.declared.Event.{Event}
 use Rattle.nq_promises.specs.Bounds.{KeepsBounds, BootsWithin}
 use Rattle.nq_model.specs.Lines.{Play, play}
-use Rattle.nq_model.specs.Skew.{is_within_skew}
 use Rattle.nq_model.specs.Stepped.{most_events, most_sent}
 use Rattle.nq_model.specs.World.{run}
 use Rattle.nq_model.proofs.SkewTest.{skew-test-is-sound}
@@ -23,6 +22,7 @@ use Rattle.law_rounds.specs.WholeRounds.{is_next, play_order, IsInOrder, whole_r
 use Rattle.law_answered.specs.CallsAnswered.{open_calls, rounds_for}
 use Rattle.law_answered.specs.WholeCallsAnswered.{served_rounds_for}
 use Rattle.law_answered.specs.WholeMet.{pair_head, pair_events, both, pair_calmed, put_off_first, WholeRoundsAreMet, overtakings, LinksMatter}
+use Rattle.law_answered.proofs.SomeShared.{pair-within}
 
 -- ---- tests
 
@@ -64,10 +64,6 @@ pair-boots = one-first 6 (Event.Call 1 (Call.WriteSync 1 0 (filled 7))) (Event.C
 
 pair-bounds : KeepsBounds 6 pair_head pair_events
 pair-bounds = record { hosts = omega arith; first_long = omega arith; first_short = omega arith; boots = pair-boots }
-
-pair-within : is_within_skew 2 6 pair_events ≡ true
-unfolding filled zeros
-pair-within = refl
 
 pair-lawful : IsLawful 6 pair_head pair_calmed
 unfolding calmed

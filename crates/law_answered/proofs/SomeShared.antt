@@ -36,7 +36,7 @@ pair-boots =
 pair-bounds : KeepsBounds 6 pair_head pair_events
 pair-bounds = record { hosts = omega arith; first_long = omega arith; first_short = omega arith; boots = pair-boots }
 
-pair-within : is_within_skew 2 6 pair_events ≡ true
+pub pair-within : is_within_skew 2 6 pair_events ≡ true
 unfolding filled zeros
 pair-within = refl
 

@@ -65,10 +65,10 @@ use Rattle.law_answered.proofs.HearerAt.{hearer}
 use Rattle.law_answered.proofs.Hope.{file_of_call, access_of_call, conflict-caches, Cancels, PutsOff, Hopeful, Goes, told, waits, vacated, InWay, safe-rest, safe-append, safe-none}
 use Rattle.law_answered.proofs.Queue.{packets_of, queue, queue-parts, queue-next, head-packet, rest-comes, rest-later, there-is}
 use Rattle.law_answered.proofs.Served.{IsStill, IsWant, by_read, by_lease, RowFrom, stays, shares, begins, renews, Outcome, quiet, by_own, by_others, IsServed, Fits, read_fits, write_fits}
-use Rattle.law_answered.proofs.ServerHopes.{IsOff, Fate, all_on, off}
 use Rattle.law_answered.proofs.UnderWay.{InOrder, TagsFit, hear-sent, serves-is}
-use Rattle.law_answered.proofs.Asking.{Caller, fate, other-hopes, goes-on}
-use Rattle.law_answered.proofs.Barred.{Shares, Barred, shared, gone, gone-receive, shared-receive, run-ids, rows-kept}
+use Rattle.law_answered.proofs.Asking.{Caller, IsOff, Fate, all_on, off, fate, other-hopes, goes-on}
+use Rattle.law_answered.proofs.Barred.{Shares, Barred, shared, gone, gone-receive, shared-receive, rows-kept}
+use Rattle.law_files.proofs.ChainWorlds.{run-ids}
 use Rattle.law_answered.proofs.Leaving.{waits-leave, told-leaves}
 
 -- ---- rows and calls

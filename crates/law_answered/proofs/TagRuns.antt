@@ -44,8 +44,8 @@ use Rattle.walk_steps.proofs.ServerMoves.{tick-moves}
 use Rattle.walk_steps.proofs.ServerTables.{StandingFits, NoneRecovering}
 use Rattle.law_answered.specs.NoTagIsLater.{NoTagIsLater, RowNoticesAreHeard}
 use Rattle.law_answered.proofs.InLine.{said-no-call}
-use Rattle.law_answered.proofs.QueueRounds.{silent}
 use Rattle.law_answered.proofs.TagSteps.{Knows, KnowsOf, Leaves, call-leaves, tick-leaves, hear-leaves, restart-leaves}
+use Rattle.law_answered.proofs.Begin.{silent}
 
 -- ---- tags and rows
 

@@ -14,7 +14,6 @@ use Rattle.nq_model.specs.World.{Head, World, after_client, after_server, at_cli
 use Rattle.nq_model.specs.Skew.{IsWithinSkew}
 use Rattle.nq_promises.specs.Bounds.{KeepsBounds}
 use Rattle.law_rounds.proofs.ClientCount.{client-count}
-use Rattle.law_rounds.proofs.HostsBelow.{get-below}
 use Rattle.law_rounds.specs.CalmRoundsAreLawful.{IsLawful}
 use Rattle.law_rounds.specs.QuietDeliveries.{recovers}
 use Rattle.law_rounds.proofs.CalmIsLawful.{round}
@@ -29,6 +28,7 @@ use Rattle.law_answered.proofs.LookTickets.{tick-opens}
 use Rattle.law_answered.proofs.UnderWay.{serves-is}
 use Rattle.law_answered.proofs.Frames.{NoWay}
 use Rattle.law_answered.proofs.Hope.{file_of_call, access_of_call, InWay}
+use Rattle.law_rounds.proofs.ClientSteps.{get-below}
 
 -- ---- rows
 
@@ -42,7 +42,7 @@ keys-unique most head events bounds within phase = by (subst (λ ph. StandingFit
     by fits = fits.unique
 
 -- a row that stands after a tick of a server that serves stood before
-rows-tick : (s : Server) (now : ℕ) → HasUniqueKeys s.table.rows → s.phase ≡ serving → (f h : ℕ) (row : Row)
+pub rows-tick : (s : Server) (now : ℕ) → HasUniqueKeys s.table.rows → s.phase ≡ serving → (f h : ℕ) (row : Row)
     → find_row f h (tick s now).server.table.rows ≡ Some row → find_row f h s.table.rows ≡ Some row
 unfolding quiet at_time opens ends_writing keeping_with with_table with_rows
 rows-tick s now unique phase = server-ticks s now (λ (t : ServerStep). (f h : ℕ) (row : Row) → find_row f h t.server.table.rows ≡ Some row
@@ -56,7 +56,7 @@ rows-tick s now unique phase = server-ticks s now (λ (t : ServerStep). (f h : �
           (is_over now r)) s.table.rows unique) found).0).0;
     })
 
-hosts-server : (count h : ℕ) (p : Play) → (play_hosts count h p).world.server ≡ p.world.server
+pub hosts-server : (count h : ℕ) (p : Play) → (play_hosts count h p).world.server ≡ p.world.server
 unfolding after_client
 hosts-server zero h p = refl
 hosts-server (suc count) h p = hosts-server count (h + 1) (play p (Event.ClientTick h)) ∙ by (slice_get p.world.clients h)

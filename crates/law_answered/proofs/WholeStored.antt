@@ -7,7 +7,6 @@ use Rattle.nq_model.specs.ClientStep.{client_tick}
 use Rattle.nq_model.specs.Lines.{Play}
 use Rattle.nq_model.specs.World.{Head, World, run}
 use Rattle.law_rounds.proofs.ClientCount.{client-count}
-use Rattle.law_rounds.proofs.HostsBelow.{get-below}
 use Rattle.law_rounds.specs.DeliveryEnds.{calmed}
 use Rattle.law_rounds.specs.CalmRoundsAreLawful.{IsLawful}
 use Rattle.law_rounds.specs.EverythingIsStored.{HasStored}
@@ -24,6 +23,7 @@ use Rattle.law_answered.proofs.Hosts.{all-found, At, order-keeps, ticked}
 use Rattle.law_answered.specs.CallsAnswered.{open_calls, rounds_for}
 use Rattle.law_answered.specs.WholeStored.{WholeStored}
 use Rattle.law_answered.proofs.AllAnswered.{answered-from}
+use Rattle.law_rounds.proofs.ClientSteps.{get-below}
 
 module _ (most : ℕ) (head : Head) (host : ℕ) (below : host < head.hosts) where
   -- what the ticks of a round make of the host's client

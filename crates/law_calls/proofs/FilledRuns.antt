@@ -1,12 +1,12 @@
 -- In every run whose calls bring filled bodies all bodies are filled.
 use Rattle.std.proofs.Common.{◌≡◌, ℕ, zero, suc, ◌+◌, List, [], ◌∷◌, Option, Some, None, length, map, refl, subst}
 use Rattle.std.specs.Prelude.{slice_get}
-use Rattle.nq_base.specs.declared.Call.{Call}
 use Rattle.nq_base.specs.declared.Event.{Event}
 use Rattle.nq_base.specs.declared.Party.{Party}
 use Rattle.nq_base.specs.declared.Request.{Request}
 use Rattle.law_calls.proofs.EachOf.{each-get, each-set}
-use Rattle.law_calls.proofs.FilledClient.{FitsIn, step-filled, call-fits, tick-fits, hear-fits, restart-fits}
+use Rattle.law_calls.proofs.FilledParts.{FitsIn, step-filled}
+use Rattle.law_calls.proofs.FilledClient.{call-fits, tick-fits, hear-fits, restart-fits}
 use Rattle.law_calls.proofs.FilledServer.{FileFilled, PacketFilled, StepFilled, new-filled, received, ticked, crashed}
 use Rattle.nq_model.proofs.Lists.{each-append}
 use Rattle.nq_model.specs.Client.{Client, ClientStep}

@@ -9,6 +9,7 @@ pub mod FateLaws
 pub mod SomeFates
 pub mod EachOf
 pub mod FilledServer
+pub mod FilledParts
 pub mod FilledClient
 pub mod FilledRuns
 pub mod SomeFilled

@@ -20,7 +20,6 @@ use Rattle.nq_model.specs.JournalTest.{exists, covers}
 use Rattle.nq_model.specs.Fate.{IsDelayed, IsEnded, IsWaiting}
 use Rattle.nq_model.proofs.JournalTests.{tells_exists, tells_covers, tells_stored, tells_lost}
 use Rattle.nq_model.proofs.Telling.{not_told}
-use Rattle.nq_model.specs.ServerStep.{boot, at_time as at_server_time}
 use Rattle.nq_model.specs.World.{Head, run}
 use Rattle.walk_steps.proofs.GivenRuns.{given-run}
 

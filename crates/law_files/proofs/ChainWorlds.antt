@@ -68,7 +68,7 @@ ids-keep most head = record {
   crashed = λ events longest during long few g. ids-crash (run head events).server longest g;
 }
 
-run-ids : (most : ℕ) (head : Head) (events : List Event) → KeepsBounds most head events → IsWithinSkew head.hosts most events
+pub run-ids : (most : ℕ) (head : Head) (events : List Event) → KeepsBounds most head events → IsWithinSkew head.hosts most events
     → IdsFitOf (run head events).server
 run-ids most head events bounds within = run-keeps (ids-keep most head) events bounds within
 

@@ -23,7 +23,6 @@ use Rattle.nq_model.specs.Skew.{is_within_skew}
 use Rattle.nq_model.specs.Server.{standing, to_host}
 use Rattle.nq_model.specs.ClientStep.{attached_client}
 use Rattle.nq_model.specs.Hear.{is_reply_to}
-use Rattle.nq_model.specs.ServerStep.{leases, boot}
 use Rattle.nq_model.specs.Kept.{host_row}
 use Rattle.nq_model.specs.Table.{find_row}
 use Rattle.nq_model.specs.World.{run}

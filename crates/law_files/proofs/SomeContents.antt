@@ -17,7 +17,6 @@ use Rattle.nq_model.specs.ClientStep.{fresh_client}
 use Rattle.nq_model.specs.Kept.{File, find_file, host_row}
 use Rattle.nq_model.specs.Message.{reply}
 use Rattle.nq_model.specs.Server.{to_host}
-use Rattle.nq_model.specs.ServerStep.{boot}
 use Rattle.nq_model.specs.Skew.{is_within_skew}
 use Rattle.nq_model.specs.World.{Head, run}
 use Rattle.walk_steps.proofs.Tests.{some-is}

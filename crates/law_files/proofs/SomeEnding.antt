@@ -11,7 +11,6 @@ use Rattle.nq_promises.specs.Bounds.{BootsWithin}
 use Rattle.nq_model.proofs.SkewTest.{skew-test-is-sound}
 use Rattle.nq_model.specs.Skew.{is_within_skew}
 use Rattle.nq_model.specs.World.{Head, run}
-use Rattle.nq_model.specs.ServerStep.{opens}
 use Rattle.walk_steps.proofs.GivenRuns.{given-run}
 
 -- one host that wants terms of five ticks, and one file of one block

@@ -19,11 +19,10 @@ use Rattle.nq_model.proofs.SkewTest.{skew-test-is-sound}
 use Rattle.nq_model.specs.Client.{Client, Lease, Ticket, for_call, lease_on}
 use Rattle.nq_model.specs.Message.{call, reply}
 use Rattle.nq_model.specs.Skew.{is_within_skew}
-use Rattle.nq_model.specs.Server.{to_host, says}
+use Rattle.nq_model.specs.Server.{to_host}
 use Rattle.nq_model.specs.World.{from_host, run}
 use Rattle.nq_model.specs.ClientStep.{attached_client}
 use Rattle.nq_model.specs.Hear.{is_reply_to}
-use Rattle.nq_model.specs.ServerStep.{leases, boot}
 use Rattle.walk_steps.proofs.GivenRuns.{given-run}
 
 -- host 0 reads; host 1 wants to cut the file, so host 0 is told to give its lease up, and does; it reads again, and then

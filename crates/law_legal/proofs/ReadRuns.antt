@@ -32,7 +32,8 @@ use Rattle.walk_files.proofs.ServerReads.{ServesRead, receive-reads, tick-reads,
 use Rattle.walk_steps.proofs.Steps.{ClientActs, called, ticked, restarted, heard, ServerActs, received, ticks, crashes, Changes, nothing, by_client, by_server, run-goes}
 use Rattle.walk_files.proofs.ReaderValues.{NoneWaits}
 use Rattle.walk_files.proofs.ReadParts.{IsDull, MadeFor}
-use Rattle.walk_files.proofs.ReadSteps.{Done, NewRead, ValuedBy, NoneValued, IsCachedIn, call-done, tick-done, hear-done}
+use Rattle.walk_files.proofs.ReadSends.{Done, NewRead, IsCachedIn}
+use Rattle.walk_files.proofs.ReadSteps.{ValuedBy, NoneValued, call-done, tick-done, hear-done}
 use Rattle.walk_files.proofs.Stores.{Rests}
 use Rattle.nq_model.specs.Client.{Client, ClientStep, Lease, Ticket, UnderWay, lease_on, lets_read, first_dirty, dirty_at, clean_at, is_push_of, is_push_at, push_passes, is_clean, Job, file_of_lease}
 use Rattle.nq_model.specs.ClientStep.{restart, starts, fresh_client, attached_client, next_incarnation}

@@ -11,7 +11,6 @@ use Rattle.law_legal.specs.ReportsMet.{untold, IsLostAndNamed}
 use Rattle.nq_model.proofs.SkewTest.{skew-test-is-sound}
 use Rattle.nq_model.specs.Journal.{Exists}
 use Rattle.nq_model.specs.Reported.{Names}
-use Rattle.nq_model.specs.ServerStep.{at_time as at_server_time}
 use Rattle.nq_model.specs.World.{Head, run}
 use Rattle.walk_steps.proofs.GivenRuns.{given-run}
 

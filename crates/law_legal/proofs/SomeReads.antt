@@ -2,7 +2,6 @@
 use Rattle.std.proofs.Common.{◌≡◌, true, refl}
 use Rattle.nq_base.specs.Block.{filled, zeros}
 use Rattle.law_legal.proofs.SomeHeld.{one-host, some-events, bounds, within}
-use Rattle.nq_model.specs.ServerStep.{at_time as at_time_of_serverstep, boot, crash}
 use Rattle.nq_model.specs.World.{run}
 use Rattle.law_legal.specs.LegalMet.{ReadsAreMet, has_reads}
 use Rattle.walk_steps.proofs.GivenRuns.{given-run}

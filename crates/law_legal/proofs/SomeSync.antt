@@ -7,7 +7,6 @@ use Rattle.nq_base.specs.declared.Told.{Told}
 use Rattle.walk_steps.proofs.NoCrash.{no-crash-within}
 use Rattle.nq_model.proofs.SkewTest.{skew-test-is-sound}
 use Rattle.nq_model.specs.Journal.{Exists, call_of}
-use Rattle.nq_model.specs.ServerStep.{at_time as at_server_time}
 use Rattle.nq_model.specs.World.{Head, run}
 use Rattle.law_legal.specs.OksMet.{IsOk, IsDelayedAndStored, IsSyncedOnce}
 use Rattle.walk_steps.proofs.GivenRuns.{given-run}

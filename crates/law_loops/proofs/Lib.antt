@@ -5,6 +5,7 @@ pub mod Turns
 pub mod Loops
 pub mod Room
 pub mod PrintedLoops
+pub mod ToldAnswers
 pub mod SomeLoop
 pub mod SomeTurns
 pub mod SomePrinted

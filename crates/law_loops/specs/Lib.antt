@@ -4,3 +4,4 @@ pub mod LoopsAreAnswered
 pub mod Met
 pub mod PrintedLoops
 pub mod PrintedMet
+pub mod ToldAnswers

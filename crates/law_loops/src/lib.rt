@@ -4,8 +4,9 @@
 
 ghost use Rattle.law_loops.specs.LoopsAreAnswered.{LoopsAreAnswered};
 ghost use Rattle.law_loops.specs.Met.{LoopsAreMet};
-ghost use Rattle.law_loops.specs.PrintedMet.{PrintedLoopsAreMet};
 ghost use Rattle.law_loops.specs.PrintedLoops.{EndedLoopsAreAnswered, PrintedLoopsAreAnswered};
+ghost use Rattle.law_loops.specs.PrintedMet.{PrintedLoopsAreMet};
+ghost use Rattle.law_loops.specs.ToldAnswers.{AnsweredLoopsTellAnswers};
 
 /// In each loop of at most 64 hosts, where every datagram arrived before the clocks ticked next, and each link kept its order: the three calls of each
 /// host are answered, or the server's clock ticked less often than a formula in the number of hosts tells.
@@ -22,6 +23,11 @@ pub fn printed_loops_are_answered()
 /// Each loop that ended with status 0 printed such a schedule.
 pub fn ended_loops_are_answered()
     ensures { EndedLoopsAreAnswered }
+{}
+
+/// Where all calls of a loop that printed its schedule whole were answered, each call of each host that its journal tells has its answer there.
+pub fn answered_loops_tell_answers()
+    ensures { AnsweredLoopsTellAnswers }
 {}
 
 /// The events of three turns of a loop of one host come in time, and its calls are answered by them.

@@ -15,11 +15,11 @@ use Rattle.law_rounds.specs.CalmRoundsAreLawful.{IsLawful}
 use Rattle.law_rounds.proofs.ClientCount.{client-count}
 use Rattle.law_rounds.proofs.CalmIsLawful.{rounds}
 use Rattle.law_rounds.proofs.GoingOn.{calls-go-on}
-use Rattle.law_rounds.proofs.HostsBelow.{get-below}
 use Rattle.law_rounds.proofs.CalmEnds.{calm-delivers}
 use Rattle.law_rounds.proofs.AttachWorlds.{State, on-there, rounds-on, starts-off, starts-on, three-rounds}
+use Rattle.law_rounds.proofs.ClientSteps.{get-below}
 
-all-found : {A : Type 0} (P : A → Type 0) (xs : List A) → ((i : ℕ) (x : A) → slice_get xs i ≡ Some x → P x) → (k : ℕ) (d : A) → k < length xs → P (slice_index_or xs k d)
+pub all-found : {A : Type 0} (P : A → Type 0) (xs : List A) → ((i : ℕ) (x : A) → slice_get xs i ≡ Some x → P x) → (k : ℕ) (d : A) → k < length xs → P (slice_index_or xs k d)
 all-found P [] given k d below = absurd (omega arith)
 all-found P (y ∷ xs) given zero d below = given 0 y refl
 all-found P (y ∷ xs) given (suc k) d below = all-found P xs (λ i x is. given (suc i) x is) k d (omega arith)

@@ -1,6 +1,6 @@
 -- What the ask table makes of the rows that hosts wait for: a host comes to share the file that it wants, or nothing rises.
-use Rattle.std.proofs.Common.{◌≡◌, ◌≢◌, ◌≤◌, ◌<◌, ◌⊎◌, ℕ, ◌-◌, ◌==◌, ◌&&◌, ◌||◌, Bool, true, false, not, List, [], ◌∷◌, Option, Some, None, if◌then◌else◌, refl, sym, ap, subst, ◌∙◌, arith, inl, inr}
-use Rattle.std.specs.List.{find, list_any}
+use Rattle.std.proofs.Common.{◌≡◌, ◌≢◌, ◌≤◌, ◌<◌, ◌⊎◌, ℕ, ◌-◌, Bool, true, false, not, List, Option, Some, None, refl, sym, ap, subst, ◌∙◌, arith, inl, inr}
+use Rattle.std.specs.List.{list_any}
 use Rattle.std.specs.Option.{option_map}
 use Rattle.nq_base.specs.declared.Access.{Access}
 use Rattle.nq_base.specs.declared.Question.{Question}
@@ -9,18 +9,18 @@ use Rattle.nq_base.specs.declared.Row.{Row}
 use Rattle.nq_base.specs.declared.Tag.{Tag}
 use Rattle.nq_base.specs.declared.Want.{Want}
 use Rattle.nq_base.specs.declared.Who.{Who}
-use Rattle.nq_model.proofs.Finding.{number-other}
-use Rattle.nq_model.specs.Ask.{Reply, ask, shares, term_of, marked, sharing_row, caching_row, shared_again, renewed_row, put_off_by_own, granted, no_lease, free}
+use Rattle.nq_model.specs.Ask.{Reply, ask, shares, marked, sharing_row, caching_row, shared_again, renewed_row, put_off_by_own, granted, no_lease, free}
 use Rattle.nq_model.specs.Table.{Table, caches, find_row, is_row_of, put_row, with_rows, after_draw}
 use Rattle.walk_steps.proofs.ClientMoves.{some-same, none-some}
-use Rattle.walk_steps.proofs.AskCases.{IsGranted, shares_again, begins_sharing, begins_caching, renews_row, own_in, clash_in, has_room, with_marked, asks}
+use Rattle.walk_steps.proofs.AskCases.{IsGranted, shares_again, begins_sharing, begins_caching, renews_row, own_in, clash_in, has_room, asks}
 use Rattle.walk_steps.proofs.Modes.{greater-caches}
-use Rattle.walk_steps.proofs.RowChanges.{mark, find-marked, mark-is, of-key}
-use Rattle.walk_steps.proofs.Rows.{found-row, find-none, number-same}
+use Rattle.walk_steps.proofs.RowChanges.{mark, find-marked}
+use Rattle.walk_steps.proofs.Rows.{found-row, find-none}
 use Rattle.law_rounds.proofs.Asked.{is_taken}
-use Rattle.law_rounds.proofs.Energy.{energy, wish, is_sharing, shares_file, KeepSharing, IsTame, tame-energy, share-begins}
+use Rattle.law_rounds.proofs.Energy.{energy, wish, is_sharing, shares_file, KeepSharing, tame-energy, share-begins}
 use Rattle.law_rounds.proofs.GoodRows.{taken-marked}
-use Rattle.law_rounds.proofs.RowSteps.{at-key, tame-self, keep-place, put-others, put-there, tame-put, tame-begun, keep-marked, tame-marked}
+use Rattle.law_rounds.proofs.RowSteps.{at-key, keep-place, put-others, put-there, tame-put, tame-begun, keep-marked, tame-marked}
+use Rattle.law_rounds.proofs.SharedRows.{none-any, shares-it}
 
 -- a row that is to go, and that a VACATED would take, would still be taken
 abbrev pub StillTaken : (before after : List Row) → Type 0
@@ -51,20 +51,6 @@ pub outcome-self : (hosts : ℕ) (wants : ℕ → Option Request) (rows : List R
 outcome-self hosts wants rows = goes_on (omega arith) (still-self rows)
 
 -- ---- a file that nobody else shares
-
-none-any : {A : Type 0} (p : A → Bool) (xs : List A) → list_any p xs ≡ false → find p xs ≡ None
-none-any p [] h = refl
-none-any p (x ∷ xs) h = by (p x) (none-any p xs) h
-  where
-    by : (b : Bool) → (list_any p xs ≡ false → find p xs ≡ None) → b || list_any p xs ≡ false → (if b then Some x else find p xs) ≡ None
-    by true rest g = cc
-    by false rest g = rest g
-
-shares-it : (file host by : ℕ) (row : Row) → row.file ≡ file → row.who.host ≡ host → host ≢ by → caches row.mode ≡ false → shares file by row ≡ true
-shares-it file host by row at of other none =
-    let one : (row.file == file) ≡ true = number-same row.file file at in
-    let two : (row.who.host == by) ≡ false = number-other row.who.host by (λ e. other (sym of ∙ e)) in
-    rw (one, two, none) refl
 
 nobody-shares : (rows : List Row) (file by : ℕ) → list_any (shares file by) rows ≡ false → (host : ℕ) → host ≢ by → shares_file rows file host ≡ false
 nobody-shares rows file by unshared host other = look (find_row file host rows) refl

@@ -1,5 +1,5 @@
 -- A request that wants a lease: whether the server asks the lease table, by all but the table; and what becomes of the rows.
-use Rattle.std.proofs.Common.{◌≡◌, ◌<◌, ℕ, ◌==◌, ◌&&◌, not, Bool, true, false, nat_lt, List, [], ◌∷◌, Option, Some, None, if◌then◌else◌, refl, sym, ap, subst, ◌∙◌, arith}
+use Rattle.std.proofs.Common.{◌≡◌, ◌<◌, ℕ, ◌==◌, ◌&&◌, Bool, true, false, nat_lt, List, [], Option, Some, None, if◌then◌else◌, refl, sym, ap, subst, ◌∙◌, arith}
 use Rattle.std.specs.Prelude.{slice_get}
 use Rattle.std.proofs.lemmas.Bool.{and_parts}
 use Rattle.std.proofs.lemmas.Bool.Decides.{nat_tests}
@@ -12,16 +12,16 @@ use Rattle.nq_base.specs.declared.Want.{Want}
 use Rattle.nq_base.specs.declared.Who.{Who}
 use Rattle.nq_model.specs.Ask.{Reply, ask}
 use Rattle.nq_model.specs.Hear.{wants_of}
-use Rattle.nq_model.specs.Kept.{File, Kept, find_file, host_row}
+use Rattle.nq_model.specs.Kept.{File, find_file, host_row}
 use Rattle.nq_model.specs.Message.{Message, Reason, old_incarnation, wrong_host, request, call, datagram_of}
 use Rattle.nq_model.specs.Profile.{most_hosts}
-use Rattle.nq_model.specs.Server.{Phase, serving, recovering, Server, ServerStep, quiet, drops, says, refuses, with_table, after_notices}
-use Rattle.nq_model.specs.ServerStep.{access_of, to_read, tells_later, serves, leases, read_of, read_asked, read_block, read, lease_asked, lease_of, get_lease, look, perform, not_attached, admit, answer_request, receive, vacates, vacated_rows}
+use Rattle.nq_model.specs.Server.{Phase, serving, recovering, Server, ServerStep, quiet, drops, says, with_table, after_notices}
+use Rattle.nq_model.specs.ServerStep.{access_of, to_read, tells_later, serves, leases, read_of, read_asked, read_block, read, lease_asked, lease_of, get_lease, look, perform, not_attached, receive, vacates, vacated_rows}
 use Rattle.nq_model.specs.Table.{is_writing, find_row, drop_row, same_tag, with_rows}
 use Rattle.walk_steps.proofs.ClientMoves.{some-same}
-use Rattle.walk_steps.proofs.Rows.{choice, same-number, number-same}
+use Rattle.walk_steps.proofs.Rows.{same-number, number-same}
 use Rattle.walk_steps.proofs.ServerCases.{found-file}
-use Rattle.walk_steps.proofs.Tests.{is-below, is-not-below}
+use Rattle.walk_steps.proofs.Tests.{is-below}
 
 -- ---- the question that a request puts to the lease table
 

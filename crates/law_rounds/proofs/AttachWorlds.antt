@@ -32,8 +32,8 @@ use Rattle.law_rounds.specs.CalmRoundsAreLawful.{IsLawful}
 use Rattle.law_rounds.proofs.Attaching.{hear-stays, tick-stays, hear-attaches, hears-attach, attach-answered, TickedOff, tick-off}
 use Rattle.law_rounds.proofs.CalmIsLawful.{flows, calm-round}
 use Rattle.law_rounds.proofs.GoingOn.{calls-go-on}
-use Rattle.law_rounds.proofs.HostsBelow.{get-below}
 use Rattle.law_rounds.proofs.PacketsCome.{Comes, keeps-coming, sent-comes}
+use Rattle.law_rounds.proofs.ClientSteps.{get-below}
 
 -- ---- one host
 

@@ -101,7 +101,7 @@ module _ (t : ClientStep) (u : UnderWay) (called : t.client.call ≡ Some u) (fr
 
 -- ---- nothing is taken back
 
-keeps-renewing : (in_tick : Bool) (t : ClientStep) → is_asking t ≡ true → is_asking (then_renews in_tick t) ≡ true
+pub keeps-renewing : (in_tick : Bool) (t : ClientStep) → is_asking t ≡ true → is_asking (then_renews in_tick t) ≡ true
 keeps-renewing false t e = e
 keeps-renewing true t e = let same : then_renews true t ≡ t = rw e refl in ap is_asking same ∙ e
 

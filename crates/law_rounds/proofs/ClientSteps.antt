@@ -1,5 +1,5 @@
 -- A packet is delivered to a client: it takes a turn, or gives a lease up, or gives it up and sends its request again, or does nothing.
-use Rattle.std.proofs.Common.{◌≡◌, ◌≢◌, ◌≤◌, ◌<◌, ◌⊎◌, ℕ, ◌+◌, ◌==◌, ◌++◌, Bool, true, false, zero, suc, List, [], ◌∷◌, Option, Some, None, length, refl, sym, ap, subst, ◌∙◌, arith, inl, inr}
+use Rattle.std.proofs.Common.{◌≡◌, ◌≤◌, ◌<◌, ℕ, ◌+◌, ◌==◌, ◌++◌, Bool, true, false, zero, suc, List, [], ◌∷◌, Option, Some, None, length, refl, sym, ap, subst, ◌∙◌, arith, inl, inr}
 use Rattle.std.specs.Prelude.{map, slice_get, slice_set}
 use Rattle.std.proofs.lemmas.List.{append-nil}
 use Rattle.nq_base.specs.declared.Request.{Request}
@@ -15,9 +15,9 @@ use Rattle.walk_steps.proofs.Worlds.{get-set-same, get-set-other}
 use Rattle.walk_steps.proofs.Rows.{same-number, number-same}
 use Rattle.law_rounds.proofs.Facts.{asked_for, wants_in, Takes, fewer, again, silent, Facts}
 use Rattle.law_rounds.proofs.Forms.{Agree}
-use Rattle.law_rounds.proofs.Items.{Item, one, pair, Adds, adds-none, adds-ones, adds-pair, ones}
+use Rattle.law_rounds.proofs.Items.{Item, one, pair, Adds, adds-none, adds-ones, adds-pair}
 
-get-below : {A : Type 0} (xs : List A) (i : ℕ) (x : A) → slice_get xs i ≡ Some x → i < length xs
+pub get-below : {A : Type 0} (xs : List A) (i : ℕ) (x : A) → slice_get xs i ≡ Some x → i < length xs
 get-below [] i x is = none-some x is
 get-below (y ∷ xs) zero x is = omega arith
 get-below (y ∷ xs) (suc i) x is = let rest = get-below xs i x is in omega arith

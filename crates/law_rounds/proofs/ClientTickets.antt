@@ -7,7 +7,7 @@ use Rattle.nq_base.specs.declared.Request.{Request}
 use Rattle.nq_base.specs.declared.Tag.{Tag}
 use Rattle.nq_base.specs.declared.Who.{Who}
 use Rattle.nq_model.specs.Client.{Client, ClientStep, begun, Ticket}
-use Rattle.nq_model.specs.ClientStep.{client_call, client_tick, at_time, restart, starts, fresh_client}
+use Rattle.nq_model.specs.ClientStep.{client_call, client_tick, at_time}
 use Rattle.nq_model.specs.Hear.{inc_of, reply_counts, hear, goes_on, replied, evicted, cancels}
 use Rattle.nq_model.specs.Message.{Message, Packet, call, reply, sequence_of}
 use Rattle.walk_steps.proofs.ClientCases.{Core, core_of, Closed}
@@ -143,14 +143,3 @@ hear-renews host c ps k m t a sent drawn hears = heard-cases c k m t (λ u. Rene
 
     wider : (u : ClientStep) → Renewed c c.now None u → Renewed c c.now c.ticket u
     wider u g = record { same = g.same; time = g.time; grows = g.grows; ticket = λ v e. widen u.sends v (g.ticket v e); last = g.last }
-
--- the next incarnation asks to be attached
-pub restart-renews : (c : Client) → Renews (restart c).client.who (restart c).client.now None 0 (core_of (restart c))
-unfolding starts fresh_client
-restart-renews c = record {
-  same = refl;
-  time = refl;
-  grows = omega arith;
-  ticket = λ t e. subst (λ v. TicketIs None 0 (call 1 (Request.Attach (restart c).client.who) ∷ []) v) (some-same _ t e) (fresh (inl refl) (λ n sq. none-some n sq));
-  last = λ t n e sq. none-some n (ap (λ (u : Ticket). sequence_of u.request) (some-same _ t e) ∙ sq);
-}

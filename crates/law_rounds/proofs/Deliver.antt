@@ -1,36 +1,24 @@
 -- The first item that is under way is delivered: a turn is taken, or the delivery goes on.
-use Rattle.std.proofs.Common.{◌≡◌, ◌≤◌, ◌<◌, ◌⊎◌, ℕ, ◌+◌, ◌*◌, ◌++◌, Bool, true, false, zero, suc, pred, List, [], ◌∷◌, Option, Some, None, length, refl, sym, ap, subst, ◌∙◌, arith, inl, inr}
-use Rattle.std.specs.Prelude.{slice_get}
-use Rattle.std.proofs.lemmas.List.{append-nil, length-append}
+use Rattle.std.proofs.Common.{◌≡◌, ◌≤◌, ◌<◌, ◌⊎◌, ℕ, ◌+◌, ◌*◌, ◌++◌, Bool, true, false, pred, List, ◌∷◌, Option, Some, length, sym, ap, subst, ◌∙◌, arith, inl, inr}
+use Rattle.std.proofs.lemmas.List.{length-append}
 use Rattle.nq_base.specs.declared.Event.{Event}
-use Rattle.nq_base.specs.declared.Party.{Party}
 use Rattle.nq_base.specs.declared.Request.{Request}
 use Rattle.nq_base.specs.declared.Row.{Row}
-use Rattle.nq_base.specs.declared.Tag.{Tag}
-use Rattle.nq_base.specs.declared.Who.{Who}
 use Rattle.nq_model.specs.Client.{Client}
-use Rattle.nq_model.specs.Hear.{wants_of}
-use Rattle.nq_model.specs.Kept.{host_row}
-use Rattle.nq_model.specs.Lines.{Play, play, play_flow, flow_first}
-use Rattle.nq_model.specs.Message.{Message, Packet, call, datagram_of}
-use Rattle.nq_model.specs.Profile.{most_hosts}
-use Rattle.nq_model.specs.Server.{Server, ServerStep, to_host}
-use Rattle.nq_model.specs.ServerStep.{receive}
+use Rattle.nq_model.specs.Lines.{Play, play}
+use Rattle.nq_model.specs.Message.{Message, Packet}
+use Rattle.nq_model.specs.Server.{Server, to_host}
 use Rattle.nq_model.specs.Table.{find_row}
-use Rattle.nq_model.specs.World.{World, from_host, after_server, deliver, deliver_to, step}
-use Rattle.walk_steps.proofs.Packets.{in-get}
-use Rattle.walk_steps.proofs.Worlds.{IsSent, by_host, by_server}
-use Rattle.law_rounds.proofs.Asked.{is_taken, Vacates, vacated-request, request-hears}
-use Rattle.law_rounds.proofs.AskSteps.{Outcome, falls, goes_on}
+use Rattle.nq_model.specs.World.{World, deliver}
+use Rattle.law_rounds.proofs.Asked.{is_taken}
 use Rattle.law_rounds.proofs.ClientSteps.{sum_of, CameOf, nothing, gives_up, asks_again, ClientOut, turned, went_on, client-delivered}
-use Rattle.law_rounds.proofs.Energy.{energy, wish}
-use Rattle.law_rounds.proofs.Facts.{wants_in, Facts, AskersHaveRows}
-use Rattle.law_rounds.proofs.Forms.{Agree, IsFormed, to_client, alone, paired, NoticeIsGood, PairIsGood, HasGoodRow, Fits, heavy, notice_weight, pair_weight, item_weight, weight_of, weight-append, item-some}
-use Rattle.law_rounds.proofs.Items.{Item, one, pair, IsSingle, all_numbers, numbers_of, Each, each-map, each-both, IsSentAs, Queued, Adds, adds-none, pair-apart}
-use Rattle.law_rounds.proofs.Levels.{wish-of, KeepsGood, keep-self, form-of, sends-fit, pred-small, came-fits, alone-look, alone-keeps, alone-energy, StillWaiting, items-less}
-use Rattle.law_rounds.proofs.Plays.{grows, first-play, first-sent, next-queue, any-queue, numbers-most, adds-most}
-use Rattle.law_rounds.proofs.ServerSends.{t, came, adds, new-formed, new-good, new-pairs, few-sent, new-light}
-use Rattle.law_rounds.proofs.ServerSteps.{taken-row, same-server, pair-out, pair-keeps}
+use Rattle.law_rounds.proofs.Energy.{energy}
+use Rattle.law_rounds.proofs.Facts.{wants_in, Facts}
+use Rattle.law_rounds.proofs.Forms.{Agree, IsFormed, Fits, notice_weight, pair_weight, item_weight, weight_of, weight-append, item-some}
+use Rattle.law_rounds.proofs.Items.{Item, one, IsSingle, Each, IsSentAs, Queued}
+use Rattle.law_rounds.proofs.Levels.{KeepsGood, keep-self, came-fits}
+use Rattle.law_rounds.proofs.Plays.{first-sent, next-queue, any-queue, numbers-most, adds-most}
+use Rattle.law_rounds.proofs.ServerSends.{came, adds}
 
 module _ (hosts few : ℕ) (turns : Client → ℕ) (asks : ℕ → Option Request) where
   -- at the last generation: energy falls, or it does not rise and the weight falls

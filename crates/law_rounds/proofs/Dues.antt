@@ -12,7 +12,7 @@ use Rattle.nq_model.specs.ClientStep.{begins_call, is_called, says_busy, client_
 use Rattle.nq_model.specs.Hear.{hear, replied, cancels, evicted}
 use Rattle.nq_model.specs.Message.{Message}
 use Rattle.nq_model.specs.Profile.{renewal}
-use Rattle.nq_model.specs.Send.{next_put, next_of_call, next_of_under_way, send_next, is_asking, sends_request, pushes, pushes_these, least_with, least, noticed_file, noticed_in, is_to_push_in, ending_in, ending_file, then_renews, then_calls, then_pushes, then_ending, pushes_due}
+use Rattle.nq_model.specs.Send.{next_put, next_of_call, next_of_under_way, send_next, is_asking, sends_request, pushes, pushes_these, least_with, least, noticed_file, noticed_in, is_to_push_in, ending_in, ending_file, then_calls, then_pushes, then_ending, pushes_due}
 use Rattle.nq_model.specs.Settle.{ticket_is_for_call, answers, after_read, reads_cached, after_write, marks_written, settle}
 use Rattle.nq_model.specs.Table.{is_writing}
 use Rattle.nq_model.specs.World.{Head, World, after_server, after_client, start, run}
@@ -27,6 +27,7 @@ use Rattle.walk_steps.proofs.Steps.{Changes, nothing, by_client, by_server, Clie
 use Rattle.walk_steps.proofs.Worlds.{Holds, run-holds, get-set-same, get-set-other, set-there, first-client}
 use Rattle.walk_steps.proofs.Rows.{choice, same-number, number-same, find-passes}
 use Rattle.walk_steps.proofs.Tests.{is-not-at-most}
+use Rattle.law_rounds.proofs.Busy.{keeps-renewing}
 
 -- nothing is due
 pub record NoneDue (c : Client) : Type 0 where
@@ -139,10 +140,6 @@ pushed-file t file any = by (first_dirty file t.client.dirty) refl
     by : (o : Option Push) → first_dirty file t.client.dirty ≡ o → is_asking (pushes_these t o) ≡ true
     by None e = absurd (any-there (is_push_of file) t.client.dirty any e)
     by (Some p) e = sent-one _ _ _
-
-keeps-renewing : (in_tick : Bool) (t : ClientStep) → is_asking t ≡ true → is_asking (then_renews in_tick t) ≡ true
-keeps-renewing false t e = e
-keeps-renewing true t e = let same : then_renews true t ≡ t = rw e refl in ap is_asking same ∙ e
 
 keeps-calling : (t : ClientStep) → is_asking t ≡ true → is_asking (then_calls t) ≡ true
 keeps-calling t e = let same : then_calls t ≡ t = rw e refl in ap is_asking same ∙ e
@@ -269,7 +266,7 @@ module _ (t : ClientStep) (free : t.client.ticket ≡ None) (delaying : Delaying
 
 -- ---- each step
 
-sent-or-same : (in_tick : Bool) (t : ClientStep) → (is_asking (send_next in_tick t) ≡ true) ⊎ (send_next in_tick t ≡ t)
+pub sent-or-same : (in_tick : Bool) (t : ClientStep) → (is_asking (send_next in_tick t) ≡ true) ⊎ (send_next in_tick t ≡ t)
 unfolding sends_request
 sent-or-same in_tick t = send-moves in_tick t (λ v. (is_asking v ≡ true) ⊎ (v ≡ t)) (record {
   kept = inr refl;

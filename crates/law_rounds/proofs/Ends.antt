@@ -1,23 +1,20 @@
 -- Each delivery lowers what is left, so a flow ends.
-use Rattle.std.proofs.Common.{◌≡◌, ◌≤◌, ◌<◌, ◌⊎◌, ℕ, ◌+◌, ◌*◌, ◌-◌, ◌++◌, Bool, true, false, zero, suc, pred, List, [], ◌∷◌, Option, Some, None, length, refl, sym, ap, subst, ◌∙◌, arith, inl, inr}
+use Rattle.std.proofs.Common.{◌≡◌, ◌≤◌, ℕ, ◌+◌, ◌*◌, ◌-◌, ◌++◌, zero, suc, List, [], ◌∷◌, Option, length, sym, ap, subst, ◌∙◌, arith}
 use Rattle.std.proofs.lemmas.List.{append-nil, length-append}
 use Rattle.nq_base.specs.declared.Event.{Event}
 use Rattle.nq_base.specs.declared.Request.{Request}
 use Rattle.nq_base.specs.declared.Row.{Row}
 use Rattle.nq_model.specs.Client.{Client}
 use Rattle.nq_model.specs.Lines.{Play, play, play_flow, flow_first}
-use Rattle.nq_model.specs.Message.{Packet}
 use Rattle.nq_model.specs.Server.{Server}
-use Rattle.nq_model.specs.World.{World}
 use Rattle.law_rounds.specs.DeliveryEnds.{growth, most_growths}
-use Rattle.law_rounds.proofs.ClientSteps.{sum_of}
-use Rattle.law_rounds.proofs.Deliver.{Spends, less_energy, less_weight, GoesOn, Turns}
+use Rattle.law_rounds.proofs.Deliver.{Spends, less_energy, less_weight, GoesOn}
 use Rattle.law_rounds.proofs.Energy.{energy}
 use Rattle.law_rounds.proofs.Facts.{Facts, AskersHaveRows}
 use Rattle.law_rounds.proofs.Flow.{append-more, stays-empty, Stands, Ready, last, before, ready-of, begins, Next, once, twice, done, Delivered, by_one, by_turn, by_two, deliver-item}
-use Rattle.law_rounds.proofs.Forms.{Agree, IsFormed, Fits, heavy, weight_of, weight-least, weight-most}
-use Rattle.law_rounds.proofs.Items.{Item, IsSingle, Each, each-append, each-map, IsSentAs, Queued}
-use Rattle.law_rounds.proofs.Levels.{KeepsGood, fits-keep, fits-loose, form-of}
+use Rattle.law_rounds.proofs.Forms.{IsFormed, Fits, heavy, weight_of, weight-least, weight-most}
+use Rattle.law_rounds.proofs.Items.{Item, Each, each-append, each-map, Queued}
+use Rattle.law_rounds.proofs.Levels.{KeepsGood, fits-keep, fits-loose}
 use Rattle.law_rounds.proofs.Measures.{left, lighter, lower, no-more, jump, growth-some, twice-few, left-some, times-less}
 
 module _ (hosts few : ℕ) (asks : ℕ → Option Request) where
@@ -31,10 +28,6 @@ module _ (hosts few : ℕ) (asks : ℕ → Option Request) where
   keep-new zero s v small keeps items f = each-map (Fits hosts asks 0 s) (Fits hosts asks 0 v) (fits-keep hosts asks 0 s v (keeps (omega arith))) items f
   keep-new (suc zero) s v small keeps items f = each-map (Fits hosts asks 1 s) (Fits hosts asks 1 v) (fits-keep hosts asks 1 s v (keeps (omega arith))) items f
   keep-new (suc (suc level)) s v small keeps items f = each-map (Fits hosts asks (suc (suc level)) s) (Fits hosts asks (suc (suc level)) v) (fits-loose hosts asks level s v) items f
-
-sent-parts : (ps : List Packet) (xs ys : List Item) → Each (IsSentAs ps) (xs ++ ys) → Each (IsSentAs ps) xs
-sent-parts ps [] ys s = tt
-sent-parts ps (x ∷ xs) ys s = (s.0, sent-parts ps xs ys s.1)
 
 -- a turn was taken: so many growths are paid for
 turn-pays : (turns_then growths rest : ℕ) → 1 ≤ turns_then → (turns_then - 1) * growths + growths ≡ turns_then * growths

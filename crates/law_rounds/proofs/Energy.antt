@@ -1,10 +1,11 @@
 -- What may still happen to the rows that hosts wait for: each host may come to share its file, and each row that is to go may go.
-use Rattle.std.proofs.Common.{◌≡◌, ◌≤◌, ◌<◌, ◌⊎◌, ℕ, ◌+◌, ◌*◌, ◌==◌, ◌&&◌, ◌||◌, Bool, true, false, not, zero, suc, List, Option, Some, None, refl, sym, ap, subst, ◌∙◌, arith, inl, inr}
+use Rattle.std.proofs.Common.{◌≡◌, ◌≤◌, ◌<◌, ℕ, ◌+◌, ◌*◌, ◌==◌, ◌&&◌, ◌||◌, Bool, true, false, not, zero, suc, List, Option, Some, None, refl, sym, ap, subst, arith}
 use Rattle.std.proofs.lemmas.Bool.Decides.{nat_tests}
 use Rattle.nq_base.specs.declared.Request.{Request}
 use Rattle.nq_base.specs.declared.Row.{Row}
 use Rattle.nq_model.specs.Table.{caches, find_row}
-use Rattle.walk_steps.proofs.Rows.{same-number, number-same}
+use Rattle.walk_steps.proofs.Rows.{same-number}
+use Rattle.law_rounds.specs.CancelledDeliveries.{one_if}
 
 -- ---- sums over hosts
 
@@ -125,10 +126,6 @@ is_doomed shared (Some row) = caches row.mode && (row.evicting || shared)
 
 abbrev pub doomed_at : (hosts : ℕ) → List Row → (file host : ℕ) → Bool
 doomed_at hosts rows file host = is_doomed (is_shared_in hosts rows file) (find_row file host rows)
-
-abbrev pub one_if : Bool → ℕ
-one_if true = 1
-one_if false = 0
 
 abbrev pub unless_sharing : (much : ℕ) → Bool → ℕ
 unless_sharing much true = 0

@@ -1,32 +1,32 @@
 -- Delivery ends, in every run.
-use Rattle.std.proofs.Common.{◌≡◌, ◌≤◌, ◌<◌, ◌⊎◌, ℕ, ◌+◌, ◌*◌, ◌==◌, ◌&&◌, ◌++◌, Bool, true, false, nat_lt, zero, suc, List, [], ◌∷◌, Option, Some, None, length, refl, sym, ap, subst, ◌∙◌, arith}
-use Rattle.std.specs.Prelude.{All, sum_by, slice_get}
+use Rattle.std.proofs.Common.{◌≡◌, ◌≤◌, ℕ, ◌+◌, ◌*◌, ◌==◌, ◌&&◌, Bool, true, false, nat_lt, List, [], ◌∷◌, Option, Some, None, length, refl, sym, ap, subst, ◌∙◌, arith}
+use Rattle.std.specs.Prelude.{sum_by}
 use Rattle.std.proofs.lemmas.List.Sums.{sum_by-cons}
 use Rattle.nq_base.specs.declared.Call.{Call}
 use Rattle.nq_base.specs.declared.Event.{Event}
 use Rattle.nq_base.specs.declared.Request.{Request}
 use Rattle.nq_model.specs.Client.{Client, Job, attaching, for_call, renewing, pushing, Ticket, UnderWay}
 use Rattle.nq_model.specs.Lines.{Play, play, play_flow}
-use Rattle.nq_model.specs.Profile.{skew}
 use Rattle.nq_model.specs.Settle.{pending}
-use Rattle.nq_model.specs.Skew.{is_server_tick, server_ticks, ticks_of, IsWithinSkew}
 use Rattle.nq_model.specs.Stepped.{most_sends}
 use Rattle.nq_model.specs.World.{Head, step, run}
-use Rattle.nq_promises.specs.Bounds.{KeepsBounds}
 use Rattle.walk_steps.proofs.NoCrash.{one-first}
 use Rattle.law_rounds.specs.Efforts.{writes_to, read_left, lease_left, sent_left, job_left, requests_left, put_delays, may_delay, delays_left}
-use Rattle.law_rounds.specs.Turns.{asking_turns, turns_left}
+use Rattle.law_rounds.specs.Turns.{turns_left}
 use Rattle.law_rounds.proofs.ClientCount.{client-count}
 use Rattle.law_rounds.proofs.EffortReplies.{two-left}
-use Rattle.law_rounds.specs.DeliveryEnds.{AreUnderWay, calmed, delayed_in_all, power, growth, most_turns, most_growths, enough_for, enough_deliveries, IsDelivered, DeliveryEnds}
+use Rattle.law_rounds.specs.DeliveryEnds.{calmed, delayed_in_all, growth, most_turns, most_growths, enough_for, IsDelivered, DeliveryEnds}
 use Rattle.law_rounds.proofs.ClientSteps.{sum_of}
 use Rattle.law_rounds.proofs.Ends.{ends}
 use Rattle.law_rounds.proofs.Facts.{Facts}
 use Rattle.law_rounds.proofs.Flow.{begins}
-use Rattle.law_rounds.proofs.Items.{Item, all_numbers, Rise, from-under-way, queue-of}
+use Rattle.law_rounds.proofs.Items.{all_numbers, Rise, from-under-way, queue-of}
 use Rattle.law_rounds.proofs.Measures.{left, no-more, growth-some, times-more, times-less}
 use Rattle.law_rounds.proofs.Plays.{items-most}
 use Rattle.law_rounds.proofs.RunFacts.{run-facts, askers-have-rows}
+use Rattle.law_rounds.proofs.Skewed.{quiet-parts}
+use Rattle.law_rounds.specs.CalmRoundsAreLawful.{IsLawful}
+use Rattle.law_rounds.proofs.Turns.{asking-most}
 
 -- ---- the turns of all clients
 
@@ -93,10 +93,6 @@ delays-most (Some u) = by u.call
     by (Call.Resize file blocks) = omega arith
     by (Call.Remove file) = omega arith
 
-asking-most : (o : Option Ticket) → asking_turns o ≤ 2
-asking-most None = omega arith
-asking-most (Some t) = omega arith
-
 turns-most : (clients : List Client) → sum_of turns_left clients ≤ 3 * sum_by pending clients + 9 * length clients
 turns-most [] = omega arith
 turns-most (c ∷ clients) =
@@ -114,21 +110,6 @@ first-same x y xs ys e = cc
 
 rest-same : {A : Type 0} (x y : A) (xs ys : List A) → x ∷ xs ≡ y ∷ ys → xs ≡ ys
 rest-same x y xs ys e = cc
-
--- a delivery keeps a schedule within skew
-quiet-parts : (hosts longest : ℕ) (e : Event) (events : List Event) → is_server_tick e ≡ 0 → IsWithinSkew hosts longest events → (before part after : List Event) → e ∷ events ≡ before ++ part ++ after → (host : ℕ) → host < hosts → ticks_of host part ≤ longest → server_ticks part ≤ ticks_of host part + skew
-quiet-parts hosts longest e events quiet within [] [] after split host there few = omega arith
-quiet-parts hosts longest e events quiet within [] (x ∷ part) after split host there few =
-    let same : is_server_tick x ≡ 0 = subst (λ z. is_server_tick z ≡ 0) (first-same e x events (part ++ after) split) quiet in
-    let rest : server_ticks part ≤ ticks_of host part + skew = within [] part after (rest-same e x events (part ++ after) split) host there (omega arith) in
-    omega arith
-quiet-parts hosts longest e events quiet within (x ∷ before) part after split host there few =
-    within before part after (rest-same e x events (before ++ part ++ after) split) host there few
-
-pub record IsLawful (most : ℕ) (head : Head) (p : Play) : Type 0 where
-  pub is_run : p.world ≡ run head p.events
-  pub bounds : KeepsBounds most head p.events
-  pub within : IsWithinSkew head.hosts most p.events
 
 goes-on : (most : ℕ) (head : Head) (p : Play) (k : ℕ) → IsLawful most head p → IsLawful most head (play p (Event.Deliver k))
 goes-on most head p k l = record {

@@ -1,29 +1,27 @@
 -- A flow ends: each delivery lowers what is left, by turns, generations, rows and packets.
-use Rattle.std.proofs.Common.{◌≡◌, ◌≤◌, ◌<◌, ◌⊎◌, ℕ, ◌+◌, ◌*◌, ◌-◌, ◌++◌, Bool, true, false, zero, suc, pred, List, [], ◌∷◌, Option, Some, None, length, refl, sym, ap, subst, ◌∙◌, arith, inl, inr}
+use Rattle.std.proofs.Common.{◌≡◌, ◌≤◌, ◌<◌, ◌⊎◌, ℕ, ◌+◌, ◌*◌, ◌-◌, ◌++◌, true, zero, suc, pred, List, [], ◌∷◌, Option, Some, None, length, refl, sym, ap, subst, ◌∙◌, arith, inl, inr}
 use Rattle.std.specs.Prelude.{slice_get}
-use Rattle.std.proofs.lemmas.List.{append-nil, length-append}
+use Rattle.std.proofs.lemmas.List.{append-nil}
 use Rattle.nq_base.specs.declared.Event.{Event}
 use Rattle.nq_base.specs.declared.Request.{Request}
-use Rattle.nq_base.specs.declared.Row.{Row}
 use Rattle.nq_base.specs.declared.Tag.{Tag}
 use Rattle.nq_base.specs.declared.Who.{Who}
 use Rattle.nq_model.specs.Client.{Client}
 use Rattle.nq_model.specs.Hear.{wants_of}
 use Rattle.nq_model.specs.Lines.{Play, play, play_flow, flow_first}
 use Rattle.nq_model.specs.Message.{Message, Packet}
-use Rattle.nq_model.specs.Server.{Server, to_host}
-use Rattle.nq_model.specs.World.{World, from_host}
+use Rattle.nq_model.specs.Server.{to_host}
+use Rattle.nq_model.specs.World.{from_host}
 use Rattle.walk_steps.proofs.Packets.{in-get}
 use Rattle.walk_steps.proofs.Worlds.{IsSent, by_host, by_server}
 use Rattle.law_rounds.specs.DeliveryEnds.{growth, most_growths}
 use Rattle.law_rounds.proofs.ClientSteps.{sum_of}
-use Rattle.law_rounds.proofs.Deliver.{Spends, less_energy, less_weight, GoesOn, Turns, to-client}
+use Rattle.law_rounds.proofs.Deliver.{GoesOn, Turns, to-client}
 use Rattle.law_rounds.proofs.Energy.{energy, energy-most}
 use Rattle.law_rounds.proofs.Facts.{asked_for, Facts, AskersHaveRows}
-use Rattle.law_rounds.proofs.Forms.{Agree, IsFormed, to_client, alone, paired, Fits, heavy, weight_of, weight-least, weight-most}
-use Rattle.law_rounds.proofs.Items.{Item, one, pair, IsSingle, single, all_numbers, Each, each-append, each-map, IsSentAs, Queued}
-use Rattle.law_rounds.proofs.Levels.{KeepsGood, fits-keep, fits-loose, form-of}
-use Rattle.law_rounds.proofs.Measures.{left, lighter, lower, no-more, jump, growth-some, twice-few, left-some, times-more, times-less}
+use Rattle.law_rounds.proofs.Forms.{Agree, IsFormed, to_client, alone, paired, Fits, heavy, weight_of, weight-most}
+use Rattle.law_rounds.proofs.Items.{Item, one, pair, IsSingle, single, Each, Queued}
+use Rattle.law_rounds.proofs.Measures.{left, lower, no-more, jump, growth-some, times-less}
 use Rattle.law_rounds.proofs.PairDeliver.{queue-one, two-delivered}
 use Rattle.law_rounds.proofs.Plays.{first-play}
 use Rattle.law_rounds.proofs.ServerDeliver.{to-server}

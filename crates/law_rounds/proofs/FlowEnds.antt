@@ -18,6 +18,7 @@ use Rattle.law_rounds.specs.Efforts.{effort}
 use Rattle.law_rounds.proofs.Efforts.{total, total-append, weight, cost}
 use Rattle.law_rounds.proofs.EffortReplies.{CancelCosts, hear-pays}
 use Rattle.law_rounds.proofs.ServerWeights.{packet_weight, packets_weight, Dear, some-weight, receive-lighter}
+use Rattle.law_rounds.proofs.Items.{get-behind}
 
 -- ---- sums over lists
 
@@ -39,10 +40,6 @@ get-before : {A : Type 0} (xs ys : List A) (k : ℕ) → k < length xs → slice
 get-before [] ys k below = absurd (omega arith)
 get-before (x ∷ xs) ys zero below = refl
 get-before (x ∷ xs) ys (suc k) below = get-before xs ys k (omega arith)
-
-get-behind : {A : Type 0} (xs : List A) (y : A) (ys : List A) → slice_get (xs ++ y ∷ ys) (length xs) ≡ Some y
-get-behind [] y ys = refl
-get-behind (x ∷ xs) y ys = get-behind xs y ys
 
 -- ---- numbers of packets that were sent
 

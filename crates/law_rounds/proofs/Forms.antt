@@ -1,5 +1,5 @@
 -- What is under way once a delivery goes on without turns: notices and replies, VACATED, and VACATED with the request that it makes room for.
-use Rattle.std.proofs.Common.{◌≡◌, ◌≤◌, ◌<◌, ◌⊎◌, ℕ, ◌+◌, ◌*◌, ◌++◌, Bool, true, false, zero, suc, List, [], ◌∷◌, Option, Some, None, length, refl, sym, ap, subst, ◌∙◌, arith, inl, inr}
+use Rattle.std.proofs.Common.{◌≡◌, ◌≤◌, ◌<◌, ◌⊎◌, ℕ, ◌+◌, ◌*◌, ◌++◌, Bool, true, false, zero, suc, List, [], ◌∷◌, Option, Some, None, length, arith}
 use Rattle.std.specs.Prelude.{slice_get}
 use Rattle.nq_base.specs.declared.Party.{Party}
 use Rattle.nq_base.specs.declared.Request.{Request}
@@ -8,7 +8,7 @@ use Rattle.nq_base.specs.declared.Tag.{Tag}
 use Rattle.nq_base.specs.declared.Who.{Who}
 use Rattle.nq_model.specs.Client.{Client}
 use Rattle.nq_model.specs.Hear.{wants_of}
-use Rattle.nq_model.specs.Message.{Message, Packet, call, reply, error}
+use Rattle.nq_model.specs.Message.{Message, call, reply, error}
 use Rattle.nq_model.specs.Server.{Server, to_host}
 use Rattle.nq_model.specs.Table.{find_row}
 use Rattle.nq_model.specs.World.{World, from_host}

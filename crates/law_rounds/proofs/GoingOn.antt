@@ -9,12 +9,11 @@ use Rattle.nq_model.specs.Client.{Client, ClientStep, UnderWay, begun}
 use Rattle.nq_model.specs.ClientStep.{begins_call, is_called, says_busy, client_call, at_time, sends_again, client_tick, attached_client, starts, fresh_client, restart}
 use Rattle.nq_model.specs.Hear.{hear, replied, cancels, evicted}
 use Rattle.nq_model.specs.Message.{Message, asker}
-use Rattle.nq_model.specs.Send.{send_next, is_asking, sends_request}
+use Rattle.nq_model.specs.Send.{send_next, is_asking}
 use Rattle.nq_model.specs.Settle.{answers, names_losses, after_read, reads_cached, after_write, marks_written, settle}
 use Rattle.nq_model.specs.World.{Head, World, after_server, after_client, start, run}
 use Rattle.walk_steps.proofs.ClientFacts.{Alone, fits_attach, fits_job}
 use Rattle.walk_steps.proofs.ClientMoves.{some-same, none-some}
-use Rattle.walk_steps.proofs.SendCases.{send-moves}
 use Rattle.walk_steps.proofs.SettleCases.{settle-cases, settle-settles}
 use Rattle.walk_steps.proofs.StepCases.{call-cases, unless-cached-cases, tick-cases, heard-cases}
 use Rattle.walk_steps.proofs.Steps.{Changes, nothing, by_client, by_server, ClientActs, called, ticked, restarted, heard, step-changes}
@@ -24,20 +23,9 @@ use Rattle.walk_steps.proofs.Tests.{is-at-most, is-not-at-most}
 use Rattle.law_rounds.specs.CallsGoOn.{AsksToBeAttached, CallsGoOn}
 use Rattle.law_rounds.proofs.Busy.{Busy, asks-next}
 use Rattle.law_rounds.proofs.Prompt.{Prompt, hear-prompt, call-prompt, tick-prompt, restart-prompt}
+use Rattle.law_rounds.proofs.Dues.{sent-or-same}
 
 -- ---- a step that ends with the next request
-
--- nothing was sent, or a request is under way
-sent-or-same : (in_tick : Bool) (t : ClientStep) → (is_asking (send_next in_tick t) ≡ true) ⊎ (send_next in_tick t ≡ t)
-unfolding sends_request
-sent-or-same in_tick t = send-moves in_tick t (λ v. (is_asking v ≡ true) ⊎ (v ≡ t)) (record {
-  kept = inr refl;
-  pushes = λ file p first. inl refl;
-  asks = λ job request. inl refl;
-  decides = λ request. inl refl;
-  writes = λ file block body. inl refl;
-  changes = λ file request. inl refl;
-})
 
 ends-busy : (in_tick : Bool) (t : ClientStep) → Alone (send_next in_tick (settle t)).client → Busy (send_next in_tick (settle t))
 ends-busy in_tick t alone = by (sent-or-same in_tick (settle t))

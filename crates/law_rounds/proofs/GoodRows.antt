@@ -1,5 +1,5 @@
 -- The row of a host that a VACATED and a request of it may find: it shares the file, or goes by that VACATED, or serves the request.
-use Rattle.std.proofs.Common.{◌≡◌, ◌≢◌, ◌<◌, ◌≤◌, ℕ, ◌+◌, ◌-◌, ◌==◌, ◌&&◌, Bool, true, false, nat_lt, List, [], ◌∷◌, Option, Some, None, if◌then◌else◌, length, refl, sym, ap, subst, ◌∙◌, arith}
+use Rattle.std.proofs.Common.{◌≡◌, ℕ, ◌-◌, Bool, true, false, List, Some, None, refl, sym, ap, subst, ◌∙◌}
 use Rattle.std.specs.Option.{option_map}
 use Rattle.nq_base.specs.declared.Access.{Access}
 use Rattle.nq_base.specs.declared.Mode.{Mode}
@@ -8,9 +8,8 @@ use Rattle.nq_base.specs.declared.Row.{Row}
 use Rattle.nq_base.specs.declared.Tag.{Tag}
 use Rattle.nq_base.specs.declared.Want.{Want}
 use Rattle.nq_base.specs.declared.Who.{Who}
-use Rattle.nq_model.specs.Ask.{Reply, ask, term_of, marked, sharing_row, caching_row, shared_again, renewed_row, put_off_by_own, granted, no_lease, free}
-use Rattle.nq_model.specs.Profile.{most_rows}
-use Rattle.nq_model.specs.Table.{Table, caches, is_writing, greater_mode, find_row, is_row_of, put_row, with_rows, after_draw}
+use Rattle.nq_model.specs.Ask.{ask, marked, sharing_row, caching_row, shared_again, renewed_row, put_off_by_own, granted, no_lease, free}
+use Rattle.nq_model.specs.Table.{Table, caches, is_writing, greater_mode, find_row, put_row, with_rows, after_draw}
 use Rattle.walk_steps.proofs.ClientMoves.{some-same, none-some}
 use Rattle.walk_steps.proofs.AskCases.{IsGranted, shares_again, begins_sharing, begins_caching, renews_row, own_in, has_room, asks}
 use Rattle.walk_steps.proofs.RowChanges.{mark, find-marked, mark-is, find-put-same}

@@ -1,8 +1,8 @@
 -- In every run each packet of a client, and each row, is of a host that is there; so fewer notices than hosts are sent at a time.
-use Rattle.std.proofs.Common.{◌≡◌, ◌<◌, ◌⊎◌, ℕ, ◌+◌, ◌==◌, ◌&&◌, zero, suc, Bool, true, false, List, [], ◌∷◌, Option, Some, None, if◌then◌else◌, length, refl, sym, ap, subst, ◌∙◌, arith, inl, inr}
+use Rattle.std.proofs.Common.{◌≡◌, ◌<◌, ◌⊎◌, ℕ, ◌+◌, ◌==◌, ◌&&◌, Bool, true, false, List, [], ◌∷◌, Option, Some, None, if◌then◌else◌, length, refl, sym, ap, subst, ◌∙◌, arith, inl, inr}
 use Rattle.std.specs.List.{filter}
 use Rattle.std.specs.Option.{option_map}
-use Rattle.std.specs.Prelude.{map, slice_get}
+use Rattle.std.specs.Prelude.{map}
 use Rattle.nq_base.specs.declared.Access.{Access}
 use Rattle.nq_base.specs.declared.Event.{Event}
 use Rattle.nq_base.specs.declared.Party.{Party}
@@ -24,7 +24,6 @@ use Rattle.nq_promises.specs.RowsStandApart.{HasOneRowEach, StandApart}
 use Rattle.nq_promises.specs.ServerAlone.{Coming, datagram, step_for, server_after, first_boot}
 use Rattle.law_bounds.proofs.NoticeCounts.{HostedBelow}
 use Rattle.law_bounds.proofs.ServerAlone.{rows-stand-apart}
-use Rattle.walk_steps.proofs.ClientMoves.{none-some}
 use Rattle.walk_steps.proofs.Members.{in-map}
 use Rattle.walk_steps.proofs.Packets.{In, in-append, in-get}
 use Rattle.walk_steps.proofs.ServerSays.{IsSaid, said_reply, said_error, said_notice, AllSaid}
@@ -37,12 +36,7 @@ use Rattle.walk_steps.proofs.ServerCases.{server-hears}
 use Rattle.walk_steps.proofs.ServerMoves.{tick-moves}
 use Rattle.walk_steps.proofs.ServerOutcomes.{IsFrom}
 use Rattle.law_rounds.proofs.ClientCount.{client-count}
-
--- a number that is found stands below the length
-pub get-below : {A : Type 0} (xs : List A) (i : ℕ) (x : A) → slice_get xs i ≡ Some x → i < length xs
-get-below [] i x is = none-some x is
-get-below (y ∷ xs) zero x is = omega arith
-get-below (y ∷ xs) (suc i) x is = let rest = get-below xs i x is in omega arith
+use Rattle.law_rounds.proofs.ClientSteps.{get-below}
 
 module _ (n : ℕ) where
   -- ---- rows of hosts below a number

@@ -142,7 +142,7 @@ ones-are : (first : ℕ) (more : List Packet) → all_numbers (ones first more) 
 ones-are first [] = refl
 ones-are first (p ∷ more) = ap (λ ns. first ∷ ns) (ones-are (first + 1) more)
 
-get-behind : {A : Type 0} (xs : List A) (y : A) (ys : List A) → slice_get (xs ++ y ∷ ys) (length xs) ≡ Some y
+pub get-behind : {A : Type 0} (xs : List A) (y : A) (ys : List A) → slice_get (xs ++ y ∷ ys) (length xs) ≡ Some y
 get-behind [] y ys = refl
 get-behind (x ∷ xs) y ys = get-behind xs y ys
 

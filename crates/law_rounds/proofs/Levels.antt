@@ -1,8 +1,7 @@
 -- One delivery without a turn, of an item of a generation: what is known of the others stays known, and the new ones are of the next.
-use Rattle.std.proofs.Common.{◌≡◌, ◌≢◌, ◌≤◌, ◌<◌, ◌⊎◌, ℕ, ◌+◌, ◌*◌, ◌==◌, ◌&&◌, ◌++◌, Bool, true, false, zero, suc, pred, List, [], ◌∷◌, Option, Some, None, length, refl, sym, ap, subst, ◌∙◌, arith, inl, inr}
+use Rattle.std.proofs.Common.{◌≡◌, ◌≢◌, ◌≤◌, ℕ, ◌==◌, ◌&&◌, Bool, true, false, zero, suc, pred, List, [], ◌∷◌, Option, Some, None, refl, sym, ap, subst, ◌∙◌, arith, inl, inr}
 use Rattle.std.specs.Prelude.{slice_get}
 use Rattle.std.proofs.lemmas.Bool.{and_parts}
-use Rattle.nq_base.specs.declared.Party.{Party}
 use Rattle.nq_base.specs.declared.Request.{Request}
 use Rattle.nq_base.specs.declared.Row.{Row}
 use Rattle.nq_base.specs.declared.Tag.{Tag}
@@ -13,18 +12,16 @@ use Rattle.nq_model.specs.Message.{Message, Packet, call, reply, error}
 use Rattle.nq_model.specs.Server.{Server, ServerStep, to_host}
 use Rattle.nq_model.specs.Table.{find_row, drop_row}
 use Rattle.nq_model.specs.World.{World, from_host}
-use Rattle.walk_steps.proofs.ClientMoves.{none-some}
 use Rattle.walk_steps.proofs.Packets.{not-both}
-use Rattle.walk_steps.proofs.Rows.{same-number, number-same}
-use Rattle.law_rounds.proofs.Asked.{is_taken, rows_without, question_of, writes_for, IsSame, same-question, Vacates}
-use Rattle.law_rounds.proofs.AskSteps.{StillTaken, Outcome, falls, goes_on}
+use Rattle.walk_steps.proofs.Rows.{same-number}
+use Rattle.law_rounds.proofs.Asked.{is_taken, rows_without, writes_for, same-question, Vacates}
 use Rattle.law_rounds.proofs.ClientSteps.{CameOf, nothing, gives_up, asks_again}
 use Rattle.law_rounds.proofs.Energy.{energy, wish, tame-energy}
 use Rattle.law_rounds.proofs.Facts.{wants_in, Facts}
-use Rattle.law_rounds.proofs.Forms.{Agree, IsFormed, to_client, alone, paired, HasGoodRow, NoticeIsGood, PairIsGood, Fits, heavy, notice_weight, pair_weight, item_weight, weight_of}
-use Rattle.law_rounds.proofs.GoodRows.{IsGood, good-same}
-use Rattle.law_rounds.proofs.Items.{Item, one, pair, Each, each-map, IsSentAs}
-use Rattle.law_rounds.proofs.RowSteps.{tame-dropped, tame-self}
+use Rattle.law_rounds.proofs.Forms.{Agree, IsFormed, to_client, alone, paired, HasGoodRow, NoticeIsGood, PairIsGood, Fits, notice_weight, pair_weight, item_weight, weight_of}
+use Rattle.law_rounds.proofs.GoodRows.{good-same}
+use Rattle.law_rounds.proofs.Items.{Item, one, pair, Each, IsSentAs}
+use Rattle.law_rounds.proofs.RowSteps.{tame-dropped}
 use Rattle.law_rounds.proofs.ServerSteps.{taken-row, without-others}
 
 -- a request that wants a lease on a file wishes it

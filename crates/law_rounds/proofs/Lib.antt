@@ -5,6 +5,7 @@ pub mod GoingOn
 pub mod RowEnds
 pub mod Meant
 pub mod SendsAgain
+pub mod NamedTags
 pub mod NamedRows
 pub mod SharingRows
 pub mod SharedRows

@@ -1,5 +1,5 @@
 -- A measure of what is left of a delivery: a power, times a weight.
-use Rattle.std.proofs.Common.{◌≡◌, ◌≤◌, ◌<◌, ℕ, ◌+◌, ◌*◌, ◌-◌, zero, suc, sym, subst, arith}
+use Rattle.std.proofs.Common.{◌≡◌, ◌≤◌, ℕ, ◌+◌, ◌*◌, ◌-◌, zero, suc, sym, subst, arith}
 use Rattle.law_rounds.specs.DeliveryEnds.{power, growth}
 
 pub times-more : (a b c : ℕ) → b ≤ c → a * b ≤ a * c

@@ -1,5 +1,5 @@
 -- A VACATED is delivered to the server, and then the request right behind it.
-use Rattle.std.proofs.Common.{◌≡◌, ◌≤◌, ◌<◌, ◌⊎◌, ℕ, ◌+◌, ◌*◌, ◌++◌, Bool, true, false, zero, suc, pred, List, [], ◌∷◌, Option, Some, None, length, refl, sym, ap, subst, ◌∙◌, arith, inl, inr}
+use Rattle.std.proofs.Common.{◌≡◌, ◌≤◌, ◌<◌, ℕ, ◌+◌, ◌*◌, ◌++◌, Bool, true, false, pred, List, [], ◌∷◌, Option, Some, length, refl, sym, ap, subst, ◌∙◌, arith}
 use Rattle.std.proofs.lemmas.List.{append-nil}
 use Rattle.nq_base.specs.declared.Event.{Event}
 use Rattle.nq_base.specs.declared.Request.{Request}
@@ -12,13 +12,13 @@ use Rattle.nq_model.specs.Lines.{Play, play}
 use Rattle.nq_model.specs.Message.{call}
 use Rattle.nq_model.specs.Server.{Server, ServerStep}
 use Rattle.nq_model.specs.Table.{find_row}
-use Rattle.nq_model.specs.World.{World, from_host}
+use Rattle.nq_model.specs.World.{from_host}
 use Rattle.law_rounds.proofs.Asked.{is_taken, rows_without, question_of, IsSame, Hears, Vacates, request-hears}
 use Rattle.law_rounds.proofs.AskSteps.{Outcome, falls, goes_on}
 use Rattle.law_rounds.proofs.ClientSteps.{sum_of}
 use Rattle.law_rounds.proofs.Deliver.{Spends, less_energy, less_weight, GoesOn}
-use Rattle.law_rounds.proofs.Energy.{energy, wish}
-use Rattle.law_rounds.proofs.Facts.{wants_in, Facts, AskersHaveRows}
+use Rattle.law_rounds.proofs.Energy.{wish}
+use Rattle.law_rounds.proofs.Facts.{Facts, AskersHaveRows}
 use Rattle.law_rounds.proofs.Forms.{Agree, IsFormed, Fits, heavy, pair_weight, item_weight, weight_of, weight-append}
 use Rattle.law_rounds.proofs.Items.{Item, one, pair, Each, IsSentAs, Queued, pair-apart, ones}
 use Rattle.law_rounds.proofs.Levels.{wish-of, KeepsGood, pred-small, items-less}

@@ -1,23 +1,13 @@
 -- One delivery of a play, or two: what is under way then.
-use Rattle.std.proofs.Common.{◌≡◌, ◌≤◌, ◌<◌, ◌⊎◌, ℕ, ◌+◌, ◌*◌, ◌++◌, Bool, true, false, zero, suc, List, [], ◌∷◌, Option, Some, None, length, refl, sym, ap, subst, ◌∙◌, arith, inl, inr}
+use Rattle.std.proofs.Common.{◌≡◌, ◌≤◌, ℕ, ◌+◌, ◌*◌, ◌++◌, zero, suc, List, [], ◌∷◌, Some, length, refl, sym, ap, subst, ◌∙◌, arith}
 use Rattle.std.specs.Prelude.{map, slice_get}
 use Rattle.std.proofs.lemmas.List.{append-nil, length-append}
 use Rattle.nq_base.specs.declared.Event.{Event}
-use Rattle.nq_base.specs.declared.Party.{Party}
-use Rattle.nq_base.specs.declared.Request.{Request}
-use Rattle.nq_base.specs.declared.Tag.{Tag}
-use Rattle.nq_base.specs.declared.Who.{Who}
-use Rattle.nq_model.specs.Client.{Client}
-use Rattle.nq_model.specs.Lines.{Play, play, play_flow, flow_first, numbers_from, without, added}
-use Rattle.nq_model.specs.Message.{Message, Packet, call, datagram_of}
-use Rattle.nq_model.specs.Server.{Server, ServerStep, to_host}
-use Rattle.nq_model.specs.ServerStep.{receive}
-use Rattle.nq_model.specs.World.{World, from_host, after_client, after_server, sending_host, deliver, deliver_to, step}
-use Rattle.walk_steps.proofs.Packets.{in-get}
+use Rattle.nq_model.specs.Lines.{Play, play, flow_first, numbers_from, without, added}
+use Rattle.nq_model.specs.Message.{Packet}
+use Rattle.nq_model.specs.World.{World, from_host, after_client, after_server, step}
 use Rattle.walk_steps.proofs.Steps.{Changes, nothing, by_client, by_server, step-changes}
-use Rattle.law_rounds.proofs.Facts.{Facts}
-use Rattle.law_rounds.proofs.Forms.{Agree}
-use Rattle.law_rounds.proofs.Items.{Item, one, pair, all_numbers, numbers_of, Each, IsSingle, IsSentAs, Rise, Queued, Adds, adds-ones, all-append, ones, delivered-queue, queue-of}
+use Rattle.law_rounds.proofs.Items.{Item, one, pair, all_numbers, numbers_of, Each, IsSingle, Rise, Queued, Adds, adds-ones, all-append, ones, delivered-queue, queue-of}
 
 -- ---- packets that one delivery adds
 

@@ -1,6 +1,6 @@
 -- From the third round on all clients are quiet once all has arrived.
-use Rattle.std.proofs.Common.{◌≡◌, ◌<◌, ◌⊎◌, ℕ, ◌+◌, Bool, true, false, zero, suc, List, [], ◌∷◌, Option, Some, None, is_some, length, refl, sym, subst, ap, ◌∙◌, arith, inl, inr}
-use Rattle.std.specs.Prelude.{slice_get, slice_index_or}
+use Rattle.std.proofs.Common.{◌≡◌, ◌<◌, ◌⊎◌, ℕ, ◌+◌, Bool, true, false, List, [], Option, Some, None, is_some, length, refl, sym, subst, ap, ◌∙◌, arith, inl, inr}
+use Rattle.std.specs.Prelude.{slice_get}
 use Rattle.nq_base.specs.declared.Call.{Call}
 use Rattle.nq_base.specs.declared.Push.{Push}
 use Rattle.nq_model.specs.Client.{Client, Notice, UnderWay, notice_on}
@@ -9,12 +9,11 @@ use Rattle.nq_model.specs.World.{Head, World, run}
 use Rattle.law_rounds.specs.CallsGoOn.{GoesOn}
 use Rattle.law_rounds.proofs.ClientCount.{client-count}
 use Rattle.law_rounds.proofs.GoingOn.{calls-go-on}
-use Rattle.law_rounds.proofs.HostsBelow.{get-below}
 use Rattle.law_files.proofs.ChainWorlds.{chain-fits}
 use Rattle.law_rounds.specs.DeliveryEnds.{calmed, enough_deliveries}
 use Rattle.law_rounds.specs.CalmRound.{calm_rounds}
 use Rattle.law_rounds.specs.CalmRoundsAreLawful.{IsLawful}
-use Rattle.law_rounds.proofs.AllAttached.{rounds-more}
+use Rattle.law_rounds.proofs.AllAttached.{rounds-more, all-found}
 use Rattle.law_rounds.proofs.CalmEnds.{IsRising, rounds-rising, calmed-rising}
 use Rattle.law_rounds.proofs.CalmIsLawful.{rounds}
 use Rattle.walk_steps.proofs.ClientMoves.{none-some}
@@ -26,11 +25,7 @@ use Rattle.law_rounds.specs.WholeRounds.{play_order, whole_rounds, WholeRoundsEn
 use Rattle.law_rounds.proofs.CalmOrders.{calm_order, delivered-is, calm-arrives}
 use Rattle.law_rounds.proofs.Flows.{Covered, flow-small, order-small, none-asks, later-covers, third-covers}
 use Rattle.law_rounds.proofs.Orders.{order-lawful, wholes-lawful}
-
-all-found : {A : Type 0} (P : A → Type 0) (xs : List A) → ((i : ℕ) (x : A) → slice_get xs i ≡ Some x → P x) → (k : ℕ) (d : A) → k < length xs → P (slice_index_or xs k d)
-all-found P [] given k d below = absurd (omega arith)
-all-found P (y ∷ xs) given zero d below = given 0 y refl
-all-found P (y ∷ xs) given (suc k) d below = all-found P xs (λ i x is. given (suc i) x is) k d (omega arith)
+use Rattle.law_rounds.proofs.ClientSteps.{get-below}
 
 module _ (most : ℕ) (head : Head) where
   -- a client of a run that has no request under way is quiet

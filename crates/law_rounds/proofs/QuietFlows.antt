@@ -1,5 +1,5 @@
 -- Calm deliveries end while the server recovers, and where no call waits for a lease.
-use Rattle.std.proofs.Common.{◌≡◌, ◌≤◌, ◌<◌, ℕ, ◌+◌, ◌%◌, nat_lt, Bool, true, false, zero, suc, List, [], ◌∷◌, ◌++◌, Option, Some, None, length, refl, sym, ap, subst, ◌∙◌, arith}
+use Rattle.std.proofs.Common.{◌≡◌, ◌≤◌, ◌<◌, ℕ, ◌+◌, ◌%◌, nat_lt, Bool, true, false, zero, suc, List, [], ◌∷◌, Option, Some, None, length, refl, sym, ap, subst, ◌∙◌, arith}
 use Rattle.std.specs.Prelude.{map, slice_get}
 use Rattle.std.proofs.lemmas.List.{append-nil, length-append}
 use Rattle.nq_base.specs.declared.Event.{Event}
@@ -42,13 +42,9 @@ use Rattle.law_rounds.proofs.Bounds.{within-bound}
 use Rattle.law_rounds.proofs.CalmIsLawful.{calm-is-lawful}
 use Rattle.law_rounds.proofs.EffortReplies.{cancel-costs, spared-costs}
 use Rattle.law_rounds.proofs.FlowEnds.{AllSent, IsSentAll, sent-wider, sent-filter, sent-append, sent-from, left_to_pay, Affords, flow-ends}
+use Rattle.law_rounds.proofs.Plays.{Grows}
 
 -- ---- what is under way was sent, in each play of a calm network
-
--- an event only adds packets
-pub record Grows (w v : World) : Type 0 where
-  pub more : List Packet
-  pub is : v.packets ≡ w.packets ++ more
 
 pub grown : (w v : World) → Changes w v → Grows w v
 unfolding after_client after_server

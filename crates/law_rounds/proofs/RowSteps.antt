@@ -1,17 +1,15 @@
 -- What becomes of the rows that hosts wait for: as a row is dropped, marked or put.
-use Rattle.std.proofs.Common.{◌≡◌, ◌≢◌, ◌<◌, ◌⊎◌, ℕ, ◌==◌, ◌&&◌, ◌||◌, Bool, true, false, not, List, Option, Some, None, if◌then◌else◌, refl, sym, ap, subst, ◌∙◌, arith, inl, inr}
+use Rattle.std.proofs.Common.{◌≡◌, ◌≢◌, ◌<◌, ◌⊎◌, ℕ, ◌==◌, ◌&&◌, ◌||◌, Bool, true, false, not, List, Option, Some, None, if◌then◌else◌, refl, sym, ap, subst, ◌∙◌, inl, inr}
 use Rattle.std.specs.Option.{option_map}
 use Rattle.std.proofs.lemmas.Bool.{and_parts}
 use Rattle.nq_base.specs.declared.Access.{Access}
-use Rattle.nq_base.specs.declared.Mode.{Mode}
 use Rattle.nq_base.specs.declared.Row.{Row}
 use Rattle.nq_model.specs.Ask.{conflicts, marked, mode_conflicts}
 use Rattle.nq_model.specs.Table.{caches, find_row, is_row_of, drop_row, put_row}
-use Rattle.walk_steps.proofs.ClientMoves.{some-same, none-some}
 use Rattle.walk_steps.proofs.RowChanges.{mark, mark-is, of-key, has-key, find-put, find-marked, find-row-dropped, find-other-dropped}
-use Rattle.walk_steps.proofs.Rows.{found-row, same-number, number-same}
+use Rattle.walk_steps.proofs.Rows.{found-row, same-number}
 use Rattle.walk_steps.proofs.Tests.{is-other}
-use Rattle.law_rounds.proofs.Energy.{any_below, any-more, any-here, any-none, is_sharing, shares_file, is_shared_in, is_doomed, doomed_at, KeepSharing, IsTame}
+use Rattle.law_rounds.proofs.Energy.{any-more, any-here, any-none, is_sharing, shares_file, is_shared_in, is_doomed, doomed_at, KeepSharing, IsTame}
 
 -- ---- tests
 
@@ -35,9 +33,6 @@ doomed-more a b (Some row) f e = let k = doomed-caches a row e in doomed-by b ro
 
 sharing-not : (row : Row) → caches row.mode ≡ true → is_sharing (Some row) ≡ false
 sharing-not row e = ap not e
-
-sharing-is : (row : Row) → caches row.mode ≡ false → is_sharing (Some row) ≡ true
-sharing-is row e = ap not e
 
 -- whether a place is this file and host
 pub at-key : (file host f h : ℕ) → ((f ≡ file) × (h ≡ host)) ⊎ (f ≡ file → h ≢ host)

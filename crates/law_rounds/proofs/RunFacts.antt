@@ -1,5 +1,5 @@
 -- What is used of each run holds.
-use Rattle.std.proofs.Common.{◌≡◌, ◌≤◌, ◌<◌, ◌⊎◌, ℕ, ◌+◌, ◌==◌, ◌&&◌, Bool, true, false, zero, suc, List, [], ◌∷◌, Option, Some, None, is_some, if◌then◌else◌, length, refl, sym, ap, subst, ◌∙◌, arith, inl, inr}
+use Rattle.std.proofs.Common.{◌≡◌, ◌⊎◌, ℕ, ◌&&◌, Bool, true, false, suc, List, [], ◌∷◌, Option, Some, None, if◌then◌else◌, length, refl, sym, ap, subst, ◌∙◌, inl, inr}
 use Rattle.std.specs.List.{find}
 use Rattle.std.specs.Prelude.{slice_get}
 use Rattle.std.proofs.lemmas.Bool.{and_parts}
@@ -13,7 +13,7 @@ use Rattle.nq_base.specs.declared.Row.{Row}
 use Rattle.nq_base.specs.declared.Tag.{Tag}
 use Rattle.nq_base.specs.declared.Want.{Want}
 use Rattle.nq_base.specs.declared.Who.{Who}
-use Rattle.nq_model.specs.Client.{Client, ClientStep, Job, attaching, for_call, renewing, pushing, Ticket, UnderWay}
+use Rattle.nq_model.specs.Client.{Client, ClientStep, Job, attaching, for_call, renewing, pushing, Ticket}
 use Rattle.nq_model.specs.Hear.{hear, reply_counts, is_of_procedure, wants_of, inc_of}
 use Rattle.nq_model.specs.Message.{Message, Packet, call, reply, error, datagram_of}
 use Rattle.nq_model.specs.Server.{to_host}
@@ -35,7 +35,7 @@ use Rattle.walk_steps.proofs.Tests.{there-is}
 use Rattle.law_rounds.specs.Efforts.{is_idle}
 use Rattle.law_rounds.specs.NamedRows.{by_notice, by_vacated}
 use Rattle.law_rounds.specs.SendsAgain.{is_cancelled}
-use Rattle.law_rounds.specs.Turns.{turns_left, IsOfUse, IsOfUseTo, TakesTurn}
+use Rattle.law_rounds.specs.Turns.{turns_left, IsOfUseTo, TakesTurn}
 use Rattle.law_rounds.proofs.ClientCount.{client-count}
 use Rattle.law_rounds.proofs.HostsBelow.{stands-apart}
 use Rattle.law_rounds.proofs.Meant.{requests-are-meant}

@@ -1,38 +1,33 @@
 -- A packet is delivered to the server, or a VACATED and the request right behind it.
-use Rattle.std.proofs.Common.{◌≡◌, ◌≤◌, ◌<◌, ◌⊎◌, ℕ, ◌+◌, ◌*◌, ◌++◌, Bool, true, false, zero, suc, pred, List, [], ◌∷◌, Option, Some, None, length, refl, sym, ap, subst, ◌∙◌, arith, inl, inr}
+use Rattle.std.proofs.Common.{◌≡◌, ◌≤◌, ◌<◌, ℕ, ◌+◌, ◌*◌, ◌++◌, true, pred, List, [], ◌∷◌, Option, Some, length, refl, sym, ap, subst, ◌∙◌, arith}
 use Rattle.std.specs.Prelude.{slice_get}
 use Rattle.std.proofs.lemmas.Bool.{and_parts}
-use Rattle.std.proofs.lemmas.List.{append-nil, length-append}
 use Rattle.nq_base.specs.declared.Event.{Event}
-use Rattle.nq_base.specs.declared.Party.{Party}
 use Rattle.nq_base.specs.declared.Request.{Request}
 use Rattle.nq_base.specs.declared.Row.{Row}
 use Rattle.nq_base.specs.declared.Tag.{Tag}
 use Rattle.nq_base.specs.declared.Who.{Who}
 use Rattle.nq_model.specs.Client.{Client}
-use Rattle.nq_model.specs.Hear.{wants_of}
 use Rattle.nq_model.specs.Kept.{host_row}
 use Rattle.nq_model.specs.Lines.{Play, play}
-use Rattle.nq_model.specs.Message.{Message, Packet, call, datagram_of}
+use Rattle.nq_model.specs.Message.{Message, call, datagram_of}
 use Rattle.nq_model.specs.Profile.{most_hosts}
 use Rattle.nq_model.specs.Server.{Server, ServerStep, to_host}
 use Rattle.nq_model.specs.ServerStep.{receive}
 use Rattle.nq_model.specs.Table.{find_row}
-use Rattle.nq_model.specs.World.{World, from_host, after_server, deliver, step}
+use Rattle.nq_model.specs.World.{World, from_host, after_server, deliver}
 use Rattle.walk_steps.proofs.Packets.{not-both, message-same}
 use Rattle.walk_steps.proofs.Rows.{same-number}
-use Rattle.law_rounds.proofs.Asked.{is_taken, Vacates, vacated-request, request-hears}
-use Rattle.law_rounds.proofs.AskSteps.{Outcome, falls, goes_on}
+use Rattle.law_rounds.proofs.Asked.{is_taken, Vacates, vacated-request}
 use Rattle.law_rounds.proofs.ClientSteps.{sum_of}
-use Rattle.law_rounds.proofs.Deliver.{Spends, less_energy, less_weight, GoesOn}
-use Rattle.law_rounds.proofs.Energy.{energy, wish}
-use Rattle.law_rounds.proofs.Facts.{wants_in, Facts, AskersHaveRows}
-use Rattle.law_rounds.proofs.Forms.{Agree, IsFormed, to_client, alone, paired, NoticeIsGood, PairIsGood, Fits, heavy, pair_weight, item_weight, weight_of, weight-append}
-use Rattle.law_rounds.proofs.Items.{Item, one, pair, Each, each-both, IsSentAs, Queued, Adds, adds-none, pair-apart, ones}
-use Rattle.law_rounds.proofs.Levels.{wish-of, KeepsGood, form-of, sends-fit, pred-small, alone-look, alone-keeps, alone-energy, items-less}
+use Rattle.law_rounds.proofs.Deliver.{Spends, less_weight, GoesOn}
+use Rattle.law_rounds.proofs.Facts.{wants_in, Facts}
+use Rattle.law_rounds.proofs.Forms.{Agree, IsFormed, to_client, alone, paired, NoticeIsGood, PairIsGood, Fits, weight_of, weight-append}
+use Rattle.law_rounds.proofs.Items.{Item, one, Each, IsSentAs, Queued, ones}
+use Rattle.law_rounds.proofs.Levels.{KeepsGood, form-of, sends-fit, pred-small, alone-look, alone-keeps, alone-energy, items-less}
 use Rattle.law_rounds.proofs.Plays.{first-sent, next-queue, adds-most}
-use Rattle.law_rounds.proofs.ServerSends.{t, came, adds, new-formed, new-good, new-pairs, few-sent, new-light}
-use Rattle.law_rounds.proofs.ServerSteps.{taken-row, pair-out, pair-keeps}
+use Rattle.law_rounds.proofs.ServerSends.{came, adds, new-formed, new-good, new-pairs, few-sent, new-light}
+use Rattle.law_rounds.proofs.ServerSteps.{taken-row}
 
 module _ (hosts few : ℕ) (turns : Client → ℕ) (asks : ℕ → Option Request) where
   -- all that the server sends fits

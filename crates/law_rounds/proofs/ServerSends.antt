@@ -1,5 +1,5 @@
 -- What the server sends in a delivery: notices for rows that are to go, replies and errors, each a light packet.
-use Rattle.std.proofs.Common.{◌≡◌, ◌≤◌, ◌<◌, ◌⊎◌, ℕ, ◌+◌, ◌*◌, ◌==◌, ◌&&◌, ◌++◌, Bool, true, false, suc, List, [], ◌∷◌, Option, Some, length, refl, sym, ap, subst, ◌∙◌, arith, inl, inr}
+use Rattle.std.proofs.Common.{◌≡◌, ◌≤◌, ℕ, ◌+◌, ◌*◌, ◌==◌, ◌&&◌, ◌++◌, Bool, true, false, List, [], ◌∷◌, Option, Some, length, refl, sym, ap, subst, ◌∙◌, arith, inl, inr}
 use Rattle.std.specs.Prelude.{slice_get}
 use Rattle.std.proofs.lemmas.List.{length-append}
 use Rattle.nq_base.specs.declared.Event.{Event}
@@ -9,19 +9,19 @@ use Rattle.nq_base.specs.declared.Row.{Row}
 use Rattle.nq_base.specs.declared.Tag.{Tag}
 use Rattle.nq_base.specs.declared.Who.{Who}
 use Rattle.nq_model.specs.Client.{Client}
-use Rattle.nq_model.specs.Message.{Message, Packet, call, reply, error, datagram_of}
-use Rattle.nq_model.specs.Server.{Server, ServerStep, to_host}
+use Rattle.nq_model.specs.Message.{Packet, reply, error, datagram_of}
+use Rattle.nq_model.specs.Server.{Server, ServerStep}
 use Rattle.nq_model.specs.ServerStep.{receive}
 use Rattle.nq_model.specs.Table.{find_row, same_tag}
-use Rattle.nq_model.specs.World.{World, from_host, after_server, sending_host, deliver, deliver_to, step}
+use Rattle.nq_model.specs.World.{World, after_server, sending_host, deliver, deliver_to, step}
 use Rattle.walk_steps.proofs.Packets.{In, in-get}
 use Rattle.walk_steps.proofs.ServerSays.{IsSaid, said_reply, said_error, said_notice}
 use Rattle.walk_steps.proofs.Worlds.{received-said}
 use Rattle.walk_steps.proofs.Rows.{number-same}
-use Rattle.law_rounds.proofs.Asked.{is_taken, writes_for}
+use Rattle.law_rounds.proofs.Asked.{is_taken}
 use Rattle.law_rounds.proofs.Facts.{wants_in, IsNamed, Facts}
-use Rattle.law_rounds.proofs.Forms.{IsFormed, to_client, NoticeIsGood, PairIsGood, notice_weight, message_weight, item_weight, weight_of}
-use Rattle.law_rounds.proofs.GoodRows.{IsGood, goes}
+use Rattle.law_rounds.proofs.Forms.{IsFormed, to_client, NoticeIsGood, PairIsGood, notice_weight, item_weight, weight_of}
+use Rattle.law_rounds.proofs.GoodRows.{goes}
 use Rattle.law_rounds.proofs.Items.{Item, one, Each, Adds, adds-ones, ones}
 
 pub each-ones : (P : Item → Type 0) (n : ℕ) (sends : List Packet) → ((k : ℕ) (q : Packet) → In sends q → P (one k q)) → Each P (ones n sends)

@@ -1,37 +1,33 @@
 -- A VACATED is delivered, and the request right behind it: what becomes of the rows.
-use Rattle.std.proofs.Common.{◌≡◌, ◌≢◌, ◌≤◌, ◌<◌, ◌⊎◌, ℕ, ◌+◌, ◌-◌, ◌==◌, ◌&&◌, Bool, true, false, nat_lt, List, Option, Some, None, length, refl, sym, ap, subst, ◌∙◌, arith, inl, inr}
-use Rattle.std.specs.List.{find}
-use Rattle.std.specs.Prelude.{slice_get}
+use Rattle.std.proofs.Common.{◌≡◌, ◌≢◌, ◌≤◌, ◌<◌, ◌⊎◌, ℕ, ◌-◌, ◌==◌, Bool, true, false, nat_lt, List, Option, Some, None, length, refl, sym, ap, subst, ◌∙◌, arith, inl, inr}
 use Rattle.std.proofs.lemmas.Bool.Decides.{nat_tests}
 use Rattle.std.proofs.lemmas.Bool.{and_parts}
-use Rattle.nq_base.specs.declared.Access.{Access}
 use Rattle.nq_base.specs.declared.Question.{Question}
 use Rattle.nq_base.specs.declared.Request.{Request}
 use Rattle.nq_base.specs.declared.Row.{Row}
 use Rattle.nq_base.specs.declared.Tag.{Tag}
 use Rattle.nq_base.specs.declared.Want.{Want}
 use Rattle.nq_base.specs.declared.Who.{Who}
-use Rattle.nq_model.specs.Ask.{Reply, ask, conflicts, mode_conflicts, term_of, marked, sharing_row, caching_row, shared_again, renewed_row, put_off_by_own, granted, no_lease, free}
+use Rattle.nq_model.specs.Ask.{ask, conflicts, mode_conflicts, marked, sharing_row, caching_row, shared_again, renewed_row, put_off_by_own, granted, no_lease, free}
 use Rattle.nq_model.specs.Client.{Client}
 use Rattle.nq_model.specs.Hear.{wants_of}
-use Rattle.nq_model.specs.Kept.{host_row}
 use Rattle.nq_model.specs.Profile.{most_rows}
-use Rattle.nq_model.specs.Server.{Server, ServerStep}
-use Rattle.nq_model.specs.ServerStep.{access_of, access_of_mode}
+use Rattle.nq_model.specs.Server.{ServerStep}
+use Rattle.nq_model.specs.ServerStep.{access_of_mode}
 use Rattle.nq_model.specs.Table.{Table, caches, is_writing, find_row, drop_row, put_row, with_rows, after_draw, same_tag}
 use Rattle.nq_model.specs.World.{World}
 use Rattle.walk_steps.proofs.ClientMoves.{some-same, none-some}
 use Rattle.walk_steps.proofs.AskCases.{IsGranted, shares_again, begins_sharing, begins_caching, renews_row, own_in, clash_in, has_room, asks}
 use Rattle.walk_steps.proofs.RowChanges.{find-row-dropped, find-other-dropped, is-clash}
 use Rattle.walk_steps.proofs.Rows.{found-row, same-number, number-same, find-passes}
-use Rattle.law_rounds.proofs.Asked.{is_taken, rows_without, question_of, writes_for, IsOf, question-is, IsSame, same-question, same-after, Hears, mute, asked, Vacates}
-use Rattle.law_rounds.proofs.AskSteps.{StillTaken, Outcome, falls, goes_on, outcome-self, OwnRow, caching, sharing, own-asks, new-asks}
-use Rattle.law_rounds.proofs.Energy.{energy, wish, tame-energy, doomed-goes}
-use Rattle.law_rounds.proofs.Facts.{wants_in, Facts, AskersHaveRows}
+use Rattle.law_rounds.proofs.Asked.{is_taken, rows_without, question_of, writes_for, IsOf, question-is, IsSame, same-question, same-after, Hears, mute, asked}
+use Rattle.law_rounds.proofs.AskSteps.{Outcome, falls, goes_on, outcome-self, OwnRow, caching, sharing, own-asks, new-asks}
+use Rattle.law_rounds.proofs.Energy.{energy, wish, doomed-goes}
+use Rattle.law_rounds.proofs.Facts.{Facts, AskersHaveRows}
 use Rattle.law_rounds.proofs.Forms.{HasGoodRow}
 use Rattle.law_rounds.proofs.GoodRows.{IsGood, shares, goes, serves_it, good-same, good-marked, asker-keeps, asker-gets}
 use Rattle.law_rounds.proofs.RowCount.{dropped-shorter}
-use Rattle.law_rounds.proofs.RowSteps.{put-others, tame-dropped, dropped-none, going-doomed, tame-self}
+use Rattle.law_rounds.proofs.RowSteps.{put-others, tame-dropped, dropped-none, going-doomed}
 
 -- ---- the ask table leaves good rows of others good
 

@@ -28,7 +28,7 @@ use Rattle.walk_steps.proofs.Tests.{is-not-below, is-other}
 use Rattle.law_rounds.specs.SharingRows.{HasSharingRow, WhoAsksHasRow, WhoIsPutOffShares}
 use Rattle.law_rounds.specs.SharedFiles.{HasRow, HasCachingRow, SharedFilesStayShared}
 
-none-any : {A : Type 0} (p : A → Bool) (xs : List A) → list_any p xs ≡ false → find p xs ≡ None
+pub none-any : {A : Type 0} (p : A → Bool) (xs : List A) → list_any p xs ≡ false → find p xs ≡ None
 none-any p [] h = refl
 none-any p (x ∷ xs) h = by (p x) (none-any p xs) h
   where
@@ -37,7 +37,7 @@ none-any p (x ∷ xs) h = by (p x) (none-any p xs) h
     by false rest g = rest g
 
 -- a row that does not cache shares the file with each other host
-shares-it : (file host by : ℕ) (row : Row) → row.file ≡ file → row.who.host ≡ host → host ≢ by → caches row.mode ≡ false → shares file by row ≡ true
+pub shares-it : (file host by : ℕ) (row : Row) → row.file ≡ file → row.who.host ≡ host → host ≢ by → caches row.mode ≡ false → shares file by row ≡ true
 shares-it file host by row at of other none =
     let one : (row.file == file) ≡ true = number-same row.file file at in
     let two : (row.who.host == by) ≡ false = number-other row.who.host by (λ e. other (sym of ∙ e)) in

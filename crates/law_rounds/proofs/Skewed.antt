@@ -13,7 +13,7 @@ rest-same : {A : Type 0} (x y : A) (xs ys : List A) → x ∷ xs ≡ y ∷ ys �
 rest-same x y xs ys e = cc
 
 -- an event that is no tick of the server's clock keeps a schedule within skew
-quiet-parts : (hosts longest : ℕ) (e : Event) (events : List Event) → is_server_tick e ≡ 0 → IsWithinSkew hosts longest events → (before part after : List Event) → e ∷ events ≡ before ++ part ++ after → (host : ℕ) → host < hosts → ticks_of host part ≤ longest → server_ticks part ≤ ticks_of host part + skew
+pub quiet-parts : (hosts longest : ℕ) (e : Event) (events : List Event) → is_server_tick e ≡ 0 → IsWithinSkew hosts longest events → (before part after : List Event) → e ∷ events ≡ before ++ part ++ after → (host : ℕ) → host < hosts → ticks_of host part ≤ longest → server_ticks part ≤ ticks_of host part + skew
 quiet-parts hosts longest e events quiet within [] [] after split host there few = omega arith
 quiet-parts hosts longest e events quiet within [] (x ∷ part) after split host there few =
     let same : is_server_tick x ≡ 0 = subst (λ z. is_server_tick z ≡ 0) (first-same e x events (part ++ after) split) quiet in

@@ -92,7 +92,7 @@ settle-kept t = settle-cases t (Kept t) (record {
 
 -- ---- a reply
 
-asking-most : (o : Option Ticket) → asking_turns o ≤ 2
+pub asking-most : (o : Option Ticket) → asking_turns o ≤ 2
 asking-most None = omega arith
 asking-most (Some t) = omega arith
 

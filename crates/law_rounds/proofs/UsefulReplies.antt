@@ -11,7 +11,7 @@ use Rattle.nq_base.specs.declared.Row.{Row}
 use Rattle.nq_base.specs.declared.Verdict.{Verdict}
 use Rattle.nq_base.specs.declared.Want.{Want}
 use Rattle.nq_base.specs.declared.Who.{Who}
-use Rattle.nq_model.specs.Ask.{grant_of, shared_again, sharing_row, caching_row, renewed_row, term_of}
+use Rattle.nq_model.specs.Ask.{grant_of, shared_again, sharing_row, caching_row, renewed_row}
 use Rattle.nq_model.specs.Kept.{blocks_of}
 use Rattle.nq_model.specs.Profile.{granted_term}
 use Rattle.nq_model.specs.Decide.{Decision, in_the_way, verdict_reply, decides, creates, writes_through, stores, stores_recovering, resizes, removes, puts_off, commits}

@@ -1,22 +1,21 @@
 -- In every run each reply answers a request that was sent, and a lease by which no write can be delayed one that wants to read.
-use Rattle.std.proofs.Common.{◌≡◌, ◌⊎◌, ℕ, ◌+◌, true, List, [], ◌∷◌, ◌++◌, length, Option, Some, None, map, refl, sym, subst, ◌∙◌, inl, inr}
+use Rattle.std.proofs.Common.{◌≡◌, ◌⊎◌, ℕ, ◌+◌, List, [], ◌∷◌, ◌++◌, length, Option, Some, None, map, refl, sym, subst, inl, inr}
 use Rattle.std.specs.Prelude.{slice_get}
 use Rattle.nq_base.specs.declared.Event.{Event}
 use Rattle.nq_base.specs.declared.Party.{Party}
 use Rattle.nq_base.specs.declared.Reply.{Reply}
 use Rattle.nq_base.specs.declared.Request.{Request}
-use Rattle.nq_base.specs.declared.Tag.{Tag}
 use Rattle.nq_base.specs.declared.Who.{Who}
-use Rattle.nq_model.specs.Client.{Client, ClientStep, Job, attaching, for_call, renewing, pushing, Ticket}
+use Rattle.nq_model.specs.Client.{Client, ClientStep}
 use Rattle.nq_model.specs.ClientStep.{client_call, client_tick, restart}
 use Rattle.nq_model.specs.Hear.{hear, inc_of}
-use Rattle.nq_model.specs.Message.{Message, Packet, call, reply, error, asker, datagram_of, request}
+use Rattle.nq_model.specs.Message.{Message, Packet, reply, asker, datagram_of, request}
 use Rattle.nq_model.specs.Server.{ServerStep, to_host, quiet}
 use Rattle.nq_model.specs.ServerStep.{receive, tick, crash, opens, ends_writing}
 use Rattle.nq_model.specs.World.{Head, World, from_host, after_server, after_client, at_client, after_hearing, sending_host, deliver_to_client, deliver_to, deliver, step, start, run}
 use Rattle.walk_steps.proofs.Mail.{none-to-host}
 use Rattle.walk_steps.proofs.Packets.{In, in-left, in-append, in-get, Asked, Told}
-use Rattle.walk_steps.proofs.Worlds.{IsAt, Holds, to-server, to-told, run-holds}
+use Rattle.walk_steps.proofs.Worlds.{Holds, to-server, run-holds}
 use Rattle.walk_steps.proofs.ServerCases.{server-ticks}
 use Rattle.law_rounds.proofs.UsefulReplies.{IsReplyOf, receive-tells}
 

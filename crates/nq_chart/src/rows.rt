@@ -49,16 +49,11 @@ impl Steps {
 
 /// How high the notes of a row are, in pixels.
 fn height(row: &Row) -> u64 {
-    let left = row
-        .notes
-        .iter()
-        .filter(|note| note.side == Side::Left)
-        .count();
-    let right = row
-        .notes
-        .iter()
-        .filter(|note| note.side == Side::Right)
-        .count();
-    let lines = left.max(right).max(1) as u64;
-    lines.saturating_mul(LINE).saturating_add(4)
+    let lines = lines(row, Side::Left).max(lines(row, Side::Right)).max(1);
+    (lines as u64).saturating_mul(LINE).saturating_add(4)
+}
+
+/// How many notes of a row stand on a side.
+fn lines(row: &Row, side: Side) -> usize {
+    row.notes.iter().filter(|note| note.side == side).count()
 }

@@ -6,7 +6,7 @@ use crate::NoMemory;
 use crate::picture_rows::{Rows, packet_words, rows_of};
 use crate::record::{Record, Sent};
 use crate::spans::{Kind, Span};
-use crate::text::party_name;
+use crate::text::{owned, party_name};
 use nq_base::{Host, Mode, Party};
 use nq_chart::{Bar, Chart, Column, Packet, Part, Side, Tint, text_of};
 use std::alloc::Global;
@@ -164,7 +164,7 @@ fn bar(alloc: Global, hosts: u32, span: &Span, first: usize, last: usize) -> Res
 /// The name of a bar: the kind of the lease by its letter, the file, and at the server the host.
 fn bar_text(alloc: Global, kind: Kind) -> Result<String, NoMemory> {
     match kind {
-        Kind::Recovery => Ok(String::from_str(alloc, "recovery")?),
+        Kind::Recovery => owned(alloc, "recovery"),
         Kind::Lease { file, mode } => text_of(
             alloc,
             &[Part::Text(letter(mode)), Part::Number(file.0 as u64)],

@@ -5,7 +5,7 @@ ghost use Rattle.nq_record.specs.Words.{sign_of};
 
 use crate::NoMemory;
 use crate::record::Noted;
-use crate::text::{mode_word, named};
+use crate::text::{mode_word, named, owned};
 use nq_base::{Entry, Said, Spans, Told};
 use nq_chart::{Part, Sign, text_of};
 use std::alloc::Global;
@@ -14,19 +14,24 @@ use std::alloc::Global;
 pub fn entry_words(alloc: Global, entry: &Entry) -> Result<Noted, NoMemory>
     ensures { IfOk result (λ noted. noted.sign ≡ sign_of entry.now) }
 {
-    let words = match entry {
-        Entry::C { told, .. } => told_words(alloc, told)?,
-        Entry::A { said, .. } => said_words(alloc, said)?,
-        Entry::W { .. } | Entry::R { .. } | Entry::S { .. } | Entry::L { .. } => {
-            block_words(alloc, entry)?
-        }
-        Entry::G { .. } | Entry::F { .. } | Entry::Z { .. } => file_words(alloc, entry)?,
-        Entry::O { .. } | Entry::B { .. } | Entry::X { .. } => start_words(alloc, entry)?,
-    };
+    let words = words_of(alloc, entry)?;
     Ok(Noted {
         sign: sign_of(entry),
         words,
     })
+}
+
+/// What an entry says.
+fn words_of(alloc: Global, entry: &Entry) -> Result<String, NoMemory> {
+    match entry {
+        Entry::C { told, .. } => told_words(alloc, told),
+        Entry::A { said, .. } => said_words(alloc, said),
+        Entry::W { .. } | Entry::R { .. } | Entry::S { .. } | Entry::L { .. } => {
+            block_words(alloc, entry)
+        }
+        Entry::G { .. } | Entry::F { .. } | Entry::Z { .. } => file_words(alloc, entry),
+        Entry::O { .. } | Entry::B { .. } | Entry::X { .. } => start_words(alloc, entry),
+    }
 }
 
 /// Of what an entry tells.
@@ -325,21 +330,21 @@ fn said_words(alloc: Global, said: &Said) -> Result<String, NoMemory> {
             ],
         ),
         Said::Lost(spans) => lost_words(alloc, spans),
-        Said::Ok => Ok(String::from_str(alloc, "answer ok")?),
-        Said::Busy => Ok(String::from_str(alloc, "answer busy")?),
-        Said::Stale => Ok(String::from_str(alloc, "answer stale")?),
-        Said::NoEntry => Ok(String::from_str(alloc, "answer noentry")?),
-        Said::Exists => Ok(String::from_str(alloc, "answer exists")?),
-        Said::NoSpace => Ok(String::from_str(alloc, "answer nospace")?),
-        Said::Range => Ok(String::from_str(alloc, "answer range")?),
-        Said::DirtyFull => Ok(String::from_str(alloc, "answer dirtyfull")?),
+        Said::Ok => owned(alloc, "answer ok"),
+        Said::Busy => owned(alloc, "answer busy"),
+        Said::Stale => owned(alloc, "answer stale"),
+        Said::NoEntry => owned(alloc, "answer noentry"),
+        Said::Exists => owned(alloc, "answer exists"),
+        Said::NoSpace => owned(alloc, "answer nospace"),
+        Said::Range => owned(alloc, "answer range"),
+        Said::DirtyFull => owned(alloc, "answer dirtyfull"),
     }
 }
 
 /// An answer that names losses: the first of them, and how many more there are.
 fn lost_words(alloc: Global, spans: &Spans) -> Result<String, NoMemory> {
     let Some(span) = spans.get(0) else {
-        return Ok(String::from_str(alloc, "answer lost")?);
+        return owned(alloc, "answer lost");
     };
     let more = spans.len().saturating_sub(1);
     let mut text = text_of(

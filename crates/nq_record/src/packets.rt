@@ -5,7 +5,7 @@ ghost use Rattle.std.specs.Prelude.{◌≡◌, ◌++◌, codes, string_bytes, So
 ghost use Rattle.nq_record.specs.Words.{SaysRequest, filed, granted, lease_granted, lease_words, plain_read, read_words, refusal_word, reply_text, resize_words, revised, wanting_read, with_grant, write_words};
 
 use crate::NoMemory;
-use crate::text::{mode_word, named};
+use crate::text::{mode_word, named, owned};
 use nq_base::{Grant, Mode, Refusal, Reply, Request, Want};
 use nq_chart::{Part, text_of};
 use std::alloc::Global;
@@ -15,7 +15,7 @@ pub fn request_words(alloc: Global, request: &Request) -> Result<String, NoMemor
     ensures { IfOk result (λ text. SaysRequest request.now (string_bytes text)) }
 {
     match request {
-        Request::Null => Ok(String::from_str(alloc, "NULL")?),
+        Request::Null => owned(alloc, "NULL"),
         Request::Attach { who } => filed(alloc, "ATTACH incarnation", who.inc.0),
         Request::Lookup { name, .. } => named(alloc, "LOOKUP ", name),
         Request::Create { name, .. } => named(alloc, "CREATE ", name),
@@ -179,8 +179,8 @@ pub fn reply_words(alloc: Global, reply: &Reply) -> Result<String, NoMemory>
     ensures { IfOk result (λ text. string_bytes text ≡ reply_text reply.now) }
 {
     match reply {
-        Reply::Null => Ok(String::from_str(alloc, "NULL ok")?),
-        Reply::Attach { .. } => Ok(String::from_str(alloc, "ATTACH ok")?),
+        Reply::Null => owned(alloc, "NULL ok"),
+        Reply::Attach { .. } => owned(alloc, "ATTACH ok"),
         Reply::Lookup { file, .. } => filed(alloc, "LOOKUP ok", file.0),
         Reply::Create { file, .. } => filed(alloc, "CREATE ok", file.0),
         Reply::GetAttr { blocks, .. } => filed(alloc, "GETATTR ok", *blocks),
@@ -188,7 +188,7 @@ pub fn reply_words(alloc: Global, reply: &Reply) -> Result<String, NoMemory>
         Reply::Write { rev, .. } => revised(alloc, "WRITE ok", rev.0),
         Reply::GetLease { grant, .. } => lease_granted(alloc, *grant),
         Reply::Resize { rev, .. } => revised(alloc, "RESIZE ok", rev.0),
-        Reply::Remove { .. } => Ok(String::from_str(alloc, "REMOVE ok")?),
+        Reply::Remove { .. } => owned(alloc, "REMOVE ok"),
         Reply::Refused { status, .. } => refused(alloc, *status),
     }
 }
@@ -244,7 +244,7 @@ fn lease_granted(alloc: Global, grant: Option<Grant>) -> Result<String, NoMemory
     ensures { IfOk result (λ text. string_bytes text ≡ lease_granted grant) }
 {
     match grant {
-        None => Ok(String::from_str(alloc, "GETLEASE ok, no grant")?),
+        None => owned(alloc, "GETLEASE ok, no grant"),
         Some(grant) => with_grant(alloc, "GETLEASE ok", grant.rev.0, grant.mode, grant.term),
     }
 }

@@ -5,7 +5,7 @@ ghost use Rattle.nq_chart.specs.Page.{Extends};
 use crate::NoMemory;
 use crate::record::{Act, Moment, Record, Sent};
 use crate::spans::{Change, Kind};
-use crate::text::{mode_word, party_name};
+use crate::text::{mode_word, owned, party_name};
 use nq_chart::{Part, put, put_all, text_of};
 use std::alloc::Global;
 
@@ -118,10 +118,10 @@ fn padded(mut text: String, width: usize) -> Result<String, NoMemory> {
 fn act_words(alloc: Global, record: &Record, place: usize, act: Act) -> Result<String, NoMemory> {
     match act {
         Act::Arrival(number) => arrival_words(alloc, record, place, number),
-        Act::Call => Ok(String::from_str(alloc, "call")?),
-        Act::Tick => Ok(String::from_str(alloc, "tick")?),
-        Act::Restart => Ok(String::from_str(alloc, "restart")?),
-        Act::Crash => Ok(String::from_str(alloc, "crash")?),
+        Act::Call => owned(alloc, "call"),
+        Act::Tick => owned(alloc, "tick"),
+        Act::Restart => owned(alloc, "restart"),
+        Act::Crash => owned(alloc, "crash"),
     }
 }
 

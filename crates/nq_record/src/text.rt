@@ -21,6 +21,13 @@ pub(crate) fn named(alloc: Global, word: &str, name: &Name) -> Result<String, No
     Ok(text)
 }
 
+/// Words as a text of their own.
+pub(crate) fn owned(alloc: Global, words: &str) -> Result<String, NoMemory>
+    ensures { IfOk result (λ text. string_bytes text ≡ words.now) }
+{
+    Ok(String::from_str(alloc, words)?)
+}
+
 /// The word of a kind of lease.
 pub(crate) fn mode_word(mode: Mode) -> &'static str
     ensures { result.now ≡ mode_word mode }
@@ -35,7 +42,7 @@ pub(crate) fn mode_word(mode: Mode) -> &'static str
 /// The name of a party.
 pub(crate) fn party_name(alloc: Global, party: Party) -> Result<String, NoMemory> {
     match party {
-        Party::Server => Ok(String::from_str(alloc, "server")?),
+        Party::Server => owned(alloc, "server"),
         Party::Client(host) => text_of(alloc, &[Part::Text("host "), Part::Number(host.0 as u64)]),
     }
 }

@@ -1,5 +1,7 @@
 //! Whole files of the machine, in blocks.
 
+ghost use Rattle.std.specs.Prelude.{◌<◌};
+
 use crate::desk::UserDesk;
 use nq_base::{Answer, Block, BlockNo, Call, FileId, Name, NoMemory, Value};
 use nq_ending::Halt;
@@ -53,7 +55,7 @@ pub(crate) fn put_file(
     let pieces = bytes.len().div_ceil(Block::SIZE);
     for place in 0..pieces {
         let body = piece(alloc, bytes, place)?;
-        put(alloc, desk, file, 1 + place as u32, body)?;
+        put(alloc, desk, file, block_of(place), body)?;
     }
     let found = fetch_all(alloc, desk, file, blocks_for(bytes.len()), bytes.len())?;
     if found.as_slice() != bytes {
@@ -62,6 +64,13 @@ pub(crate) fn put_file(
     let first = first_block(alloc, bytes.len())?;
     put(alloc, desk, file, 0, first)?;
     Ok(file)
+}
+
+/// In which block a piece of a file stands.
+fn block_of(place: usize) -> u32
+    requires { place < 1024 }
+{
+    1 + place as u32
 }
 
 /// So many bytes of a file, behind its first block. Each block is read from the server.

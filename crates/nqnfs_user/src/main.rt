@@ -40,13 +40,16 @@ fn obey(rt: &HostRuntime) -> Result<Ending, AllocError> {
         return Err(AllocError);
     };
     let mut words = args.skip(1);
-    if let (Some(word), None) = (words.next(), words.next()) {
-        if word.as_str() == "--help" {
-            let _told = print!(rt; "{HELP}");
-            return Ok(Ending::Done);
-        }
-        if let Some(host) = number(word.as_str().as_bytes(), 63) {
-            return be_host(rt, Host(host as u32));
+    let word = words.next();
+    if words.next().is_none() {
+        if let Some(word) = &word {
+            if word.as_str() == "--help" {
+                let _told = print!(rt; "{HELP}");
+                return Ok(Ending::Done);
+            }
+            if let Some(host) = number(word.as_str().as_bytes(), 63) {
+                return be_host(rt, Host(host as u32));
+            }
         }
     }
     let _told = eprintln!(rt; "usage: nqnfs_user HOST");

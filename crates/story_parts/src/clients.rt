@@ -54,13 +54,13 @@ fn play_items(
 ) -> Result<()> {
     for item in items.split("; ") {
         let words: Vec<&str> = item.split(' ').collect(rt.alloc())?;
-        match words.first() {
-            Some(&"receive") => {
+        match *words.first().context("nothing happens")? {
+            "receive" => {
                 let datagram = bytes_of(rt.alloc(), words.get(2..).context("no datagram")?)?;
                 client.receive(number_of(words.get(1), 10)?, &datagram, out, log);
             }
-            Some(&"ticks") => ticks(client, number_of(words.get(1), 10)?, out, log),
-            Some(&"cached") => {
+            "ticks" => ticks(client, number_of(words.get(1), 10)?, out, log),
+            "cached" => {
                 let file = u32::try_from(number_of(words.get(1), 10)?)?;
                 let block = u32::try_from(number_of(words.get(2), 10)?)?;
                 println!(rt;

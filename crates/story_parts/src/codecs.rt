@@ -1,7 +1,5 @@
 //! What is read and written again: items of XDR (RFC 1014), messages of RPC (RFC 1057 section 8), arguments and results.
 
-ghost use Rattle.std.specs.Prelude.{IfOk};
-
 use crate::words::{bytes_of, number_of};
 use anyhow::{Context, Result};
 use nq_base::Spare;
@@ -65,7 +63,7 @@ fn file(alloc: Global, bytes: &[u8]) -> Result<String> {
             write!(said, "{kind} ")?;
         } else {
             let text = reader.opaque(255)?;
-            writer.opaque(text)?;
+            push_opaque(&mut writer, text)?;
             write!(said, "{} ", str::from_utf8(text)?)?;
         }
     }
@@ -74,9 +72,18 @@ fn file(alloc: Global, bytes: &[u8]) -> Result<String> {
     Ok(said)
 }
 
+/// Writes opaque data of up to 255 bytes.
+fn push_opaque(writer: &mut Writer, text: &[u8]) -> Result<()> {
+    if text.len() < 256 {
+        writer.opaque(text)?;
+    }
+    Ok(())
+}
+
 /// A message, written again.
 fn message(alloc: Global, bytes: &[u8]) -> Result<Vec<u8>, RpcFault> {
-    match encode(alloc, &decode(alloc, bytes)?) {
+    let message = decode(alloc, bytes)?;
+    match encode(alloc, &message) {
         Ok(written) => Ok(written),
         Err(_) => Err(RpcFault::Memory),
     }
@@ -88,7 +95,8 @@ fn request(alloc: Global, procedure: u32, bytes: &[u8]) -> Result<Vec<u8>, WireF
     let Ok(()) = room.reserve(alloc) else {
         return Err(WireFault::Memory);
     };
-    match encode_request(alloc, &decode_request(procedure, bytes, &mut room)?) {
+    let request = decode_request(procedure, bytes, &mut room)?;
+    match encode_request(alloc, &request) {
         Ok(written) => Ok(written),
         Err(_) => Err(WireFault::Memory),
     }
@@ -100,7 +108,8 @@ fn reply(alloc: Global, procedure: u32, bytes: &[u8]) -> Result<Vec<u8>, WireFau
     let Ok(()) = room.reserve(alloc) else {
         return Err(WireFault::Memory);
     };
-    match encode_reply(alloc, &decode_reply(procedure, bytes, &mut room)?) {
+    let reply = decode_reply(procedure, bytes, &mut room)?;
+    match encode_reply(alloc, &reply) {
         Ok(written) => Ok(written),
         Err(_) => Err(WireFault::Memory),
     }

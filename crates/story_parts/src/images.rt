@@ -55,9 +55,7 @@ impl Bench {
             "put" => {
                 let place = number_of(rest.first(), 10)? as usize;
                 let bytes = bytes_of(rt.alloc(), rest.get(1..).context("no bytes")?)?;
-                for (own, byte) in self.image.iter_mut().skip(place).zip(bytes.iter()) {
-                    *own = *byte;
-                }
+                write_over(&mut self.image, place, &bytes);
             }
             "stopped" => self.stops.carry_out(rt, rest, &mut self.image)?,
             "keep" => self.kept = self.image.to_vec(rt.alloc())?,
@@ -78,6 +76,13 @@ impl Bench {
         }
         println!(rt; "ok{}", told_of(alloc, &self.image)?)?;
         Ok(())
+    }
+}
+
+/// Writes bytes from a place on; those behind the end are left out.
+fn write_over(image: &mut [u8], place: usize, bytes: &[u8]) {
+    for (own, byte) in image.iter_mut().skip(place).zip(bytes) {
+        *own = *byte;
     }
 }
 

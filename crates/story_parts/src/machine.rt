@@ -1,6 +1,6 @@
 //! What is the machine's: its clock, UDP, and a disk in a file.
 
-use anyhow::Result;
+use anyhow::{Context, Result};
 use nq_base::{Host, Party};
 use nq_clock::{Clock, StdClock};
 use nq_disk::{Disk, FileDisk};
@@ -15,9 +15,9 @@ const PORT: u16 = 20603;
 
 /// Tries a part of the machine.
 pub(crate) fn try_part(rt: &HostRuntime, rest: &[&str]) -> Result<()> {
-    match rest.first() {
-        Some(&"clock") => clocks(rt),
-        Some(&"UDP") => strangers(rt),
+    match *rest.first().context("no part")? {
+        "clock" => clocks(rt),
+        "UDP" => strangers(rt),
         _ => disks(rt),
     }
 }

@@ -70,11 +70,11 @@ impl Story {
             bail!("the time goes back");
         }
         let mut out = Outbox::new(self.alloc, self.next)?;
-        let (now, log) = (Ticks(now), &mut self.log);
         let received = if is_tick {
-            self.server.tick(now, &mut out, log)
+            self.server.tick(Ticks(now), &mut out, &mut self.log)
         } else {
-            self.server.reboot(self.alloc, LONGEST, now, log)
+            self.server
+                .reboot(self.alloc, LONGEST, Ticks(now), &mut self.log)
         };
         Ok(word_of(received))
     }

@@ -3,6 +3,7 @@ pub mod ChainLists
 pub mod ChainMoves
 pub mod ChainHears
 pub mod ChainSends
+pub mod ChainGrants
 pub mod ChainReplies
 pub mod ChainClients
 pub mod ChainAfter
@@ -63,6 +64,7 @@ pub mod HeldContents
 pub mod HeldFiles
 pub mod ReaderValues
 pub mod ReadParts
+pub mod ReadSends
 pub mod ReadSteps
 pub mod EarlierServer
 pub mod EarlierStores

@@ -19,7 +19,8 @@ use Rattle.walk_files.proofs.ReadClient.{Adds, accesses-writes, put-reads-nothin
 use Rattle.walk_files.proofs.ReadFacts.{IsServed, IsBacked, reads_nothing, counted_read, IsGood, ReadsOf, ReadsFit, placed-append, served-once, waits-more, standing-before}
 use Rattle.walk_files.proofs.Places.{IsPlaced, placed-in, throughout-at, before-exists}
 use Rattle.walk_files.proofs.ReaderValues.{NoneWaits}
-use Rattle.walk_files.proofs.ReadSteps.{Done, NewRead, OldRead, ValuedBy, IsServedAnswer, IsNamedAnswer}
+use Rattle.walk_files.proofs.ReadSends.{Done, NewRead, OldRead}
+use Rattle.walk_files.proofs.ReadSteps.{ValuedBy, IsServedAnswer, IsNamedAnswer}
 use Rattle.walk_files.proofs.Stores.{Rests, standing-more}
 use Rattle.nq_model.proofs.Lists.{exists-right}
 use Rattle.nq_model.specs.Client.{Client, ClientStep, Lease, UnderWay, lets_read}
