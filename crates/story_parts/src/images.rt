@@ -1,5 +1,6 @@
 //! An image of a disk that is built and opened.
 
+use crate::stops::Stops;
 use crate::words::{bytes_of, number_of, push_words};
 use anyhow::{Context, Result, bail};
 use nq_base::Verdict;
@@ -16,11 +17,20 @@ const ROOM: Room = Room {
     written: 16_000_000,
 };
 
-/// The image that is being built, and the one that was kept last.
+/// A disk in memory of these bytes.
+pub(crate) fn disk_of(alloc: Global, bytes: Vec<u8>) -> Result<MemDisk> {
+    if bytes.len() > 4_000_000 {
+        bail!("too many bytes");
+    }
+    Ok(MemDisk::new(alloc, bytes, ROOM, Vec::new(alloc), None)?)
+}
+
+/// The image that is being built, the one that was kept last, and what comes to a disk of one and is stopped.
 #[derive(Drop)]
 pub(crate) struct Bench {
     image: Vec<u8>,
     kept: Vec<u8>,
+    stops: Stops,
 }
 
 impl Bench {
@@ -29,6 +39,7 @@ impl Bench {
         Bench {
             image: Vec::new(alloc),
             kept: Vec::new(alloc),
+            stops: Stops::new(alloc),
         }
     }
 
@@ -46,6 +57,7 @@ impl Bench {
                 let bytes = bytes_of(rt.alloc(), rest.get(1..).context("no bytes")?)?;
                 write_over(&mut self.image, place, &bytes);
             }
+            "stopped" => self.stops.carry_out(rt, rest, &mut self.image)?,
             "keep" => self.kept = self.image.to_vec(rt.alloc())?,
             _ => self.open(rt)?,
         }
@@ -55,21 +67,15 @@ impl Bench {
     /// Opens a disk of the image as a store, and prints for what it stands, or where the first wrong field is.
     fn open(&mut self, rt: &HostRuntime) -> Result<()> {
         let alloc = rt.alloc();
-        let bytes = self.image.to_vec(alloc)?;
-        if bytes.len() > 4_000_000 {
-            bail!("too many bytes");
-        }
-        let disk = MemDisk::new(alloc, bytes, ROOM, Vec::new(alloc), None)?;
+        let disk = disk_of(alloc, self.image.to_vec(alloc)?)?;
         match Store::open(alloc, disk) {
             Ok(store) => self.image = store.into_disk().bytes().to_vec(alloc)?,
             Err(OpenFault::NotAnImage(_)) => return Ok(println!(rt; "image byte 0")?),
             Err(OpenFault::BadField(_, place)) => return Ok(println!(rt; "image byte {place}")?),
             Err(_) => bail!("the disk failed, or memory was wanting"),
         }
-        match read_kept(alloc, &self.image) {
-            Ok(kept) => tell(rt, &kept, &self.image),
-            Err(_) => bail!("no image behind its opening"),
-        }
+        println!(rt; "ok{}", told_of(alloc, &self.image)?)?;
+        Ok(())
     }
 }
 
@@ -80,17 +86,23 @@ fn write_over(image: &mut [u8], place: usize, bytes: &[u8]) {
     }
 }
 
-/// Prints the numbers of the server, the rows of hosts that sent something, and the files with their blocks.
-fn tell(rt: &HostRuntime, kept: &KeptImage, bytes: &[u8]) -> Result<()> {
+/// For what an image stands: the numbers of the server, the rows of hosts that sent something, and the files with their blocks.
+pub(crate) fn told_of(alloc: Global, bytes: &[u8]) -> Result<String> {
+    let Ok(kept) = read_kept(alloc, bytes) else {
+        bail!("no image behind its opening");
+    };
+    let mut text = String::new(alloc);
     let heads = &kept.heads;
-    println!(rt;
-        "ok\n  heads boot {} opened {} longest {} next {}",
+    write!(
+        text,
+        "\n  heads boot {} opened {} longest {} next {}",
         heads.boot, heads.opened, heads.longest, heads.next
     )?;
     for (host, row) in kept.hosts.iter().enumerate() {
         if row.inc.0 > 0 || row.seq.0 > 0 {
-            println!(rt;
-                "  host {host} inc {} seq {} verdict {} value {}",
+            write!(
+                text,
+                "\n  host {host} inc {} seq {} verdict {} value {}",
                 row.inc.0,
                 row.seq.0,
                 number_in(row.verdict),
@@ -99,9 +111,9 @@ fn tell(rt: &HostRuntime, kept: &KeptImage, bytes: &[u8]) -> Result<()> {
         }
     }
     for file in &kept.files {
-        tell_file(rt, file, &kept.blocks, bytes)?;
+        tell_file(&mut text, file, &kept.blocks, bytes)?;
     }
-    Ok(())
+    Ok(text)
 }
 
 /// The number of a verdict in an image.
@@ -117,21 +129,21 @@ fn number_in(verdict: Verdict) -> u8 {
     }
 }
 
-/// Prints a file and its blocks.
-fn tell_file(rt: &HostRuntime, file: &FoundFile, blocks: &[u32], bytes: &[u8]) -> Result<()> {
+/// Adds a file and its blocks.
+fn tell_file(text: &mut String, file: &FoundFile, blocks: &[u32], bytes: &[u8]) -> Result<()> {
     let row = &file.row;
     let (id, name) = (row.id.0, str::from_utf8(row.name.as_bytes())?);
-    println!(rt;
-        "  file {id} name {name} blocks {} rev {}",
+    write!(
+        text,
+        "\n  file {id} name {name} blocks {} rev {}",
         row.blocks, row.rev.0
     )?;
     let own = blocks.get(file.start as usize..).context("no blocks")?;
     for (number, block) in own.iter().take(row.blocks as usize).enumerate() {
         let place = 40960 + 4096 * *block as usize;
         let body = bytes.get(place..).context("no body")?;
-        let mut text = String::new(rt.alloc());
-        push_words(&mut text, body.get(..4096).context("no whole body")?)?;
-        println!(rt; "  block {id} {number}{text}")?;
+        write!(text, "\n  block {id} {number}")?;
+        push_words(text, body.get(..4096).context("no whole body")?)?;
     }
     Ok(())
 }

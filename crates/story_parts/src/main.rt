@@ -1,4 +1,4 @@
-//! Worked stories of the parts: what they read, a server, clients, images of disks, and what no clause can say, since it is the machine's. The
+//! Worked stories of the parts: what they read, a server, clients, images of disks, stops, and what no clause can say, since it is the machine's. The
 //! expected bytes are written from RFC 1014, from RFC 1057 section 8, from the table of procedures and from the page on images, not from what
 //! a part gave.
 //!
@@ -21,6 +21,12 @@
 //! `base NAME` begins an image of no bytes, and `image NAME` one with the bytes that were kept last. `size LENGTH` cuts it, or adds zeros, `put
 //! PLACE BYTES` writes bytes, and `keep` keeps them. `open` opens a disk of the image, prints for what it stands, and leaves what the disk has.
 //!
+//! `stopped migration N` opens a disk of the image, and `stopped boot N` boots a server over one in memory, `stopped boot file` over one in a
+//! file. `stopped NAME BYTES` hands that server a datagram of host 5, and `stopped tick-NAME TIME` ticks its clock. Each of these is stopped at
+//! each call that it makes of the disk. What a stop may leave is opened again: it keeps what was kept before or what is kept after it, and how
+//! often which of them is printed. A file is closed at the stop. Of a disk in memory each subset of the writes since the last sync may have come,
+//! each write may be torn, and in place of a single byte there may be any; N of them are tried. Then the image is what the disk has behind it.
+//!
 //! A line that begins with `machine` says which part of the machine is tried: its clock, what comes over UDP, or a disk in one of its files.
 #![tactic(auto)]
 
@@ -29,6 +35,8 @@ mod codecs;
 mod images;
 mod machine;
 mod servers;
+mod stops;
+mod torn_disk;
 mod words;
 
 use crate::images::Bench;
@@ -65,7 +73,9 @@ fn play(rt: &HostRuntime, story: &mut Story, bench: &mut Bench, line: &str) -> R
         }
         "client" => clients::play(rt, line)?,
         "machine" => machine::try_part(rt, rest)?,
-        "base" | "image" | "size" | "put" | "keep" | "open" => bench.carry_out(rt, verb, rest)?,
+        "base" | "image" | "size" | "put" | "keep" | "open" | "stopped" => {
+            bench.carry_out(rt, verb, rest)?;
+        }
         "tell" => tell(rt, story.log())?,
         "tick" | "crash" => {
             let time = number_of(rest.first(), 10)?;
