@@ -131,9 +131,17 @@ fn look_up(alloc: Global, desk: &mut UserDesk, name: Name) -> Result<FileId, Fil
 
 /// The file that an answer brings.
 fn file_in(answer: Answer) -> Result<FileId, FileFault> {
+    match file_of(&answer) {
+        Some(file) => Ok(file),
+        None => Err(FileFault::Answered(answer)),
+    }
+}
+
+/// The file that an answer brings, if it brings one.
+fn file_of(answer: &Answer) -> Option<FileId> {
     match answer {
-        Answer::Ok(Value::File(file)) => Ok(file),
-        answer => Err(FileFault::Answered(answer)),
+        Answer::Ok(Value::File(file)) => Some(*file),
+        _ => None,
     }
 }
 
