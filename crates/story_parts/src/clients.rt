@@ -9,8 +9,9 @@ use nq_script::parse_call;
 use nq_wire::Outbox;
 
 /// Plays a story of a client, its name in front, and prints what comes of it.
-pub(crate) fn play(rt: &HostRuntime, story: &str) -> Result<()> {
-    let (name, story) = story.split_once(": ").context("no name")?;
+pub(crate) fn play(rt: &HostRuntime, line: &str) -> Result<()> {
+    let (name, story) = line.split_once(": ").context("no name")?;
+    let name = name.strip_prefix("client ").unwrap_or(name);
     println!(rt; "= {name}")?;
     let mut out = Outbox::new(rt.alloc(), 0)?;
     let mut log = Journal::new(rt.alloc())?;

@@ -1,5 +1,7 @@
 //! Bytes as words in hexadecimal.
 
+ghost use Rattle.std.specs.Prelude.{◌≤◌};
+
 use anyhow::{Context, Result};
 use std::alloc::Global;
 
@@ -7,7 +9,10 @@ use std::alloc::Global;
 const BLOCK: usize = 4096;
 
 /// The number that a word writes.
-pub(crate) fn number_of(word: Option<&&str>, base: u32) -> Result<u64> {
+pub(crate) fn number_of(word: Option<&&str>, base: u32) -> Result<u64>
+    requires low { 2 ≤ base }
+    requires high { base ≤ 36 }
+{
     Ok(u64::from_str_radix(word.context("no number")?, base)?)
 }
 
@@ -36,14 +41,22 @@ pub(crate) fn first_word(bytes: &[u8]) -> u32 {
     }
 }
 
+/// Whether the block at the front of bytes repeats its first word.
+fn repeats_a_word(bytes: &[u8]) -> bool {
+    match bytes.get(..BLOCK) {
+        Some(block) => block.get(4..) == block.get(..BLOCK - 4),
+        None => false,
+    }
+}
+
 /// Adds the words of bytes to a text, where a block that repeats a word stands as that word behind a star.
 pub(crate) fn push_words(text: &mut String, bytes: &[u8]) -> Result<()> {
     let mut rest = bytes;
     for _ in 0..bytes.len() / 4 {
         let word = first_word(rest);
-        if rest.len() >= BLOCK && rest[4..BLOCK] == rest[..BLOCK - 4] {
+        if repeats_a_word(rest) {
             write!(text, " *{word:x}")?;
-            rest = &rest[BLOCK..];
+            rest = rest.get(BLOCK..).unwrap_or(&[]);
         } else if rest.len() >= 4 {
             write!(text, " {word:x}")?;
             rest = &rest[4..];
