@@ -10,8 +10,11 @@ mod parts;
 mod scenes;
 mod top;
 
-use crate::scenes::play;
-use anyhow::Result;
+use crate::scenes::{play, text_of};
+use anyhow::{Context, Result};
+use nq_disk::MemDisk;
+use nq_io::MemSink;
+use std::str;
 
 fn main(rt: HostRuntime) -> Result<()> {
     let mut left = Vec::new(rt.alloc());
@@ -20,8 +23,26 @@ fn main(rt: HostRuntime) -> Result<()> {
         if line.starts_with('=') {
             println!(rt; "{line}")?;
         } else {
-            left = play(&rt, &line, left)?;
+            left = tell(&rt, &line, left)?;
         }
     }
     Ok(())
+}
+
+/// Plays a scene over a disk on which these bytes were left, if it goes on with them, and prints what comes of it. Gives the bytes that it
+/// leaves.
+fn tell(rt: &HostRuntime, line: &str, left: Vec<u8>) -> Result<Vec<u8>> {
+    let (told, input) = line.split_once(": ").context("no input")?;
+    println!(rt; "- {told}")?;
+    let (scene, said) = told.split_once(' ').context("no words")?;
+    let input = text_of(rt.alloc(), input)?;
+    let (ended, out) = play(rt.alloc(), scene, said, input, left)?;
+    show(rt, &out, ended.status, &ended.disk)
+}
+
+/// Prints what was printed in a scene, and its status. Gives the bytes of its disk.
+fn show(rt: &HostRuntime, out: &MemSink, status: u8, disk: &MemDisk) -> Result<Vec<u8>> {
+    print!(rt; "{}", str::from_utf8(out.bytes())?)?;
+    println!(rt; "status {status}")?;
+    Ok(disk.bytes().to_vec(rt.alloc())?)
 }
