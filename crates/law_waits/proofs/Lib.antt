@@ -7,3 +7,5 @@ pub mod SomeUnwritten
 pub mod ByWrites
 pub mod SomeWrites
 pub mod SomeServed
+pub mod Anew
+pub mod Answering

@@ -1,3 +1,5 @@
 pub mod UnwrittenFiles
 pub mod CallsByWrites
 pub mod Met
+pub mod PausedWritesAskAnew
+pub mod AskersAnswered

@@ -1,8 +1,10 @@
 //! Calls that wait for rows of other hosts. The statements stand in `specs/`, and their proofs in `proofs/`.
 #![tactic(auto)]
 
+ghost use Rattle.law_waits.specs.AskersAnswered.{AskersShareLong};
 ghost use Rattle.law_waits.specs.CallsByWrites.{AnsweredByWrites, FewWritesAnswered, ServedByWrites};
 ghost use Rattle.law_waits.specs.Met.{ByWritesIsMet, ServedIsMet, UnwrittenIsMet};
+ghost use Rattle.law_waits.specs.PausedWritesAskAnew.{PausedWritesAskAnew};
 ghost use Rattle.law_waits.specs.UnwrittenFiles.{FilelessAnswered, UnwrittenFilesAnswered, UnwrittenReadsAnswered, WritelessInTime};
 
 /// In every run, whatever is under way, once the server serves: where no `write` to a file is open, no `read` and no `fetch` of it is open after 4 calm
@@ -59,4 +61,15 @@ pub fn by_writes_is_met()
 /// A schedule in which the server serves meets all premises of the law for such schedules.
 pub fn served_is_met()
     ensures { ServedIsMet }
+{}
+
+/// In every run, of any events whatever: no `write` of a client that pauses is to go through, so it asks for a lease anew.
+pub fn paused_writes_ask_anew()
+    ensures { PausedWritesAskAnew }
+{}
+
+/// Whoever wants a lease, where the table has room and he has no row that does not let him cache, has none afterwards either, or one that goes on for the
+/// shortest term.
+pub fn askers_share_long()
+    ensures { AskersShareLong }
 {}
