@@ -45,20 +45,7 @@ impl Story {
             .server
             .receive(self.alloc, host, datagram, &mut out, &mut self.log);
         self.next = out.next();
-        let mut text = String::new(self.alloc);
-        if out.is_empty() || received != Received::Done {
-            text.push_str(word_of(received))?;
-        }
-        for place in 0..out.len() {
-            if let Some((Party::Client(to), bytes)) = out.get(place) {
-                if place > 0 {
-                    text.push_str(" | ")?;
-                }
-                write!(text, "{:x}", to.0)?;
-                push_words(&mut text, bytes)?;
-            }
-        }
-        Ok(text)
+        answer_of(self.alloc, received, &out)
     }
 
     /// Takes in a tick or a crash at a time, and tells how.
@@ -82,6 +69,32 @@ impl Story {
     /// What the server told.
     pub(crate) fn log(&self) -> &Journal {
         &self.log
+    }
+}
+
+/// Each datagram that was sent, or how an event was taken in.
+fn answer_of(alloc: Global, received: Received, out: &Outbox) -> Result<String> {
+    let mut text = String::new(alloc);
+    if out.is_empty() || received != Received::Done {
+        text.push_str(word_of(received))?;
+    }
+    for place in 0..out.len() {
+        if place > 0 {
+            text.push_str(" | ")?;
+        }
+        if let Some((to, bytes)) = out.get(place) {
+            write!(text, "{:x}", number_of(to))?;
+            push_words(&mut text, bytes)?;
+        }
+    }
+    Ok(text)
+}
+
+/// The number of a host, and one that no host has for the server.
+fn number_of(party: Party) -> u32 {
+    match party {
+        Party::Client(host) => host.0,
+        Party::Server => u32::MAX,
     }
 }
 
