@@ -2,9 +2,9 @@
 use Rattle.std.proofs.Common.{◌≡◌, ◌∙◌, ◌⊎◌, ◌+◌, ℕ, zero, suc, Bool, true, false, List, [], ◌∷◌, ◌++◌, Option, Some, None, Result, Ok, Err, inl, inr, length, refl, sym, ap, subst, arith, append_assoc, length-append}
 use Rattle.std.proofs.lemmas.Option.{same_Some}
 use Rattle.std.specs.List.{AllByRecursion}
-use Rattle.nq_answers.specs.Answers.{answers_text}
-use Rattle.nq_answers.specs.Telling.{TellsEnd, TellsSo, TellsStop, events_line, noanswer_line, script_line}
-use Rattle.nq_answers.specs.declared.Stop.{Stop}
+use Rattle.nq_calls.specs.Answers.{answers_text}
+use Rattle.nq_calls.specs.Telling.{TellsEnd, TellsSo, TellsStop, events_line, noanswer_line, script_line}
+use Rattle.nq_calls.specs.declared.Stop.{Stop}
 use Rattle.nq_base.specs.declared.Answer.{Answer}
 use Rattle.nq_base.specs.declared.Call.{Call}
 use Rattle.nq_base.specs.declared.Entry.{Entry}

@@ -1,6 +1,6 @@
 -- Running the calls of a text, line by line, with a client that is started, attached, and stopped in the end.
 use Rattle.std.specs.Prelude.{◌≡◌, ◌+◌, ℕ, List, [], ◌∷◌, ◌++◌, length, map, Option, Result, Ok, Err}
-use Rattle.nq_answers.specs.declared.Stop.{Stop}
+use Rattle.nq_calls.specs.declared.Stop.{Stop}
 use Rattle.nq_base.specs.declared.Call.{Call}
 use Rattle.nq_base.specs.declared.Who.{Who}
 use Rattle.nq_calls.specs.Lines.{AreCalls}

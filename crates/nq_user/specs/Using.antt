@@ -1,8 +1,8 @@
 -- The whole of the program `client`. Below, `held` is what the sink held before and `now` is what it holds after, where the sink tells
 -- them; `w` and `w'` are the sink's counts of faults before and after, and `s` and `s'` are the source's.
 use Rattle.std.specs.Prelude.{◌≡◌, ⊤, ℕ, List, [], Option, Some, None, Result}
-use Rattle.nq_answers.specs.Telling.{IsSilent, TellsEnd, TellsSo, bytes_line, last_line, script_line}
-use Rattle.nq_answers.specs.declared.Stop.{Stop}
+use Rattle.nq_calls.specs.Telling.{IsSilent, TellsEnd, TellsSo, bytes_line, last_line, script_line}
+use Rattle.nq_calls.specs.declared.Stop.{Stop}
 use Rattle.nq_base.specs.declared.Who.{Who}
 use Rattle.nq_calls.specs.Lines.{Tells}
 use Rattle.nq_ending.specs.declared.Ending.{Ending}

@@ -9,8 +9,7 @@ ghost use Rattle.nq_user.specs.Using.{EndsBy, RunsAndTells, Uses, UsesText};
 
 use crate::plan::Plan;
 use crate::running::{Ran, run};
-use nq_answers::{tell_bytes, tell_end, tell_script};
-use nq_calls::find_fault;
+use nq_calls::{find_fault, tell_bytes, tell_end, tell_script};
 use nq_clock::Clock;
 use nq_ending::Ending;
 use nq_io::{Sink, Source, Whole, read_all};

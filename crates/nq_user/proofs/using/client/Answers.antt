@@ -1,5 +1,5 @@
 use Rattle.std.proofs.Common.{◌≡◌, IfSome, sym, subst, ◌∙◌}
-use Rattle.nq_answers.specs.Telling.{bytes_line, last_line}
+use Rattle.nq_calls.specs.Telling.{bytes_line, last_line}
 use Rattle.nq_calls.specs.Lines.{AreCalls}
 use Rattle.nq_user.proofs.Causes.{bytes_by, lawful_bytes, lawful_text, text_by}
 use Rattle.nq_node.specs.Clocks.{clock_told}

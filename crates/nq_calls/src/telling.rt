@@ -1,12 +1,12 @@
 //! Telling how calls ended.
 
 ghost use Rattle.std.specs.Prelude.{◌≡◌, ◌<◌, ◌++◌, IfOk, length, string_bytes};
-ghost use Rattle.nq_answers.specs.Answers.{answers_text};
-ghost use Rattle.nq_answers.specs.Telling.{PrintsAll, TellsEnd, TellsSo, bytes_line, events_line, last_line, noanswer_line, script_line};
+ghost use Rattle.nq_calls.specs.Answers.{answers_text};
+ghost use Rattle.nq_calls.specs.Telling.{PrintsAll, TellsEnd, TellsSo, bytes_line, events_line, last_line, noanswer_line, script_line};
 ghost use Rattle.nq_ending.specs.declared.Ending.{Ending};
 
+use crate::answers::answers_text;
 use crate::ending::Stop;
-use crate::lines::answers_text;
 use nq_base::{Journal, NoMemory};
 use nq_ending::{Ending, Halt};
 use nq_io::{Put, Sink};

@@ -3,8 +3,8 @@
 use Rattle.std.specs.Fmt.{decimal}
 use Rattle.std.specs.List.{count_by}
 use Rattle.std.specs.Prelude.{◌≡◌, ◌⊎◌, ℕ, ◌+◌, ◌-◌, ◌==◌, List, ◌++◌, length, take, Option, Result, Ok, Err, codes}
-use Rattle.nq_answers.specs.Answers.{answers_text}
-use Rattle.nq_answers.specs.declared.ending.Stop.{Stop}
+use Rattle.nq_calls.specs.Answers.{answers_text}
+use Rattle.nq_calls.specs.declared.ending.Stop.{Stop}
 use Rattle.nq_base.specs.declared.Entry.{Entry}
 use Rattle.nq_ending.specs.declared.Ending.{Ending}
 use Rattle.nq_ending.specs.declared.Halt.{Halt}

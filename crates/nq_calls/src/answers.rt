@@ -1,7 +1,7 @@
 //! The lines of answers.
 
 ghost use Rattle.std.specs.Prelude.{◌≡◌, ◌++◌, IfOk, OnOk};
-ghost use Rattle.nq_answers.specs.Answers.{answer_line, answers_text, told_line};
+ghost use Rattle.nq_calls.specs.Answers.{answer_line, answers_text, told_line};
 
 use nq_base::{Entry, Journal, NoMemory, Said};
 use nq_words::push_said;
