@@ -11,8 +11,12 @@ use std::time::Duration;
 /// microsecond, and to fall asleep and be woken takes as long as some thirty.
 const LOOKS: u32 = 64;
 
+/// How many receives at most wait at once behind looks that were in vain.
+const MOST_REST: u32 = 63;
+
 /// A UDP socket that waits for a datagram, or not at all. Behind a datagram the next one mostly follows soon, so then it looks some
-/// times before it waits.
+/// times before it waits. Where that was in vain, as it is where callers are slow or share its processor, the next receives wait at
+/// once: one, then 3, 7 and at last 63 of them, until looks find something again.
 #[derive(Drop)]
 pub(crate) struct PatientSocket {
     socket: UdpSocket,
@@ -20,8 +24,12 @@ pub(crate) struct PatientSocket {
     waits: bool,
     /// Whether the machine waits in the calls of the socket.
     is_blocking: bool,
-    /// Whether to look some times in the next receive before it waits.
+    /// Whether the last receive brought a datagram, and the next one may wait.
     is_busy: bool,
+    /// How many of the next receives wait at once.
+    rest: u32,
+    /// How many did so behind the last looks in vain.
+    last_rest: u32,
 }
 
 /// Whether an error says only that nothing came in time.
@@ -50,6 +58,8 @@ impl PatientSocket {
             waits,
             is_blocking: waits,
             is_busy: false,
+            rest: 0,
+            last_rest: 0,
         })
     }
 
@@ -62,13 +72,22 @@ impl PatientSocket {
     pub(crate) fn receive(&mut self, into: &mut [u8]) -> io::Result<(usize, SocketAddr)>
         ensures { IfOk result (λ r. r.0 ≤ length into.old) }
     {
-        let came = if self.is_busy {
+        let came = if self.looks_first() {
             self.look_and_wait(into)
         } else {
             self.wait(into)
         };
         self.is_busy = self.waits && came.is_ok();
         came
+    }
+
+    /// Whether the next receive looks some times before it waits.
+    fn looks_first(&mut self) -> bool {
+        if !self.is_busy || self.rest == 0 {
+            return self.is_busy;
+        }
+        self.rest -= 1;
+        false
     }
 
     /// Looks some times whether a datagram is there, and then waits for one.
@@ -78,11 +97,16 @@ impl PatientSocket {
         self.set_blocking(false)?;
         for _look in 0..LOOKS {
             match self.socket.recv_from(into) {
-                Ok(came) => return Ok(came),
+                Ok(came) => {
+                    self.last_rest = 0;
+                    return Ok(came);
+                }
                 Err(error) if is_silence(&error) => {}
                 Err(error) => return Err(error),
             }
         }
+        self.last_rest = (2 * self.last_rest.min(MOST_REST) + 1).min(MOST_REST);
+        self.rest = self.last_rest;
         self.wait(into)
     }
 
