@@ -7,4 +7,3 @@ pub mod Putting
 pub mod Readied
 pub mod Reversing
 pub mod Seconds
-pub mod Spelling

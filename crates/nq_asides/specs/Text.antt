@@ -2,9 +2,7 @@
 -- `flow` may. Below, `A` is what an aside says, and `read` tells what a line says, if it is an aside.
 use Rattle.std.specs.List.{AllByRecursion}
 use Rattle.std.specs.Prelude.{◌≡◌, ◌⊎◌, ◌<◌, ◌^◌, ℕ, ◌+◌, ◌==◌, List, [], ◌∷◌, ◌++◌, length, map, Option, Some, None, is_some, codes, if◌then◌else◌, zero, suc}
-use Rattle.nq_base.specs.declared.Event.{Event}
 use Rattle.nq_script.specs.Heads.{FitsHead, head_lines}
-use Rattle.nq_script.specs.Lines.{Allows, HasEvent}
 use Rattle.nq_script.specs.Schedule.{FirstBadHeadLine, FirstBadLine, SpellsSchedule}
 use Rattle.nq_script.specs.Text.{text_of}
 use Rattle.nq_script.specs.declared.heads.Head.{Head}
@@ -112,10 +110,6 @@ HoldsOfAside P (Some aside) = P aside
 -- this holds of all asides
 abbrev pub HoldsOfAsides : {A : Type 0} → (A → Type 0) → List (Option A) → Type 0
 HoldsOfAsides P asides = AllByRecursion (HoldsOfAside P) asides
-
--- an event that a schedule of version 2 with this head can tell
-abbrev pub IsTellable : Head → Event → Type 0
-IsTellable head event = Allows head event × HasEvent 2 event
 
 -- a schedule with asides as a text of fewer than 2^31 bytes gives it: a schedule, and of each line what it says, if it is an aside
 pub record IsReadyMixed {A : Type 0} (fits : (hosts : ℕ) → A → Type 0) (s : Script) (asides : List (Option A)) : Type 0 where

@@ -6,10 +6,8 @@
 
 mod aside;
 mod printing;
-mod schedules;
 mod scripts;
 
 pub use aside::{AsideLine, aside_at};
 pub use printing::print_parts;
-pub use schedules::schedule_text;
 pub use scripts::{MixedScript, VERSION, read_script};

@@ -5,8 +5,9 @@ use Rattle.nq_names.specs.Playing.{NamesOver, stepped_outside}
 use Rattle.nq_model.specs.Kept.{Kept}
 use Rattle.nq_play.specs.Playing.{beginning}
 use Rattle.nq_play.specs.declared.Played.{Played as Went}
+use Rattle.nq_replay.specs.Texts.{IsTellable}
 use Rattle.nq_script.specs.Heads.{head_lines}
-use Rattle.nq_script.specs.Lines.{HasEvent, SpellsLine}
+use Rattle.nq_script.specs.Lines.{SpellsLine}
 use Rattle.nq_script.specs.Schedule.{SpellsLines, SpellsSchedule}
 use Rattle.nq_script.specs.declared.heads.Head.{Head}
 use Rattle.nq_script.specs.declared.lines.Line.{Line}
@@ -15,7 +16,7 @@ use Rattle.nq_asides.specs.Going.{Comes, RanTo}
 use Rattle.nq_naming.specs.Going.{IsAtEnd}
 use Rattle.nq_naming.specs.Running.{IsTold}
 use Rattle.nq_asides.proofs.Keeping.{Ends, Keeps, ends-answered, ends-packet, ends-then, keeps-repeated}
-use Rattle.nq_asides.specs.Text.{IsTellable, beside, mixed, plain}
+use Rattle.nq_asides.specs.Text.{beside, mixed, plain}
 use Rattle.nq_name_script.specs.declared.Aside.{Aside}
 use Rattle.nq_base.specs.declared.Event.{Event}
 use Rattle.nq_names_run.specs.declared.NameEvent.{NameEvent}
@@ -84,7 +85,7 @@ module _ (head : Head) (second : head.version ≡ 2) where
 
   keeps_line : (most : ℕ) (line : Line) (text : List ℕ) → SpellsLine head line text → Keeps (AreTold head) (play_plain (beginning head) most line)
   keeps_line most (Line.Events event times) text spelled =
-      keeps-repeated (AreTold head) times (play_event (beginning head) (NameEvent.Plain event)) (keeps_event event (spelled.0, subst (λ v. HasEvent v event) second spelled.1.0))
+      keeps-repeated (AreTold head) times (play_event (beginning head) (NameEvent.Plain event)) (keeps_event event (spelled.0, spelled.1.0))
   keeps_line most (Line.Round times) text spelled =
       keeps-repeated (AreTold head) times (play_round (beginning head))
       (keeps-round (AreTold head) (beginning head) (λ h less. keeps_event (Event.ClientTick h) (less, tt)) (keeps_event Event.ServerTick (tt, tt)))

@@ -3,7 +3,7 @@
 -- are the source's counts of faults before and after, and `w` and `w'` the sink's.
 use Rattle.std.specs.List.{AllByRecursion}
 use Rattle.std.specs.Prelude.{◌≡◌, ◌⊎◌, ℕ, List, ◌++◌, Option, map, reverse}
-use Rattle.nq_asides.specs.Text.{IsTellable}
+use Rattle.nq_replay.specs.Texts.{IsTellable}
 use Rattle.nq_base.specs.declared.SkewBroken.{SkewBroken}
 use Rattle.nq_names.specs.Playing.{PlaysOutside, NamesOver}
 use Rattle.nq_ending.specs.declared.Ending.{Ending}

@@ -24,7 +24,7 @@ ghost use Rattle.nq_name_script.specs.Text.{IsOfHost};
 ghost use Rattle.nq_world.specs.Playing.{HasSettings};
 
 use crate::lines::play;
-use nq_asides::{MixedScript, print_parts, read_script, schedule_text};
+use nq_asides::{MixedScript, print_parts, read_script};
 use nq_base::NoMemory;
 use nq_ending::Ending;
 use nq_io::{Sink, Source, Whole, read_all};
@@ -32,7 +32,7 @@ use nq_keeper::{Keeper, ListKeeper};
 use nq_name_script::Aside;
 use nq_names::NameWorld;
 use nq_play::{Played, begin_surely};
-use nq_replay::{tell_over, tell_script, tell_stop};
+use nq_replay::{schedule_text, tell_over, tell_script, tell_stop};
 use nq_script::{Head, ScriptFault};
 use nq_world::{MOST_EVENTS, NewFault};
 use std::alloc::Global;

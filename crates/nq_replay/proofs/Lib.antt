@@ -10,3 +10,4 @@ pub mod Overs
 pub mod Whole
 pub mod Never
 pub mod Versions
+pub mod Spelling

@@ -4,3 +4,4 @@ pub mod Schedules
 pub mod Ending
 pub mod Reading
 pub mod Judging
+pub mod Texts

@@ -7,6 +7,7 @@ mod parts;
 mod printing;
 mod reading;
 mod schedules;
+mod texts;
 
 pub use finished::Finished;
 pub use judging::judge;
@@ -15,3 +16,4 @@ pub use parts::print_parts;
 pub use printing::{Bound, put_line, tell_over};
 pub use reading::read_script;
 pub use schedules::{replay, tell_limit, tell_script, tell_stop};
+pub use texts::schedule_text;

@@ -2,13 +2,14 @@
 use Rattle.std.proofs.Common.{◌≡◌, ◌<◌, ◌≤◌, ℕ, ◌+◌, List, [], ◌∷◌, arith, length, zero, suc, Option, Some, None, refl, subst}
 use Rattle.std.specs.List.{AllByRecursion}
 use Rattle.nq_asides.proofs.Keeping.{Ends, Keeps, ends-answered, ends-packet, ends-then, keeps-repeated}
-use Rattle.nq_asides.specs.Text.{IsTellable, mixed}
+use Rattle.nq_asides.specs.Text.{mixed}
 use Rattle.nq_commit.specs.Playing.{PlaysOutside, StagedOver, stepped_outside}
 use Rattle.nq_model.specs.Kept.{Kept}
 use Rattle.nq_play.specs.Playing.{beginning}
 use Rattle.nq_play.specs.declared.Played.{Played as Went}
+use Rattle.nq_replay.specs.Texts.{IsTellable}
 use Rattle.nq_script.specs.Heads.{head_lines}
-use Rattle.nq_script.specs.Lines.{HasEvent, SpellsLine}
+use Rattle.nq_script.specs.Lines.{SpellsLine}
 use Rattle.nq_script.specs.Schedule.{SpellsLines, SpellsSchedule}
 use Rattle.nq_script.specs.declared.heads.Head.{Head}
 use Rattle.nq_script.specs.declared.lines.Line.{Line}
@@ -61,7 +62,7 @@ module _ (head : Head) (second : head.version ≡ 2) where
 
   keeps_line : (most : ℕ) (line : Line) (text : List ℕ) → SpellsLine head line text → Keeps (AreTold head) (play_plain (beginning head) most line)
   keeps_line most (Line.Events event times) text spelled =
-      keeps-repeated (AreTold head) times (play_event (beginning head) (StagedEvent.Plain event)) (keeps_event event (spelled.0, subst (λ v. HasEvent v event) second spelled.1.0))
+      keeps-repeated (AreTold head) times (play_event (beginning head) (StagedEvent.Plain event)) (keeps_event event (spelled.0, spelled.1.0))
   keeps_line most (Line.Round times) text spelled =
       keeps-repeated (AreTold head) times (play_round (beginning head))
       (keeps-round (AreTold head) (beginning head) (λ h less. keeps_event (Event.ClientTick h) (less, tt)) (keeps_event Event.ServerTick (tt, tt)))

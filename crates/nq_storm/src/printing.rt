@@ -9,11 +9,10 @@ ghost use Rattle.nq_storm_rules.specs.Stormy.{IsStormy};
 ghost use Rattle.nq_world.specs.Playing.{Plays};
 
 use crate::counts::{count_text, losses};
-use crate::schedules::schedule_text;
 use nq_ending::Ending;
 use nq_io::Sink;
 use nq_keeper::Keeper;
-use nq_replay::print_parts;
+use nq_replay::{print_parts, schedule_text};
 use nq_script::{Head, Schedule};
 use nq_world::World;
 use std::alloc::Global;

@@ -7,7 +7,7 @@ use Rattle.nq_script.specs.Schedule.{SpellsSchedule}
 use Rattle.nq_staged.proofs.Printed.{is-printed}
 use Rattle.nq_staged.specs.Running.{count_line}
 use Rattle.nq_asides.proofs.Reversing.{all-reverse}
-use Rattle.nq_asides.specs.Text.{IsTellable}
+use Rattle.nq_replay.specs.Texts.{IsTellable}
 use Rattle.nq_staged.proofs.running.print_run.Goals as goal
 
 pub schedule_text-requires-clause-told : goal.schedule_text-requires-clause-told

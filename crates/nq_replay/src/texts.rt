@@ -2,13 +2,12 @@
 
 ghost use Rattle.std.specs.List.{AllByRecursion};
 ghost use Rattle.std.specs.Prelude.{◌≡◌, ◌++◌, List, ℕ, map, IfOk, OnOk};
+ghost use Rattle.nq_replay.specs.Texts.{IsTellable};
 ghost use Rattle.nq_script.specs.Heads.{FitsHead};
 ghost use Rattle.nq_script.specs.Lines.{AreSpelled, once};
 ghost use Rattle.nq_script.specs.Schedule.{SpellsSchedule};
 ghost use Rattle.nq_script.specs.Text.{text_of};
-ghost use Rattle.nq_asides.specs.Text.{IsTellable};
 
-use crate::scripts::VERSION;
 use nq_base::NoMemory;
 use nq_script::{Head, Schedule, print_head};
 use std::alloc::Global;
@@ -16,7 +15,6 @@ use std::alloc::Global;
 /// The text of a schedule with this head: a line for each event, and `end`.
 pub fn schedule_text(alloc: Global, head: &Head, ran: &Schedule) -> Result<Vec<u8>, NoMemory>
     requires fits { FitsHead head.now }
-    requires version { head.now.version ≡ 2 }
     requires told { AllByRecursion (IsTellable head.now) ran.now }
     ensures { IfOk result (λ text. SpellsSchedule head.now (map once ran.now) text.items) }
 {
@@ -28,12 +26,11 @@ pub fn schedule_text(alloc: Global, head: &Head, ran: &Schedule) -> Result<Vec<u
 
 /// Appends the lines of events.
 fn push_events(text: &mut Vec<u8>, head: &Head, ran: &Schedule) -> Result<(), NoMemory>
-    requires version { head.now.version ≡ 2 }
-    requires told { AllByRecursion (IsTellable head.now) ran.now }
+    requires { AllByRecursion (IsTellable head.now) ran.now }
     ensures { OnOk result ((texts : List (List ℕ)) × AreSpelled head.now ran.now texts × (text.new.items ≡ text.old.items ++ text_of texts)) }
 {
     for place in 0..ran.len() {
-        ran.append_line(place, VERSION, text)?;
+        ran.append_line(place, head.version, text)?;
     }
     Ok(())
 }

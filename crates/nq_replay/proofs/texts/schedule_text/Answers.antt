@@ -4,7 +4,7 @@ use Rattle.nq_script.specs.Heads.{head_lines}
 use Rattle.nq_script.specs.Lines.{once}
 use Rattle.nq_script.specs.Schedule.{SpellsSchedule}
 use Rattle.nq_script.specs.Text.{text_of}
-use Rattle.nq_asides.proofs.schedules.schedule_text.Goals as goal
+use Rattle.nq_replay.proofs.texts.schedule_text.Goals as goal
 
 pub returns : goal.returns
 returns c =

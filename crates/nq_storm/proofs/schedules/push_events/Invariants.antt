@@ -1,5 +1,0 @@
-use Rattle.nq_storm.proofs.Spelling.{Stand}
-use Rattle.nq_storm.proofs.schedules.push_events.Given as goal
-
-abbrev pub invariant-loop-place : goal.invariant-loop-place
-invariant-loop-place l = Stand l.fn.text.items l.text.items l.ran l.place
