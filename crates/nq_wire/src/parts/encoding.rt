@@ -70,8 +70,9 @@ fn put_grant(grant: &Grant, out: &mut Writer)
     out.put_u32(grant.blocks);
 }
 
+/// Writes what a delayed write rests on. There is room.
 #[tactic(auto, unfolding(crate::specs::Parts::base_bytes))]
-fn put_base(push: &PushBase, out: &mut Writer)
+pub fn put_base(push: &PushBase, out: &mut Writer)
     requires { 12 ≤ out.old.spare }
     ensures written { out.new.bytes ≡ out.old.bytes ++ base_bytes push.now }
     ensures fits { IsPushBase push.now }
@@ -149,8 +150,8 @@ pub fn put_name(name: &Name, out: &mut Writer)
     out.put_opaque(name.as_bytes());
 }
 
-/// Writes the body of a block.
-pub(crate) fn put_body(body: &Block, out: &mut Writer)
+/// Writes the body of a block. There is room.
+pub fn put_body(body: &Block, out: &mut Writer)
     requires { 4100 ≤ out.old.spare }
     ensures written { out.new.bytes ≡ out.old.bytes ++ opaque body.now }
     ensures fits { length body.now ≡ 4096 }
