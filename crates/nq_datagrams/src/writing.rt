@@ -38,7 +38,7 @@ pub fn call_bytes(alloc: Global, xid: u32, request: &Request) -> Result<Vec<u8>,
     ensures written { IfOk result (λ v. v.items ≡ bytes_of (call xid request.now)) }
     ensures fits { OnOk result (FitsMessage (call xid request.now)) }
 {
-    let mut out = Writer::new(alloc)?;
+    let mut out = Writer::behind(Vec::new(alloc));
     begin_call(&head_of(xid, request), &mut out)?;
     encode_request_into(request, &mut out)?;
     Ok(out.into_bytes())
@@ -57,9 +57,9 @@ pub fn reply_bytes(alloc: Global, xid: u32, reply: &Reply) -> Result<Vec<u8>, No
     ensures written { IfOk result (λ v. v.items ≡ bytes_of (reply_to xid reply.now)) }
     ensures fits { OnOk result (FitsMessage (reply_to xid reply.now)) }
 {
-    let mut out = Writer::new(alloc)?;
+    let mut out = Writer::behind(Vec::new(alloc));
     out.reserve(REPLY_HEAD + SHORT_RESULTS)?;
-    begin_reply(xid, &mut out)?;
+    begin_reply(xid, &mut out).unwrap();
     encode_reply_into(reply, &mut out)?;
     Ok(out.into_bytes())
 }
@@ -121,9 +121,9 @@ impl BegunReply {
         let Some(whole) = room.checked_add(REPLY_HEAD) else {
             return Err(NoMemory::Memory);
         };
-        let mut out = Writer::new(alloc)?;
+        let mut out = Writer::behind(Vec::new(alloc));
         out.reserve(whole)?;
-        begin_reply(xid, &mut out)?;
+        begin_reply(xid, &mut out).unwrap();
         Ok(BegunReply { xid, out })
     }
 

@@ -1,6 +1,6 @@
 //! Writing messages, each with AUTH_NULL.
 
-ghost use Rattle.std.specs.Prelude.{◌≡◌, ◌+◌, ◌≤◌, ◌++◌, List, ℕ, length, All, IfOk, IfSome, IsOk, OnOk};
+ghost use Rattle.std.specs.Prelude.{◌≡◌, ◌+◌, ◌≤◌, ◌++◌, List, ℕ, length, All, IfOk, IfSome, OnOk};
 ghost use Rattle.nq_base.specs.Name.{IsName};
 ghost use Rattle.nq_listing.specs.Messages.{answer_bytes, dir_evicted, dir_evicted_bytes, dir_tag_arguments, dir_vacated_bytes, entries_bytes, entry_bytes, front_bytes, head_of, most_names, page, read_dir_arguments, read_dir_bytes, wait, IsDirTag, IsEntry, IsReadDir};
 ghost use Rattle.nq_directory.specs.Prefix.{IsPrefix};
@@ -15,7 +15,7 @@ use nq_base::{Grant, NoMemory};
 use nq_datagrams::{PROGRAM, VERSION};
 use nq_directory::{FileName, Prefix};
 use nq_rpc::{Head, begin_call, begin_reply};
-use nq_wire::parts::{put_name, put_optional_grant, put_tag, put_who};
+use nq_wire::parts::{name_len, put_name, put_optional_grant, put_tag, put_who};
 use nq_xdr::Writer;
 use std::alloc::Global;
 use std::marker::Model;
@@ -29,6 +29,9 @@ const GRANT_SIZE: usize = 48;
 /// The most bytes that a call of these has.
 const CALL_SIZE: usize = 136;
 
+/// How many bytes a reply has up to the number of its files.
+const REPLY_SIZE: usize = 36;
+
 /// The datagram of a READDIRLOOK.
 ///
 /// # Errors
@@ -40,10 +43,10 @@ pub fn read_dir_bytes(alloc: Global, request: &ReadDir) -> Result<Vec<u8>, NoMem
     ensures fits { OnOk result (IsReadDir request.now) }
 {
     let mut out = begun(alloc, request.xid, READ_DIR_PROCEDURE)?;
-    put_who(&request.who, &mut out)?;
-    put_prefix(&request.prefix, &mut out)?;
-    out.u32(request.after.0)?;
-    out.u32(request.term)?;
+    put_who(&request.who, &mut out);
+    put_prefix(&request.prefix, &mut out);
+    out.put_u32(request.after.0);
+    out.put_u32(request.term);
     Ok(out.into_bytes())
 }
 
@@ -58,7 +61,7 @@ pub fn dir_evicted_bytes(alloc: Global, notice: &DirTag) -> Result<Vec<u8>, NoMe
     ensures fits { OnOk result (IsDirTag notice.now) }
 {
     let mut out = begun(alloc, notice.xid, DIR_EVICTED_PROCEDURE)?;
-    put_dir_tag(notice, &mut out)?;
+    put_dir_tag(notice, &mut out);
     Ok(out.into_bytes())
 }
 
@@ -73,7 +76,7 @@ pub fn dir_vacated_bytes(alloc: Global, vacated: &DirTag) -> Result<Vec<u8>, NoM
     ensures fits { OnOk result (IsDirTag vacated.now) }
 {
     let mut out = begun(alloc, vacated.xid, DIR_VACATED_PROCEDURE)?;
-    put_dir_tag(vacated, &mut out)?;
+    put_dir_tag(vacated, &mut out);
     Ok(out.into_bytes())
 }
 
@@ -86,10 +89,9 @@ pub fn dir_vacated_bytes(alloc: Global, vacated: &DirTag) -> Result<Vec<u8>, NoM
 pub fn later_bytes(alloc: Global, xid: u32, inc: u32) -> Result<Vec<u8>, NoMemory>
     ensures { IfOk result (λ v. v.items ≡ answer_bytes xid inc wait) }
 {
-    let mut out = Writer::new(alloc)?;
-    begin_reply(xid, &mut out)?;
-    out.u32(inc)?;
-    out.u32(LATER_STATUS)?;
+    let mut out = begun_reply(alloc, xid)?;
+    out.put_u32(inc);
+    out.put_u32(LATER_STATUS);
     Ok(out.into_bytes())
 }
 
@@ -127,14 +129,13 @@ impl BegunPage {
         ensures begun { IfOk result (λ b. (rest : List ℕ) → b.bytes ++ rest ≡ spelling (reply_with xid (front_bytes inc names.now more ++ rest)) null null) }
         ensures room { IfOk result (λ b. 48 ≤ b.spare) }
     {
-        let mut out = Writer::new(alloc)?;
-        begin_reply(xid, &mut out)?;
-        out.u32(inc)?;
-        out.u32(OK)?;
-        out.u32(names.len() as u32)?;
+        let mut out = begun_reply(alloc, xid)?;
+        out.put_u32(inc);
+        out.put_u32(OK);
+        out.put_u32(names.len() as u32);
         put_entries(names, &mut out)?;
-        out.boolean(more)?;
-        out.reserve(GRANT_SIZE)?;
+        out.reserve(4 + GRANT_SIZE)?;
+        out.put_boolean(more);
         Ok(BegunPage { out })
     }
 
@@ -145,48 +146,61 @@ impl BegunPage {
         ensures fits { IfSome grant.now IsGrant }
     {
         let BegunPage { mut out } = self;
-        put_optional_grant(grant, &mut out).unwrap();
+        put_optional_grant(grant, &mut out);
         out.into_bytes()
     }
 }
 
-/// Begins the call of a procedure.
+/// Begins the call of a procedure, with room for its arguments.
 fn begun(alloc: Global, xid: u32, procedure: u32) -> Result<Writer, NoMemory>
-    ensures { IfOk result (λ w. (arguments : List ℕ) → w.bytes ++ arguments ≡ spelling (call_with (head_of xid procedure) arguments) null null) }
+    ensures begun { IfOk result (λ w. (arguments : List ℕ) → w.bytes ++ arguments ≡ spelling (call_with (head_of xid procedure) arguments) null null) }
+    ensures room { IfOk result (λ w. 96 ≤ w.spare) }
 {
-    let mut out = Writer::new(alloc)?;
+    let head = Head {
+        xid,
+        prog: PROGRAM,
+        vers: VERSION,
+        procedure,
+    };
+    let mut out = Writer::behind(Vec::new(alloc));
     out.reserve(CALL_SIZE)?;
-    begin_call(
-        &Head {
-            xid,
-            prog: PROGRAM,
-            vers: VERSION,
-            procedure,
-        },
-        &mut out,
-    )?;
+    begin_call(&head, &mut out).unwrap();
     Ok(out)
 }
 
-/// Writes a prefix.
-fn put_prefix(prefix: &Prefix, out: &mut Writer) -> Result<(), NoMemory>
-    ensures written { OnOk result (out.new.bytes ≡ out.old.bytes ++ opaque prefix.now) }
-    ensures fits { OnOk result (IsPrefix prefix.now) }
+/// Begins a reply, with room for three words of its results.
+fn begun_reply(alloc: Global, xid: u32) -> Result<Writer, NoMemory>
+    ensures begun { IfOk result (λ w. (results : List ℕ) → w.bytes ++ results ≡ spelling (reply_with xid results) null null) }
+    ensures room { IfOk result (λ w. 12 ≤ w.spare) }
 {
-    out.opaque(prefix.as_bytes())
+    let mut out = Writer::behind(Vec::new(alloc));
+    out.reserve(REPLY_SIZE)?;
+    begin_reply(xid, &mut out).unwrap();
+    Ok(out)
 }
 
-/// Writes what a DIREVICTED and a DIRVACATED say.
-#[tactic(auto, unfolding(crate::specs::Messages::dir_tag_arguments))]
-fn put_dir_tag(said: &DirTag, out: &mut Writer) -> Result<(), NoMemory>
-    ensures written { OnOk result (out.new.bytes ≡ out.old.bytes ++ dir_tag_arguments said.now) }
-    ensures who { OnOk result (IsWho said.now.who) }
-    ensures prefix { OnOk result (IsPrefix said.now.prefix) }
-    ensures tag { OnOk result (IsTag said.now.tag) }
+/// Writes a prefix, which takes at most 68 bytes. There is room.
+fn put_prefix(prefix: &Prefix, out: &mut Writer)
+    requires { 68 ≤ out.old.spare }
+    ensures written { out.new.bytes ≡ out.old.bytes ++ opaque prefix.now }
+    ensures fits { IsPrefix prefix.now }
+    ensures spare { out.old.spare ≤ out.new.spare + 68 }
 {
-    put_who(&said.who, out)?;
-    put_prefix(&said.prefix, out)?;
-    put_tag(&said.tag, out)
+    out.put_opaque(prefix.as_bytes());
+}
+
+/// Writes what a DIREVICTED and a DIRVACATED say. There is room.
+#[tactic(auto, unfolding(crate::specs::Messages::dir_tag_arguments))]
+fn put_dir_tag(said: &DirTag, out: &mut Writer)
+    requires { 88 ≤ out.old.spare }
+    ensures written { out.new.bytes ≡ out.old.bytes ++ dir_tag_arguments said.now }
+    ensures who { IsWho said.now.who }
+    ensures prefix { IsPrefix said.now.prefix }
+    ensures tag { IsTag said.now.tag }
+{
+    put_who(&said.who, out);
+    put_prefix(&said.prefix, out);
+    put_tag(&said.tag, out);
 }
 
 /// Writes a file with its name.
@@ -195,8 +209,10 @@ fn put_entry(entry: &FileName, out: &mut Writer) -> Result<(), NoMemory>
     ensures written { OnOk result (out.new.bytes ≡ out.old.bytes ++ entry_bytes entry.now) }
     ensures fits { OnOk result (IsEntry entry.now) }
 {
-    out.u32(entry.file.0)?;
-    put_name(&entry.name, out)
+    out.reserve(4 + name_len(&entry.name))?;
+    out.put_u32(entry.file.0);
+    put_name(&entry.name, out);
+    Ok(())
 }
 
 /// Writes files with their names.

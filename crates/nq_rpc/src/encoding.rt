@@ -35,108 +35,108 @@ fn message_len(message: &Message) -> usize
 
 /// Writes AUTH_NULL.
 #[tactic(auto, unfolding(crate::specs::Message::auth))]
-fn put_auth(out: &mut Writer) -> Result<(), NoMemory>
-    ensures written { OnOk result (out.new.bytes ≡ out.old.bytes ++ auth null) }
-    ensures succeeds { 8 ≤ out.old.spare → IsOk result }
+fn put_auth(out: &mut Writer)
+    requires { 8 ≤ out.old.spare }
+    ensures written { out.new.bytes ≡ out.old.bytes ++ auth null }
     ensures spare { out.old.spare ≤ out.new.spare + 8 }
 {
-    out.u32(AUTH_NULL)?;
-    out.opaque(&[])
+    out.put_u32(AUTH_NULL);
+    out.put_opaque(&[]);
 }
 
-fn put_bounds(low: u32, high: u32, out: &mut Writer) -> Result<(), NoMemory>
-    ensures written { OnOk result (out.new.bytes ≡ out.old.bytes ++ word low ++ word high) }
-    ensures succeeds { 8 ≤ out.old.spare → IsOk result }
+fn put_bounds(low: u32, high: u32, out: &mut Writer)
+    requires { 8 ≤ out.old.spare }
+    ensures written { out.new.bytes ≡ out.old.bytes ++ word low ++ word high }
     ensures spare { out.old.spare ≤ out.new.spare + 8 }
 {
-    out.u32(low)?;
-    out.u32(high)
+    out.put_u32(low);
+    out.put_u32(high);
 }
 
-/// Writes what stands before the arguments of a call.
+/// Writes what stands before the arguments of a call. There is room.
 #[tactic(auto, unfolding(crate::specs::Message::numbers, crate::specs::Message::spelling))]
-fn put_head(head: &Head, rpcvers: u32, out: &mut Writer) -> Result<(), NoMemory>
-    ensures written { OnOk result ((arguments : List ℕ)
-        → out.new.bytes ++ arguments ≡ out.old.bytes ++ spelling (Call (record { head = head.now; rpcvers = rpcvers; arguments = arguments })) null null) }
-    ensures succeeds { 40 ≤ out.old.spare → IsOk result }
+fn put_head(head: &Head, rpcvers: u32, out: &mut Writer)
+    requires { 40 ≤ out.old.spare }
+    ensures written { (arguments : List ℕ)
+        → out.new.bytes ++ arguments ≡ out.old.bytes ++ spelling (Call (record { head = head.now; rpcvers = rpcvers; arguments = arguments })) null null }
     ensures spare { out.old.spare ≤ out.new.spare + 40 }
 {
-    out.u32(head.xid)?;
-    out.u32(number::CALL)?;
-    out.u32(rpcvers)?;
-    out.u32(head.prog)?;
-    out.u32(head.vers)?;
-    out.u32(head.procedure)?;
-    put_auth(out)?;
-    put_auth(out)?;
-    Ok(())
+    out.put_u32(head.xid);
+    out.put_u32(number::CALL);
+    out.put_u32(rpcvers);
+    out.put_u32(head.prog);
+    out.put_u32(head.vers);
+    out.put_u32(head.procedure);
+    put_auth(out);
+    put_auth(out);
 }
 
 /// Begins an accepted reply.
-fn put_accepted(stat: u32, out: &mut Writer) -> Result<(), NoMemory>
-    ensures written { OnOk result (out.new.bytes ≡ out.old.bytes ++ (word 0 ++ auth null ++ word stat)) }
-    ensures succeeds { 16 ≤ out.old.spare → IsOk result }
+fn put_accepted(stat: u32, out: &mut Writer)
+    requires { 16 ≤ out.old.spare }
+    ensures written { out.new.bytes ≡ out.old.bytes ++ (word 0 ++ auth null ++ word stat) }
     ensures spare { out.old.spare ≤ out.new.spare + 16 }
 {
-    out.u32(number::MSG_ACCEPTED)?;
-    put_auth(out)?;
-    out.u32(stat)
+    out.put_u32(number::MSG_ACCEPTED);
+    put_auth(out);
+    out.put_u32(stat);
 }
 
 /// Begins a denied reply.
-fn put_denied(stat: u32, out: &mut Writer) -> Result<(), NoMemory>
-    ensures written { OnOk result (out.new.bytes ≡ out.old.bytes ++ (word 1 ++ word stat)) }
-    ensures succeeds { 8 ≤ out.old.spare → IsOk result }
+fn put_denied(stat: u32, out: &mut Writer)
+    requires { 8 ≤ out.old.spare }
+    ensures written { out.new.bytes ≡ out.old.bytes ++ (word 1 ++ word stat) }
     ensures spare { out.old.spare ≤ out.new.spare + 8 }
 {
-    out.u32(number::MSG_DENIED)?;
-    out.u32(stat)
+    out.put_u32(number::MSG_DENIED);
+    out.put_u32(stat);
 }
 
 #[tactic(auto, unfolding(crate::specs::Message::outcome))]
-fn put_outcome(reply: &Outcome, out: &mut Writer) -> Result<(), NoMemory>
-    ensures written { OnOk result (out.new.bytes ≡ out.old.bytes ++ outcome reply.now null) }
-    ensures succeeds { outcome_len reply.now ≤ out.old.spare → IsOk result }
+fn put_outcome(reply: &Outcome, out: &mut Writer)
+    requires { outcome_len reply.now ≤ out.old.spare }
+    ensures written { out.new.bytes ≡ out.old.bytes ++ outcome reply.now null }
     ensures spare { out.old.spare ≤ out.new.spare + outcome_len reply.now }
 {
     match reply {
         Outcome::Success(results) => {
-            put_accepted(number::SUCCESS, out)?;
-            out.append(results.as_bytes())
+            put_accepted(number::SUCCESS, out);
+            out.put_bytes(results.as_bytes());
         }
         Outcome::ProgUnavail => put_accepted(number::PROG_UNAVAIL, out),
         Outcome::ProgMismatch { low, high } => {
-            put_accepted(number::PROG_MISMATCH, out)?;
-            put_bounds(*low, *high, out)
+            put_accepted(number::PROG_MISMATCH, out);
+            put_bounds(*low, *high, out);
         }
         Outcome::ProcUnavail => put_accepted(number::PROC_UNAVAIL, out),
         Outcome::GarbageArgs => put_accepted(number::GARBAGE_ARGS, out),
         Outcome::RpcMismatch { low, high } => {
-            put_denied(number::RPC_MISMATCH, out)?;
-            put_bounds(*low, *high, out)
+            put_denied(number::RPC_MISMATCH, out);
+            put_bounds(*low, *high, out);
         }
         Outcome::AuthError(stat) => {
-            put_denied(number::AUTH_ERROR, out)?;
-            out.u32(*stat)
+            put_denied(number::AUTH_ERROR, out);
+            out.put_u32(*stat);
         }
     }
 }
 
+/// Writes a message. There is room.
 #[tactic(auto, unfolding(crate::specs::Message::spelling))]
-fn put(message: &Message, out: &mut Writer) -> Result<(), NoMemory>
-    ensures written { OnOk result (out.new.bytes ≡ out.old.bytes ++ spelling message.now null null) }
-    ensures succeeds { spelling_len message.now ≤ out.old.spare → IsOk result }
+fn put(message: &Message, out: &mut Writer)
+    requires { spelling_len message.now ≤ out.old.spare }
+    ensures written { out.new.bytes ≡ out.old.bytes ++ spelling message.now null null }
     ensures spare { out.old.spare ≤ out.new.spare + spelling_len message.now }
 {
     match message {
         Message::Call(call) => {
-            put_head(&call.head, call.rpcvers, out)?;
-            out.append(call.arguments.as_bytes())
+            put_head(&call.head, call.rpcvers, out);
+            out.put_bytes(call.arguments.as_bytes());
         }
         Message::Reply(reply) => {
-            out.u32(reply.xid)?;
-            out.u32(number::REPLY)?;
-            put_outcome(&reply.outcome, out)
+            out.put_u32(reply.xid);
+            out.put_u32(number::REPLY);
+            put_outcome(&reply.outcome, out);
         }
     }
 }
@@ -151,7 +151,7 @@ pub fn begin_call(head: &Head, out: &mut Writer) -> Result<(), NoMemory>
     ensures spare { out.old.spare ≤ out.new.spare + 40 }
 {
     out.reserve(40)?;
-    put_head(head, RPC_VERSION, out).unwrap();
+    put_head(head, RPC_VERSION, out);
     Ok(())
 }
 
@@ -166,9 +166,9 @@ pub fn begin_reply(xid: u32, out: &mut Writer) -> Result<(), NoMemory>
     ensures spare { out.old.spare ≤ out.new.spare + 24 }
 {
     out.reserve(24)?;
-    out.u32(xid).unwrap();
-    out.u32(number::REPLY).unwrap();
-    put_accepted(number::SUCCESS, out).unwrap();
+    out.put_u32(xid);
+    out.put_u32(number::REPLY);
+    put_accepted(number::SUCCESS, out);
     Ok(())
 }
 
@@ -181,7 +181,7 @@ pub fn encode_into(message: &Message, out: &mut Writer) -> Result<(), NoMemory>
     ensures spare { out.old.spare ≤ out.new.spare + spelling_len message.now }
 {
     out.reserve(message_len(message))?;
-    put(message, out).unwrap();
+    put(message, out);
     Ok(())
 }
 

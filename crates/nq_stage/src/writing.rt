@@ -1,15 +1,14 @@
 //! Writing messages, each with AUTH_NULL.
 
-ghost use Rattle.std.specs.Prelude.{◌≡◌, ◌+◌, ◌≤◌, ◌++◌, length, IfOk, IsOk, OnOk};
-ghost use Rattle.nq_base.specs.Block.{filled};
+ghost use Rattle.std.specs.Prelude.{◌≡◌, ℕ, ◌+◌, ◌≤◌, List, ◌++◌, length, IfOk, OnOk};
+ghost use Rattle.nq_rpc.specs.Message.{call_with, null, reply_with, spelling};
 ghost use Rattle.nq_stage.specs.Messages.{commit_bytes, head_of, pushed_bytes, stage_bytes, staged_bytes, unstaged_bytes, write_bytes, written_bytes, IsFront, IsPushed, IsWritten};
-ghost use Rattle.nq_wire.specs.Parts.{base_bytes, IsPushBase};
-ghost use Rattle.nq_xdr.specs.Item.{opaque};
 
 use crate::messages::{COMMIT_PROCEDURE, Pushed, STAGE_PROCEDURE, UNSTAGED_STATUS, Written};
-use nq_base::{Block, NoMemory, PushBase, Seen};
+use nq_base::{Block, NoMemory};
 use nq_datagrams::{PROGRAM, VERSION};
 use nq_rpc::{Head, begin_call, begin_reply};
+use nq_wire::parts::{put_base, put_body, put_who};
 use nq_xdr::Writer;
 use std::alloc::Global;
 
@@ -46,11 +45,9 @@ pub fn stage_bytes(
     ensures bytes { IfOk result (λ v. v.items ≡ stage_bytes xid written.now body.now) }
     ensures fits { OnOk result (IsWritten written.now × (length body.now ≡ 4096)) }
 {
-    let mut out = Writer::new(alloc)?;
-    out.reserve(STAGE_SIZE)?;
-    begin_call(&head_of(xid, STAGE_PROCEDURE), &mut out)?;
-    put_written(written, &mut out)?;
-    put_body(body, &mut out)?;
+    let mut out = begun_call(alloc, xid, STAGE_PROCEDURE, STAGE_SIZE)?;
+    put_written(written, &mut out);
+    put_body(body, &mut out);
     Ok(out.into_bytes())
 }
 
@@ -64,12 +61,10 @@ pub fn commit_bytes(alloc: Global, pushed: &Pushed, verifier: u32) -> Result<Vec
     ensures bytes { IfOk result (λ v. v.items ≡ commit_bytes pushed.now verifier) }
     ensures fits { OnOk result (IsPushed pushed.now) }
 {
-    let mut out = Writer::new(alloc)?;
-    out.reserve(COMMIT_SIZE)?;
-    begin_call(&head_of(pushed.xid, COMMIT_PROCEDURE), &mut out)?;
-    put_pushed(pushed, &mut out)?;
-    put_base(&pushed.base, &mut out)?;
-    out.u32(verifier)?;
+    let mut out = begun_call(alloc, pushed.xid, COMMIT_PROCEDURE, COMMIT_SIZE)?;
+    put_pushed(pushed, &mut out);
+    put_base(&pushed.base, &mut out);
+    out.put_u32(verifier);
     Ok(out.into_bytes())
 }
 
@@ -83,13 +78,11 @@ pub fn write_bytes(alloc: Global, pushed: &Pushed, body: &Block) -> Result<Vec<u
     ensures bytes { IfOk result (λ v. v.items ≡ write_bytes pushed.now body.now) }
     ensures fits { OnOk result (IsPushed pushed.now × (length body.now ≡ 4096)) }
 {
-    let mut out = Writer::new(alloc)?;
-    out.reserve(PUSH_SIZE)?;
-    begin_call(&head_of(pushed.xid, WRITE), &mut out)?;
-    put_pushed(pushed, &mut out)?;
-    out.boolean(true)?;
-    put_base(&pushed.base, &mut out)?;
-    put_body(body, &mut out)?;
+    let mut out = begun_call(alloc, pushed.xid, WRITE, PUSH_SIZE)?;
+    put_pushed(pushed, &mut out);
+    out.put_boolean(true);
+    put_base(&pushed.base, &mut out);
+    put_body(body, &mut out);
     Ok(out.into_bytes())
 }
 
@@ -102,12 +95,10 @@ pub fn write_bytes(alloc: Global, pushed: &Pushed, body: &Block) -> Result<Vec<u
 pub fn staged_bytes(alloc: Global, xid: u32, inc: u32, verifier: u32) -> Result<Vec<u8>, NoMemory>
     ensures { IfOk result (λ v. v.items ≡ staged_bytes xid inc verifier) }
 {
-    let mut out = Writer::new(alloc)?;
-    out.reserve(STAGED_SIZE)?;
-    begin_reply(xid, &mut out)?;
-    out.u32(inc)?;
-    out.u32(OK)?;
-    out.u32(verifier)?;
+    let mut out = begun_reply(alloc, xid)?;
+    out.put_u32(inc);
+    out.put_u32(OK);
+    out.put_u32(verifier);
     Ok(out.into_bytes())
 }
 
@@ -120,12 +111,33 @@ pub fn staged_bytes(alloc: Global, xid: u32, inc: u32, verifier: u32) -> Result<
 pub fn unstaged_bytes(alloc: Global, xid: u32, inc: u32) -> Result<Vec<u8>, NoMemory>
     ensures { IfOk result (λ v. v.items ≡ unstaged_bytes xid inc) }
 {
-    let mut out = Writer::new(alloc)?;
-    out.reserve(STAGED_SIZE)?;
-    begin_reply(xid, &mut out)?;
-    out.u32(inc)?;
-    out.u32(UNSTAGED_STATUS)?;
+    let mut out = begun_reply(alloc, xid)?;
+    out.put_u32(inc);
+    out.put_u32(UNSTAGED_STATUS);
     Ok(out.into_bytes())
+}
+
+/// Begins the call of a procedure, with room for a datagram of so many bytes.
+fn begun_call(alloc: Global, xid: u32, procedure: u32, size: usize) -> Result<Writer, NoMemory>
+    requires { 40 ≤ size }
+    ensures begun { IfOk result (λ w. (arguments : List ℕ) → w.bytes ++ arguments ≡ spelling (call_with (head_of xid procedure) arguments) null null) }
+    ensures room { IfOk result (λ w. size ≤ w.spare + 40) }
+{
+    let mut out = Writer::behind(Vec::new(alloc));
+    out.reserve(size)?;
+    begin_call(&head_of(xid, procedure), &mut out).unwrap();
+    Ok(out)
+}
+
+/// Begins a reply, with room for its results.
+fn begun_reply(alloc: Global, xid: u32) -> Result<Writer, NoMemory>
+    ensures begun { IfOk result (λ w. (results : List ℕ) → w.bytes ++ results ≡ spelling (reply_with xid results) null null) }
+    ensures room { IfOk result (λ w. 12 ≤ w.spare) }
+{
+    let mut out = Writer::behind(Vec::new(alloc));
+    out.reserve(STAGED_SIZE)?;
+    begin_reply(xid, &mut out).unwrap();
+    Ok(out)
 }
 
 /// What a call of a procedure of the program begins with.
@@ -140,58 +152,33 @@ fn head_of(xid: u32, procedure: u32) -> Head
     }
 }
 
-/// Writes which write a body is of.
+/// Writes which write a body is of. There is room.
 #[tactic(auto, unfolding(crate::specs::Messages::written_bytes))]
-fn put_written(written: &Written, out: &mut Writer) -> Result<(), NoMemory>
-    ensures written { OnOk result (out.new.bytes ≡ out.old.bytes ++ written_bytes written.now) }
-    ensures fits { OnOk result (IsWritten written.now) }
+fn put_written(written: &Written, out: &mut Writer)
+    requires { 24 ≤ out.old.spare }
+    ensures written { out.new.bytes ≡ out.old.bytes ++ written_bytes written.now }
+    ensures fits { IsWritten written.now }
+    ensures spare { out.old.spare ≤ out.new.spare + 24 }
 {
-    out.u32(written.host.0)?;
-    out.u32(written.inc)?;
-    out.u32(written.file.0)?;
-    out.u32(written.block.0)?;
-    out.u64(written.last)
+    out.put_u32(written.host.0);
+    out.put_u32(written.inc);
+    out.put_u32(written.file.0);
+    out.put_u32(written.block.0);
+    out.put_u64(written.last);
 }
 
-/// Writes what a push and its COMMIT begin with.
-#[tactic(auto, unfolding(crate::specs::Messages::pushed_bytes, nq_wire::specs::Parts::head))]
-fn put_pushed(pushed: &Pushed, out: &mut Writer) -> Result<(), NoMemory>
-    ensures written { OnOk result (out.new.bytes ≡ out.old.bytes ++ pushed_bytes pushed.now) }
-    ensures fits { OnOk result (IsFront pushed.now) }
+/// Writes what a push and its COMMIT begin with. There is room.
+#[tactic(auto, unfolding(crate::specs::Messages::pushed_bytes))]
+fn put_pushed(pushed: &Pushed, out: &mut Writer)
+    requires { 40 ≤ out.old.spare }
+    ensures written { out.new.bytes ≡ out.old.bytes ++ pushed_bytes pushed.now }
+    ensures fits { IsFront pushed.now }
+    ensures spare { out.old.spare ≤ out.new.spare + 40 }
 {
-    out.u32(pushed.who.host.0)?;
-    out.u32(pushed.who.inc.0)?;
-    out.u64(pushed.seq.0)?;
-    out.u32(pushed.file.0)?;
-    out.u32(pushed.block.0)?;
-    out.u64(pushed.first.0)?;
-    out.u64(pushed.last.0)
-}
-
-/// Writes what a push rests on.
-#[tactic(auto, unfolding(nq_wire::specs::Parts::base_bytes))]
-fn put_base(base: &PushBase, out: &mut Writer) -> Result<(), NoMemory>
-    ensures written { OnOk result (out.new.bytes ≡ out.old.bytes ++ base_bytes base.now) }
-    ensures fits { OnOk result (IsPushBase base.now) }
-{
-    out.u32(base.boot)?;
-    out.u64(base.base.0)
-}
-
-/// Writes the body of a block.
-fn put_body(body: &Block, out: &mut Writer) -> Result<(), NoMemory>
-    ensures written { OnOk result (out.new.bytes ≡ out.old.bytes ++ opaque body.now) }
-    ensures fits { OnOk result (length body.now ≡ 4096) }
-{
-    match body.seen() {
-        Seen::Filled(value) => put_filled(value, out),
-        Seen::Bytes(bytes) => out.opaque(bytes),
-    }
-}
-
-/// Writes the body of a block that repeats a word.
-fn put_filled(value: u32, out: &mut Writer) -> Result<(), NoMemory>
-    ensures written { OnOk result (out.new.bytes ≡ out.old.bytes ++ opaque (filled value)) }
-{
-    out.opaque_words(value, 1024)
+    put_who(&pushed.who, out);
+    out.put_u64(pushed.seq.0);
+    out.put_u32(pushed.file.0);
+    out.put_u32(pushed.block.0);
+    out.put_u64(pushed.first.0);
+    out.put_u64(pushed.last.0);
 }

@@ -13,8 +13,8 @@ use std::marker::Model;
 /// Writes items one behind the other. Contracts see the bytes written so far, and `spare`, the number
 /// of bytes that still fit before memory is wanted.
 ///
-/// Each write either appends its item or leaves the writer as it was. It is refused only where the
-/// item takes more than `spare` bytes, so what was reserved is written without memory.
+/// What is put needs room, and takes no memory. Other writes either append their item or leave the writer as it
+/// was, and are refused only where the item takes more than `spare` bytes.
 #[derive(Debug, Drop)]
 pub struct Writer {
     bytes: Vec<u8>,
@@ -68,84 +68,72 @@ impl Writer {
         Ok(())
     }
 
-    /// Writes an unsigned integer (RFC 1014 section 3.2).
+    /// Writes an unsigned integer (RFC 1014 section 3.2). There is room.
     #[tactic(auto, unfolding(crate::specs::Item::word))]
-    pub fn u32(&mut self, value: u32) -> Result<(), NoMemory>
-        ensures written { OnOk result (self.new.bytes ≡ self.old.bytes ++ word value) }
-        ensures refused { OnErr result (self.new ≡ self.old) }
-        ensures succeeds { 4 ≤ self.old.spare → IsOk result }
+    pub fn put_u32(&mut self, value: u32)
+        requires { 4 ≤ self.old.spare }
+        ensures written { self.new.bytes ≡ self.old.bytes ++ word value }
         ensures spare { self.old.spare ≤ self.new.spare + 4 }
     {
         let mut number = [0; 4];
         BigEndian::write_u32(&mut number, value);
-        self.append(&number)
+        self.put_bytes(&number);
     }
 
-    /// Writes an unsigned hyper integer (RFC 1014 section 3.5).
+    /// Writes an unsigned hyper integer (RFC 1014 section 3.5). There is room.
     #[tactic(auto, unfolding(crate::specs::Item::hyper))]
-    pub fn u64(&mut self, value: u64) -> Result<(), NoMemory>
-        ensures written { OnOk result (self.new.bytes ≡ self.old.bytes ++ hyper value) }
-        ensures refused { OnErr result (self.new ≡ self.old) }
-        ensures succeeds { 8 ≤ self.old.spare → IsOk result }
+    pub fn put_u64(&mut self, value: u64)
+        requires { 8 ≤ self.old.spare }
+        ensures written { self.new.bytes ≡ self.old.bytes ++ hyper value }
         ensures spare { self.old.spare ≤ self.new.spare + 8 }
     {
         let mut number = [0; 8];
         BigEndian::write_u64(&mut number, value);
-        self.append(&number)
+        self.put_bytes(&number);
     }
 
-    /// Writes a boolean (RFC 1014 section 3.4).
+    /// Writes a boolean (RFC 1014 section 3.4). There is room.
     #[tactic(auto, unfolding(crate::specs::Item::boolean))]
-    pub fn boolean(&mut self, value: bool) -> Result<(), NoMemory>
-        ensures written { OnOk result (self.new.bytes ≡ self.old.bytes ++ boolean value) }
-        ensures refused { OnErr result (self.new ≡ self.old) }
-        ensures succeeds { 4 ≤ self.old.spare → IsOk result }
+    pub fn put_boolean(&mut self, value: bool)
+        requires { 4 ≤ self.old.spare }
+        ensures written { self.new.bytes ≡ self.old.bytes ++ boolean value }
         ensures spare { self.old.spare ≤ self.new.spare + 4 }
     {
-        self.u32(u32::from(value))
+        self.put_u32(u32::from(value));
     }
 
-    /// Writes the bytes as they are, with no length and no residual bytes.
-    pub fn append(&mut self, bytes: &[u8]) -> Result<(), NoMemory>
-        ensures written { OnOk result (self.new.bytes ≡ self.old.bytes ++ bytes.now) }
-        ensures refused { OnErr result (self.new ≡ self.old) }
-        ensures succeeds { length bytes.now ≤ self.old.spare → IsOk result }
+    /// Writes the bytes as they are, with no length and no residual bytes. There is room.
+    pub fn put_bytes(&mut self, bytes: &[u8])
+        requires { length bytes.now ≤ self.old.spare }
+        ensures written { self.new.bytes ≡ self.old.bytes ++ bytes.now }
         ensures spare { self.old.spare ≤ self.new.spare + length bytes.now }
     {
-        self.bytes.reserve(bytes.len())?;
         self.bytes.extend_from_slice(bytes).unwrap();
-        Ok(())
     }
 
-    /// Writes variable-length opaque data (RFC 1014 section 3.9).
-    pub fn opaque(&mut self, bytes: &[u8]) -> Result<(), NoMemory>
-        requires { length bytes.now < 2 ^ 32 - 4 }
-        ensures written { OnOk result (self.new.bytes ≡ self.old.bytes ++ opaque bytes.now) }
-        ensures refused { OnErr result (self.new ≡ self.old) }
-        ensures succeeds { opaque_len (length bytes.now) ≤ self.old.spare → IsOk result }
+    /// Writes variable-length opaque data (RFC 1014 section 3.9). There is room.
+    pub fn put_opaque(&mut self, bytes: &[u8])
+        requires fits { length bytes.now < 2 ^ 32 - 4 }
+        requires room { opaque_len (length bytes.now) ≤ self.old.spare }
+        ensures written { self.new.bytes ≡ self.old.bytes ++ opaque bytes.now }
         ensures spare { self.old.spare ≤ self.new.spare + opaque_len (length bytes.now) }
     {
         let length = bytes.len();
-        let residual = (4 - length % 4) % 4;
-        self.reserve(4 + length + residual)?;
-        self.u32(length as u32).unwrap();
-        self.append(bytes).unwrap();
-        self.append(&[0; 3][..residual]).unwrap();
-        Ok(())
+        self.put_u32(length as u32);
+        self.put_bytes(bytes);
+        self.put_bytes(&[0; 3][..(4 - length % 4) % 4]);
     }
 
-    /// Writes variable-length opaque data (RFC 1014 section 3.9) that is one unsigned integer, so many times over.
-    pub fn opaque_words(&mut self, value: u32, count: usize) -> Result<(), NoMemory>
-        requires { 4 * count < 2 ^ 32 - 4 }
-        ensures written { OnOk result (self.new.bytes ≡ self.old.bytes ++ opaque (repeats count (word value))) }
-        ensures refused { OnErr result (self.new ≡ self.old) }
-        ensures succeeds { 4 + 4 * count ≤ self.old.spare → IsOk result }
+    /// Writes variable-length opaque data (RFC 1014 section 3.9) that is one unsigned integer, so many times over. There is
+    /// room.
+    pub fn put_opaque_words(&mut self, value: u32, count: usize)
+        requires fits { 4 * count < 2 ^ 32 - 4 }
+        requires room { 4 + 4 * count ≤ self.old.spare }
+        ensures written { self.new.bytes ≡ self.old.bytes ++ opaque (repeats count (word value)) }
         ensures spare { self.old.spare ≤ self.new.spare + (4 + 4 * count) }
     {
-        self.reserve(4 + 4 * count)?;
-        self.u32((4 * count) as u32).unwrap();
+        self.put_u32((4 * count) as u32);
         self.words(value, count);
-        Ok(())
     }
 
     /// Writes an unsigned integer so many times. There is room.
@@ -158,6 +146,32 @@ impl Writer {
         let mut number = [0; 4];
         BigEndian::write_u32(&mut number, value);
         push_words(&mut self.bytes, number, count);
+    }
+
+    /// Writes an unsigned integer (RFC 1014 section 3.2).
+    pub fn u32(&mut self, value: u32) -> Result<(), NoMemory>
+        ensures written { OnOk result (self.new.bytes ≡ self.old.bytes ++ word value) }
+        ensures refused { OnErr result (self.new ≡ self.old) }
+        ensures succeeds { 4 ≤ self.old.spare → IsOk result }
+        ensures spare { self.old.spare ≤ self.new.spare + 4 }
+    {
+        self.reserve(4)?;
+        self.put_u32(value);
+        Ok(())
+    }
+
+    /// Writes variable-length opaque data (RFC 1014 section 3.9).
+    pub fn opaque(&mut self, bytes: &[u8]) -> Result<(), NoMemory>
+        requires { length bytes.now < 2 ^ 32 - 4 }
+        ensures written { OnOk result (self.new.bytes ≡ self.old.bytes ++ opaque bytes.now) }
+        ensures refused { OnErr result (self.new ≡ self.old) }
+        ensures succeeds { opaque_len (length bytes.now) ≤ self.old.spare → IsOk result }
+        ensures spare { self.old.spare ≤ self.new.spare + opaque_len (length bytes.now) }
+    {
+        let length = bytes.len();
+        self.reserve(4 + length + (4 - length % 4) % 4)?;
+        self.put_opaque(bytes);
+        Ok(())
     }
 
     /// The bytes that were written so far.

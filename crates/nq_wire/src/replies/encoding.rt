@@ -32,51 +32,51 @@ fn results_len(reply: &Reply) -> usize
 }
 
 /// Writes the incarnation and a status.
-fn put_status(inc: Inc, status: u32, out: &mut Writer) -> Result<(), NoMemory>
-    ensures written { OnOk result (out.new.bytes ≡ out.old.bytes ++ word inc ++ word status) }
-    ensures fits { OnOk result (inc < 2 ^ 32) }
-    ensures succeeds { 8 ≤ out.old.spare → IsOk result }
+fn put_status(inc: Inc, status: u32, out: &mut Writer)
+    requires { 8 ≤ out.old.spare }
+    ensures written { out.new.bytes ≡ out.old.bytes ++ word inc ++ word status }
+    ensures fits { inc < 2 ^ 32 }
     ensures spare { out.old.spare ≤ out.new.spare + 8 }
 {
-    out.u32(inc.0)?;
-    out.u32(status)
+    out.put_u32(inc.0);
+    out.put_u32(status);
 }
 
 #[tactic(auto, unfolding(crate::specs::Reply::ok))]
-fn put_ok(inc: Inc, out: &mut Writer) -> Result<(), NoMemory>
-    ensures written { OnOk result (out.new.bytes ≡ out.old.bytes ++ ok inc) }
-    ensures fits { OnOk result (inc < 2 ^ 32) }
-    ensures succeeds { 8 ≤ out.old.spare → IsOk result }
+fn put_ok(inc: Inc, out: &mut Writer)
+    requires { 8 ≤ out.old.spare }
+    ensures written { out.new.bytes ≡ out.old.bytes ++ ok inc }
+    ensures fits { inc < 2 ^ 32 }
     ensures spare { out.old.spare ≤ out.new.spare + 8 }
 {
-    put_status(inc, status::OK, out)
+    put_status(inc, status::OK, out);
 }
 
-/// Writes the results. It is inlined, so that a caller's reply that has no block needs no room for one.
+/// Writes the results. There is room. It is inlined, so that a caller's reply that has no block needs no room for one.
 #[inline(always)]
 #[tactic(auto, unfolding(crate::specs::Reply::results))]
-fn put(reply: &Reply, out: &mut Writer) -> Result<(), NoMemory>
-    ensures written { OnOk result (out.new.bytes ≡ out.old.bytes ++ results reply.now) }
-    ensures fits { OnOk result (IsReply reply.now) }
-    ensures succeeds { results_len reply.now ≤ out.old.spare → IsOk result }
+fn put(reply: &Reply, out: &mut Writer)
+    requires { results_len reply.now ≤ out.old.spare }
+    ensures written { out.new.bytes ≡ out.old.bytes ++ results reply.now }
+    ensures fits { IsReply reply.now }
     ensures spare { out.old.spare ≤ out.new.spare + results_len reply.now }
 {
     match reply {
-        Reply::Null => Ok(()),
+        Reply::Null => {}
         Reply::Attach { inc } | Reply::Remove { inc } => put_ok(*inc, out),
         Reply::Lookup { inc, file, blocks } => {
-            put_ok(*inc, out)?;
-            out.u32(file.0)?;
-            out.u32(*blocks)
+            put_ok(*inc, out);
+            out.put_u32(file.0);
+            out.put_u32(*blocks);
         }
         Reply::Create { inc, file } => {
-            put_ok(*inc, out)?;
-            out.u32(file.0)
+            put_ok(*inc, out);
+            out.put_u32(file.0);
         }
         Reply::GetAttr { inc, blocks, rev } => {
-            put_ok(*inc, out)?;
-            out.u32(*blocks)?;
-            out.u64(rev.0)
+            put_ok(*inc, out);
+            out.put_u32(*blocks);
+            out.put_u64(rev.0);
         }
         Reply::Read {
             inc,
@@ -84,18 +84,18 @@ fn put(reply: &Reply, out: &mut Writer) -> Result<(), NoMemory>
             body,
             grant,
         } => {
-            put_ok(*inc, out)?;
-            out.u64(rev.0)?;
-            put_body(body, out)?;
-            put_optional_grant(grant, out)
+            put_ok(*inc, out);
+            out.put_u64(rev.0);
+            put_body(body, out);
+            put_optional_grant(grant, out);
         }
         Reply::Write { inc, rev } | Reply::Resize { inc, rev } => {
-            put_ok(*inc, out)?;
-            out.u64(rev.0)
+            put_ok(*inc, out);
+            out.put_u64(rev.0);
         }
         Reply::GetLease { inc, grant } => {
-            put_ok(*inc, out)?;
-            put_optional_grant(grant, out)
+            put_ok(*inc, out);
+            put_optional_grant(grant, out);
         }
         Reply::Refused { inc, status } => put_status(*inc, status::number(*status), out),
     }
@@ -114,7 +114,7 @@ pub fn encode_reply_into(reply: &Reply, out: &mut Writer) -> Result<(), NoMemory
     ensures spare { out.old.spare ≤ out.new.spare + results_len reply.now }
 {
     out.reserve(results_len(reply))?;
-    put(reply, out).unwrap();
+    put(reply, out);
     Ok(())
 }
 

@@ -38,79 +38,74 @@ fn arguments_len(request: &Request) -> usize
 }
 
 /// Writes who asks, and a file.
-fn put_file(who: &Who, file: u32, out: &mut Writer) -> Result<(), NoMemory>
-    ensures written { OnOk result (out.new.bytes ≡ out.old.bytes ++ head who.now ++ word file) }
-    ensures fits { OnOk result (IsWho who.now) }
-    ensures succeeds { 12 ≤ out.old.spare → IsOk result }
+fn put_file(who: &Who, file: u32, out: &mut Writer)
+    requires { 12 ≤ out.old.spare }
+    ensures written { out.new.bytes ≡ out.old.bytes ++ head who.now ++ word file }
+    ensures fits { IsWho who.now }
     ensures spare { out.old.spare ≤ out.new.spare + 12 }
 {
-    put_who(who, out)?;
-    out.u32(file)
+    put_who(who, out);
+    out.put_u32(file);
 }
 
 /// Writes who asks, and a sequence.
-fn put_sequence(who: &Who, seq: u64, out: &mut Writer) -> Result<(), NoMemory>
-    ensures written { OnOk result (out.new.bytes ≡ out.old.bytes ++ head who.now ++ hyper seq) }
-    ensures fits { OnOk result (IsWho who.now) }
-    ensures succeeds { 16 ≤ out.old.spare → IsOk result }
+fn put_sequence(who: &Who, seq: u64, out: &mut Writer)
+    requires { 16 ≤ out.old.spare }
+    ensures written { out.new.bytes ≡ out.old.bytes ++ head who.now ++ hyper seq }
+    ensures fits { IsWho who.now }
     ensures spare { out.old.spare ≤ out.new.spare + 16 }
 {
-    put_who(who, out)?;
-    out.u64(seq)
+    put_who(who, out);
+    out.put_u64(seq);
 }
 
 /// Writes a file and a block.
-fn put_place(file: u32, block: u32, out: &mut Writer) -> Result<(), NoMemory>
-    ensures written { OnOk result (out.new.bytes ≡ out.old.bytes ++ word file ++ word block) }
-    ensures succeeds { 8 ≤ out.old.spare → IsOk result }
+fn put_place(file: u32, block: u32, out: &mut Writer)
+    requires { 8 ≤ out.old.spare }
+    ensures written { out.new.bytes ≡ out.old.bytes ++ word file ++ word block }
     ensures spare { out.old.spare ≤ out.new.spare + 8 }
 {
-    out.u32(file)?;
-    out.u32(block)
+    out.put_u32(file);
+    out.put_u32(block);
 }
 
 /// Writes the numbers of the first and the last write, and what they rest on.
-fn put_span(
-    first: u64,
-    last: u64,
-    push: &Option<PushBase>,
-    out: &mut Writer,
-) -> Result<(), NoMemory>
-    ensures written { OnOk result (out.new.bytes ≡ out.old.bytes ++ hyper first ++ hyper last ++ optional base_bytes push.now) }
-    ensures fits { OnOk result (IfSome push.now IsPushBase) }
-    ensures succeeds { 16 + optional_len 12 push.now ≤ out.old.spare → IsOk result }
+fn put_span(first: u64, last: u64, push: &Option<PushBase>, out: &mut Writer)
+    requires { 16 + optional_len 12 push.now ≤ out.old.spare }
+    ensures written { out.new.bytes ≡ out.old.bytes ++ hyper first ++ hyper last ++ optional base_bytes push.now }
+    ensures fits { IfSome push.now IsPushBase }
     ensures spare { out.old.spare ≤ out.new.spare + (16 + optional_len 12 push.now) }
 {
-    out.u64(first)?;
-    out.u64(last)?;
-    put_optional_base(push, out)
+    out.put_u64(first);
+    out.put_u64(last);
+    put_optional_base(push, out);
 }
 
 /// Writes who asks, a sequence, and the number of a call.
-fn put_of_call(who: &Who, seq: u64, call: u64, out: &mut Writer) -> Result<(), NoMemory>
-    ensures written { OnOk result (out.new.bytes ≡ out.old.bytes ++ head who.now ++ hyper seq ++ hyper call) }
-    ensures fits { OnOk result (IsWho who.now) }
-    ensures succeeds { 24 ≤ out.old.spare → IsOk result }
+fn put_of_call(who: &Who, seq: u64, call: u64, out: &mut Writer)
+    requires { 24 ≤ out.old.spare }
+    ensures written { out.new.bytes ≡ out.old.bytes ++ head who.now ++ hyper seq ++ hyper call }
+    ensures fits { IsWho who.now }
     ensures spare { out.old.spare ≤ out.new.spare + 24 }
 {
-    put_sequence(who, seq, out)?;
-    out.u64(call)
+    put_sequence(who, seq, out);
+    out.put_u64(call);
 }
 
-/// Writes the arguments, item by item.
+/// Writes the arguments, item by item. There is room.
 #[tactic(auto, unfolding(crate::specs::Request::arguments))]
-fn put(request: &Request, out: &mut Writer) -> Result<(), NoMemory>
-    ensures written { OnOk result (out.new.bytes ≡ out.old.bytes ++ arguments request.now) }
-    ensures fits { OnOk result (IsRequest request.now) }
-    ensures succeeds { arguments_len request.now ≤ out.old.spare → IsOk result }
+fn put(request: &Request, out: &mut Writer)
+    requires { arguments_len request.now ≤ out.old.spare }
+    ensures written { out.new.bytes ≡ out.old.bytes ++ arguments request.now }
+    ensures fits { IsRequest request.now }
     ensures spare { out.old.spare ≤ out.new.spare + arguments_len request.now }
 {
     match request {
-        Request::Null => Ok(()),
+        Request::Null => {}
         Request::Attach { who } => put_who(who, out),
         Request::Lookup { who, name } => {
-            put_who(who, out)?;
-            put_name(name, out)
+            put_who(who, out);
+            put_name(name, out);
         }
         Request::Create {
             who,
@@ -118,9 +113,9 @@ fn put(request: &Request, out: &mut Writer) -> Result<(), NoMemory>
             name,
             blocks,
         } => {
-            put_sequence(who, seq.0, out)?;
-            put_name(name, out)?;
-            out.u32(*blocks)
+            put_sequence(who, seq.0, out);
+            put_name(name, out);
+            out.put_u32(*blocks);
         }
         Request::GetAttr { who, file } => put_file(who, file.0, out),
         Request::Read {
@@ -130,9 +125,9 @@ fn put(request: &Request, out: &mut Writer) -> Result<(), NoMemory>
             block,
             want,
         } => {
-            put_sequence(who, *call, out)?;
-            put_place(file.0, block.0, out)?;
-            put_optional_want(want, out)
+            put_sequence(who, *call, out);
+            put_place(file.0, block.0, out);
+            put_optional_want(want, out);
         }
         Request::Write {
             who,
@@ -144,18 +139,18 @@ fn put(request: &Request, out: &mut Writer) -> Result<(), NoMemory>
             push,
             body,
         } => {
-            put_sequence(who, seq.0, out)?;
-            put_place(file.0, block.0, out)?;
-            put_span(first.0, last.0, push, out)?;
-            put_body(body, out)
+            put_sequence(who, seq.0, out);
+            put_place(file.0, block.0, out);
+            put_span(first.0, last.0, push, out);
+            put_body(body, out);
         }
         Request::GetLease { who, file, want } => {
-            put_file(who, file.0, out)?;
-            put_want(want, out)
+            put_file(who, file.0, out);
+            put_want(want, out);
         }
         Request::Vacated { who, file, tag } | Request::Evicted { who, file, tag } => {
-            put_file(who, file.0, out)?;
-            put_tag(tag, out)
+            put_file(who, file.0, out);
+            put_tag(tag, out);
         }
         Request::Resize {
             who,
@@ -164,8 +159,8 @@ fn put(request: &Request, out: &mut Writer) -> Result<(), NoMemory>
             file,
             blocks,
         } => {
-            put_of_call(who, seq.0, *call, out)?;
-            put_place(file.0, *blocks, out)
+            put_of_call(who, seq.0, *call, out);
+            put_place(file.0, *blocks, out);
         }
         Request::Remove {
             who,
@@ -173,8 +168,8 @@ fn put(request: &Request, out: &mut Writer) -> Result<(), NoMemory>
             call,
             file,
         } => {
-            put_of_call(who, seq.0, *call, out)?;
-            out.u32(file.0)
+            put_of_call(who, seq.0, *call, out);
+            out.put_u32(file.0);
         }
     }
 }
@@ -191,7 +186,7 @@ pub fn encode_request_into(request: &Request, out: &mut Writer) -> Result<(), No
     ensures spare { out.old.spare ≤ out.new.spare + arguments_len request.now }
 {
     out.reserve(arguments_len(request))?;
-    put(request, out).unwrap();
+    put(request, out);
     Ok(())
 }
 
