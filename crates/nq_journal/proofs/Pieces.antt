@@ -9,6 +9,7 @@ use Rattle.nq_base.specs.declared.Entry.{Entry}
 use Rattle.nq_io.specs.Sink.{AppendsFront}
 use Rattle.nq_io.specs.Told.{with_end}
 use Rattle.nq_io.proofs.Told.{with_end-with_end}
+use Rattle.nq_journal.specs.declared.printing.Printed.{Printed}
 use Rattle.nq_journal.specs.Text.{Fits, journal_text, head_line, entry_line, end_line}
 
 -- of the text so far the sink was given the front, without a fault, and the buffer has the rest
@@ -121,3 +122,10 @@ fit_more items place entry within is fit fits =
 pub all_fit : (items entries : List Entry) (place : ℕ) → items ≡ entries → length items ≤ place → All Fits (take place items) → All Fits entries
 all_fit items entries place same past fit =
     let P : List Entry → Type 0 = All Fits in subst P (take_all place items past ∙ same) fit
+
+-- what stopped did not print all
+pub memory_not_all : {A : Type 0} → Printed.Memory ≡ Printed.All → A
+memory_not_all e = absurd (cc)
+
+pub failed_not_all : {A : Type 0} → Printed.Failed ≡ Printed.All → A
+failed_not_all e = absurd (cc)

@@ -2,22 +2,23 @@
 
 ghost use Rattle.std.specs.Prelude.{◌≡◌, ◌<◌, ◌^◌, ℕ, [], ◌++◌, true, OnOk};
 ghost use Rattle.std.specs.Fmt.{decimal};
-ghost use Rattle.std.specs.List.{flat_map};
+ghost use Rattle.std.specs.List.{AllByRecursion, flat_map};
 ghost use Rattle.nq_words.specs.Words.{joined, spaced};
 ghost use Rattle.nq_journal.specs.Groups.{is_of_block, is_of_call, is_of_lease, is_of_span, is_of_start};
 ghost use Rattle.nq_journal.specs.Text.{Fits, FitsSource, entry_words, entry_line, of_who, way_word, mode_word, source_words, longest_words};
 ghost use Rattle.nq_words.specs.Forms.{FitsWho, FitsTold, FitsSaid, told_words, said_words};
 
-use nq_base::{BlockNo, Entry, FileId, Mode, NoMemory, Said, Told, Who};
+use nq_base::{Entry, Mode, NoMemory, Said, Told, Who};
 use nq_words::{push_bytes, push_command, push_numbers, push_said, push_told, push_word};
 
-// Appends the letter of a line and the incarnation of which it tells.
-#[tactic(auto, unfolding(nq_words::specs::Words::joined))]
-fn push_who(out: &mut Vec<u8>, letter: &[u8], who: &Who) -> Result<(), NoMemory>
-    ensures written { OnOk result (out.new.items ≡ out.old.items ++ joined (of_who letter.now who.now [])) }
-    ensures fits { OnOk result (FitsWho who.now) }
+// Appends the letter of a line, the incarnation of which it tells, and numbers with a blank before each.
+fn push_of_who(out: &mut Vec<u8>, letter: &[u8], who: &Who, numbers: &[u64]) -> Result<(), NoMemory>
+    ensures written { OnOk result (out.new.items ≡ out.old.items ++ (letter.now ++ (spaced (decimal who.now.host) ++ (spaced (decimal who.now.inc) ++ flat_map (λ n. spaced (decimal n)) numbers.now)))) }
+    ensures fits { FitsWho who.now }
+    ensures fit { AllByRecursion (λ n. n < 2 ^ 64) numbers.now }
 {
-    push_command(out, letter, &[u64::from(who.host.0), u64::from(who.inc.0)])
+    push_command(out, letter, &[u64::from(who.host.0), u64::from(who.inc.0)])?;
+    push_numbers(out, numbers)
 }
 
 // The word of a write's way.
@@ -50,14 +51,6 @@ fn push_source(out: &mut Vec<u8>, served: Option<u64>) -> Result<(), NoMemory>
             push_numbers(out, &[packet])
         }
     }
-}
-
-// Appends a file and a block.
-fn push_place(out: &mut Vec<u8>, file: FileId, block: BlockNo) -> Result<(), NoMemory>
-    ensures written { OnOk result (out.new.items ≡ out.old.items ++ spaced (decimal file) ++ spaced (decimal block)) }
-    ensures fits { OnOk result ((file < 2 ^ 32) × (block < 2 ^ 32)) }
-{
-    push_numbers(out, &[u64::from(file.0), u64::from(block.0)])
 }
 
 // Appends the longest term, where the version tells it.
@@ -97,8 +90,7 @@ fn push_of_call(out: &mut Vec<u8>, entry: &Entry) -> Result<(), NoMemory>
 {
     match entry {
         Entry::C { who, q, told } => {
-            push_who(out, b"C", who)?;
-            push_numbers(out, &[*q])?;
+            push_of_who(out, b"C", who, &[*q])?;
             push_call(out, told)
         }
         Entry::Z {
@@ -107,16 +99,14 @@ fn push_of_call(out: &mut Vec<u8>, entry: &Entry) -> Result<(), NoMemory>
             file,
             from,
             to,
-        } => {
-            push_who(out, b"Z", who)?;
-            push_numbers(
-                out,
-                &[*q, u64::from(file.0), u64::from(*from), u64::from(*to)],
-            )
-        }
+        } => push_of_who(
+            out,
+            b"Z",
+            who,
+            &[*q, u64::from(file.0), u64::from(*from), u64::from(*to)],
+        ),
         Entry::A { who, q, said } => {
-            push_who(out, b"A", who)?;
-            push_numbers(out, &[*q])?;
+            push_of_who(out, b"A", who, &[*q])?;
             push_answer(out, said)
         }
         _ => Ok(()),
@@ -139,9 +129,17 @@ fn push_of_block(out: &mut Vec<u8>, entry: &Entry) -> Result<(), NoMemory>
             value,
             through,
         } => {
-            push_who(out, b"W", who)?;
-            push_place(out, *file, *block)?;
-            push_numbers(out, &[number.0, u64::from(*value)])?;
+            push_of_who(
+                out,
+                b"W",
+                who,
+                &[
+                    u64::from(file.0),
+                    u64::from(block.0),
+                    number.0,
+                    u64::from(*value),
+                ],
+            )?;
             push_word(out, way_name(*through))
         }
         Entry::R {
@@ -152,10 +150,12 @@ fn push_of_block(out: &mut Vec<u8>, entry: &Entry) -> Result<(), NoMemory>
             value,
             served,
         } => {
-            push_who(out, b"R", who)?;
-            push_numbers(out, &[*q])?;
-            push_place(out, *file, *block)?;
-            push_numbers(out, &[u64::from(*value)])?;
+            push_of_who(
+                out,
+                b"R",
+                who,
+                &[*q, u64::from(file.0), u64::from(block.0), u64::from(*value)],
+            )?;
             push_source(out, *served)
         }
         _ => Ok(()),
@@ -177,22 +177,30 @@ fn push_of_span(out: &mut Vec<u8>, entry: &Entry) -> Result<(), NoMemory>
             first,
             last,
             now,
-        } => {
-            push_who(out, b"S", who)?;
-            push_place(out, *file, *block)?;
-            push_numbers(out, &[first.0, last.0, now.0])
-        }
+        } => push_of_who(
+            out,
+            b"S",
+            who,
+            &[
+                u64::from(file.0),
+                u64::from(block.0),
+                first.0,
+                last.0,
+                now.0,
+            ],
+        ),
         Entry::L {
             who,
             file,
             block,
             first,
             last,
-        } => {
-            push_who(out, b"L", who)?;
-            push_place(out, *file, *block)?;
-            push_numbers(out, &[first.0, last.0])
-        }
+        } => push_of_who(
+            out,
+            b"L",
+            who,
+            &[u64::from(file.0), u64::from(block.0), first.0, last.0],
+        ),
         _ => Ok(()),
     }
 }
@@ -213,8 +221,7 @@ fn push_of_lease(out: &mut Vec<u8>, entry: &Entry) -> Result<(), NoMemory>
             term,
             now,
         } => {
-            push_who(out, b"G", who)?;
-            push_numbers(out, &[u64::from(file.0)])?;
+            push_of_who(out, b"G", who, &[u64::from(file.0)])?;
             push_word(out, mode_name(*mode))?;
             push_numbers(
                 out,
@@ -227,10 +234,12 @@ fn push_of_lease(out: &mut Vec<u8>, entry: &Entry) -> Result<(), NoMemory>
             until,
             heard,
             now,
-        } => {
-            push_who(out, b"F", who)?;
-            push_numbers(out, &[u64::from(file.0), until.0, heard.0, now.0])
-        }
+        } => push_of_who(
+            out,
+            b"F",
+            who,
+            &[u64::from(file.0), until.0, heard.0, now.0],
+        ),
         _ => Ok(()),
     }
 }
@@ -243,7 +252,7 @@ fn push_of_start(out: &mut Vec<u8>, version: u32, entry: &Entry) -> Result<(), N
     ensures fits { OnOk result (Fits entry.now) }
 {
     match entry {
-        Entry::B { who } => push_who(out, b"B", who),
+        Entry::B { who } => push_of_who(out, b"B", who, &[]),
         Entry::O {
             boot,
             until,

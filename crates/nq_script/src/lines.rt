@@ -1,19 +1,15 @@
 //! The lines of events.
 
-ghost use Rattle.std.specs.Prelude.{◌≡◌, ◌≢◌, ◌↔◌, ℕ, IfSome, IsNone, IsTrue};
-ghost use Rattle.nq_script.specs.Faults.{Answers};
-ghost use Rattle.nq_script.specs.Lines.{SpellsLine, line_of};
+ghost use Rattle.std.specs.Prelude.{◌≡◌, ◌↔◌, ℕ, IfSome, IsNone, IsTrue};
+ghost use Rattle.nq_script.specs.Lines.{line_of};
 ghost use Rattle.nq_script.specs.Reading.{told_line, call_line, deliver_line, clock_line, tick_line, server_ticks, client_ticks, round_line, restart_line, crash_line, word_line, times_of};
-ghost use Rattle.nq_script.specs.declared.faults.ScriptFault.{ScriptFault};
 ghost use Rattle.nq_script.specs.declared.lines.Line.{Line};
 
 use crate::calls::call_of;
-use crate::faults::ScriptFault;
 use crate::heads::Head;
 use crate::words::{number_then, ranged, rest_after};
 use nq_base::{Event, Host, Told};
 use nq_words::{number, number32, read_told};
-use std::alloc::Global;
 
 /// A line after the head.
 #[derive(Drop)]
@@ -240,21 +236,5 @@ fn read_word(line: &[u8], head: &Head) -> Option<ToldLine>
         Some(ToldLine::Crash { longest: 60 })
     } else {
         None
-    }
-}
-
-/// The line that the text writes, without its line feed, in a schedule with this head. Takes no memory.
-///
-/// # Errors
-///
-/// `Bad(1)` where the text is outside the grammar.
-pub fn parse_line(_alloc: Global, line: &[u8], head: &Head) -> Result<Line, ScriptFault>
-    ensures found { Answers result (λ found. SpellsLine head.now found line.now) (λ place. place ≡ 1) }
-    ensures only { (spelled : Line) → SpellsLine head.now spelled line.now → Answers result (λ found. found ≡ spelled) (λ place. ⊥) }
-    ensures memory { result ≢ Err ScriptFault.Memory }
-{
-    match read_line(line, head) {
-        Some(told) => Ok(line_of(&told)),
-        None => Err(ScriptFault::Bad(1)),
     }
 }

@@ -4,11 +4,10 @@ ghost use Rattle.std.specs.Prelude.{◌≡◌, ◌<◌, ◌^◌, ◌++◌, ◌�
 ghost use Rattle.std.specs.Fmt.{decimal};
 ghost use Rattle.nq_script.specs.Calls.{FitsCall, call_words};
 ghost use Rattle.nq_script.specs.Heads.{FitsHead, file_line, head_lines, longest_lines};
-ghost use Rattle.nq_script.specs.Lines.{HasEvent, HasLine, FitsEvent, SpellsEvent, TellsLine, event_words, longest_words};
+ghost use Rattle.nq_script.specs.Lines.{HasEvent, FitsEvent, SpellsEvent, event_words, longest_words};
 ghost use Rattle.nq_script.specs.Text.{IsVersion, spaced, text_of};
 
 use crate::heads::Head;
-use crate::lines::Line;
 use nq_base::{Call, Event, FileList, Name, NoMemory};
 use nq_words::{push_bytes, push_command, push_told};
 use std::alloc::Global;
@@ -28,9 +27,9 @@ fn append_call(text: &mut Vec<u8>, call: &Call) -> Result<(), NoMemory>
     push_told(text, &call.told())
 }
 
-/// Appends the words of an event, so many times over.
-fn append_event(text: &mut Vec<u8>, event: &Event, times: u32, version: u32) -> Result<(), NoMemory>
-    ensures written { OnOk result (text.new.items ≡ text.old.items ++ spaced (event_words version event.now times)) }
+/// Appends the words of an event.
+fn append_event(text: &mut Vec<u8>, event: &Event, version: u32) -> Result<(), NoMemory>
+    ensures written { OnOk result (text.new.items ≡ text.old.items ++ spaced (event_words version event.now 1)) }
     ensures fits { OnOk result (FitsEvent event.now) }
 {
     match event {
@@ -40,12 +39,8 @@ fn append_event(text: &mut Vec<u8>, event: &Event, times: u32, version: u32) -> 
             append_call(text, call)
         }
         Event::Deliver(packet) => append_words(text, b"deliver", &[*packet]),
-        Event::ServerTick => append_words(text, b"tick s", &[u64::from(times)]),
-        Event::ClientTick(host) => append_words(
-            text,
-            b"tick",
-            &[u64::from(host.0), u64::from(times)],
-        ),
+        Event::ServerTick => append_words(text, b"tick s", &[1]),
+        Event::ClientTick(host) => append_words(text, b"tick", &[u64::from(host.0), 1]),
         Event::Restart(host) => append_words(text, b"restart", &[u64::from(host.0)]),
         Event::Crash { longest } => append_crash(text, *longest, version),
     }
@@ -70,7 +65,7 @@ pub(crate) fn append_event_line(
     requires has { HasEvent version event.now }
     ensures { OnOk result ((line : List ℕ) × SpellsEvent version event.now line × (text.new.items ≡ text.old.items ++ text_of (line ∷ []))) }
 {
-    append_event(text, event, 1, version)?;
+    append_event(text, event, version)?;
     push_bytes(text, b"\n")
 }
 
@@ -82,23 +77,7 @@ pub fn print_event(alloc: Global, event: &Event, version: u32) -> Result<Vec<u8>
     ensures { IfOk result (λ text. SpellsEvent version event.now text.items) }
 {
     let mut text = Vec::new(alloc);
-    append_event(&mut text, event, 1, version)?;
-    Ok(text)
-}
-
-/// A line behind the head, without its line feed, in a version that can tell it. Ticks and rounds come 1 to 1000 times,
-/// each other event once.
-pub fn print_line(alloc: Global, line: &Line, version: u32) -> Result<Vec<u8>, NoMemory>
-    requires { HasLine version line.now }
-    ensures { IfOk result (λ text. TellsLine version line.now text.items) }
-{
-    let mut text = Vec::new(alloc);
-    match line {
-        Line::Events { event, times } => append_event(&mut text, event, *times, version)?,
-        Line::Round(times) => append_words(&mut text, b"round", &[u64::from(*times)])?,
-        Line::Flow => push_bytes(&mut text, b"flow")?,
-        Line::End => push_bytes(&mut text, b"end")?,
-    }
+    append_event(&mut text, event, version)?;
     Ok(text)
 }
 

@@ -1,7 +1,7 @@
 use Rattle.std.proofs.Common.{◌+◌, [], arith, refl, ap, sym, ◌∙◌}
 use Rattle.std.proofs.lemmas.List.{append-nil}
 use Rattle.nq_journal.specs.Text.{journal_text}
-use Rattle.nq_journal.proofs.Pieces.{text_at, text_whole, entry_more, stopped, failed, extended, all_given, flushed, fit_more, all_fit}
+use Rattle.nq_journal.proofs.Pieces.{text_at, text_whole, entry_more, stopped, failed, extended, all_given, flushed, fit_more, all_fit, memory_not_all, failed_not_all}
 use Rattle.nq_journal.proofs.printing.print.Goals as goal
 use Rattle.nq_journal.proofs.printing.print.Goals.{then-len-ge-PIECE+in-All, else-len-ge-PIECE}
 
@@ -66,3 +66,24 @@ returns-clause-puts g c =
     let whole = text_whole c.args.version items _ c.loop-entry.entry-index c.entries-entry-items.ensures (omega arith) in
     let grown = extended _ _ _ _ _ _ _ c.push_end.new.out.items _ c.loop-entry.invariant.given c.in-Ok-push_end.ensures whole in
     failed _ _ _ _ _ _ _ [] _ grown (sym (append-nil _)) (rw (← c.deref-2.ensures.value) c.in-Failed-put.ensures.puts)
+
+pub returns-in_default-clause-grammar : goal.returns-in_default-clause-grammar
+returns-in_default-clause-grammar g c = memory_not_all
+
+pub returns-in_default-push_line-clause-grammar : goal.returns-in_default-push_line-clause-grammar
+returns-in_default-push_line-clause-grammar g c = memory_not_all
+
+pub returns-in_default-push_end-clause-grammar : goal.returns-in_default-push_end-clause-grammar
+returns-in_default-push_end-clause-grammar g c = memory_not_all
+
+pub returns-in-Failed-clause-grammar : goal.returns-in-Failed-clause-grammar
+returns-in-Failed-clause-grammar g c = failed_not_all
+
+pub returns-clause-grammar : goal.returns-clause-grammar
+returns-clause-grammar g c = failed_not_all
+
+pub returns-in_default-push_line-clause-cause : goal.returns-in_default-push_line-clause-cause
+returns-in_default-push_line-clause-cause g c = c.loop-entry.invariant.given.calm
+
+pub returns-in_default-push_end-clause-cause : goal.returns-in_default-push_end-clause-cause
+returns-in_default-push_end-clause-cause g c = c.loop-entry.invariant.given.calm
