@@ -81,6 +81,10 @@ impl Page {
         if is_short {
             return Err(NoMemory::Memory);
         }
+        if out.is_empty() {
+            *out = text;
+            return Ok(());
+        }
         out.extend_from_slice(&text)?;
         Ok(())
     }
