@@ -1,6 +1,6 @@
 //! Pages that are drawn piece by piece.
 
-ghost use Rattle.std.specs.Prelude.{◌≡◌, ◌++◌, ◌⊎◌, [], None, OnErr, OnOk, Some};
+ghost use Rattle.std.specs.Prelude.{◌≡◌, ◌++◌, ◌⊎◌, [], IfSome, None, OnErr, OnOk, Some, length};
 ghost use Rattle.std.specs.List.{flat_map};
 ghost use Rattle.nq_chart.specs.Page.{Closes, Extends, added, escaped_byte, spelled};
 
@@ -36,6 +36,13 @@ impl Page {
             text: Vec::new(alloc),
             is_short: false,
         }
+    }
+
+    /// How many bytes stand on it.
+    pub fn len(&self) -> usize
+        ensures { IfSome self.now (λ text. result ≡ length text) }
+    {
+        self.text.len()
     }
 
     /// Adds the text that parts make, one behind the other.
