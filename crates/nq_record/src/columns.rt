@@ -2,13 +2,12 @@
 
 use nq_chart::{Page, Part};
 
-/// Puts a word, and a number behind so many blanks that it fills a column.
-pub(crate) fn put_right(page: &mut Page, word: &str, number: u64, width: usize) {
-    page.put(&[Part::Text(word)]);
+/// Puts a number behind so many blanks that it fills a column, and an end behind it.
+pub(crate) fn put_right(page: &mut Page, number: u64, width: usize, end: &str) {
     for _ in digits(number)..width {
         page.put(&[Part::Text(" ")]);
     }
-    page.put(&[Part::Number(number)]);
+    page.put(&[Part::Number(number), Part::Text(end)]);
 }
 
 /// Puts parts, with so many blanks behind them that they fill a column.

@@ -41,20 +41,19 @@ pub(crate) fn tell_moment(record: &Record, place: usize, page: &mut Page) {
 
 /// Puts the columns of an event that have a fixed width.
 fn tell_act(record: &Record, place: usize, moment: &Moment, page: &mut Page) {
-    put_right(page, "", place as u64, 6);
-    page.put(&[Part::Text(" ")]);
+    put_right(page, place as u64, 6, " ");
     put_left(page, &party_parts(moment.party), 8);
-    put_right(page, "", moment.clock.0, 7);
-    page.put(&[Part::Text("  ")]);
+    put_right(page, moment.clock.0, 7, "  ");
     put_left(page, &act_parts(record, place, moment.act), 52);
     tell_counts(moment, page);
 }
 
 /// Puts how many rows, leases and blocks with delayed writes there then are.
 fn tell_counts(moment: &Moment, page: &mut Page) {
-    put_right(page, " rows ", moment.rows as u64, 3);
-    put_right(page, " leases ", moment.leases as u64, 3);
-    put_right(page, " delayed ", moment.dirty as u64, 4);
+    page.put(&[Part::Text(" rows ")]);
+    put_right(page, moment.rows as u64, 3, " leases ");
+    put_right(page, moment.leases as u64, 3, " delayed ");
+    put_right(page, moment.dirty as u64, 4, "");
 }
 
 /// What happens, in words.
