@@ -4,8 +4,12 @@ use nq_chart::{Page, Part};
 
 /// Puts a number behind so many blanks that it fills a column, and an end behind it.
 pub(crate) fn put_right(page: &mut Page, number: u64, width: usize, end: &str) {
-    for _ in digits(number)..width {
-        page.put(&[Part::Text(" ")]);
+    let mut longer = 10u64;
+    for _ in 1..width {
+        if number < longer {
+            page.put(&[Part::Text(" ")]);
+        }
+        longer = longer.saturating_mul(10);
     }
     page.put(&[Part::Number(number), Part::Text(end)]);
 }
@@ -17,16 +21,4 @@ pub(crate) fn put_left(page: &mut Page, parts: &[Part], width: usize) {
     for _ in page.len()..end {
         page.put(&[Part::Text(" ")]);
     }
-}
-
-/// How many decimals a number has.
-fn digits(number: u64) -> usize {
-    let mut left = number;
-    for count in 1..20 {
-        if left < 10 {
-            return count;
-        }
-        left = left / 10;
-    }
-    20
 }

@@ -4,6 +4,7 @@
 mod columns;
 mod drawing;
 mod entries;
+mod lists;
 mod packets;
 mod picture_rows;
 mod reasons;
