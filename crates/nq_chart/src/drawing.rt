@@ -8,36 +8,32 @@ use crate::frame::{legend, open, parties};
 use crate::layout::Layout;
 use crate::notes::{names, notes};
 use crate::packets::{bars, packets};
-use crate::text::put;
+use crate::pages::Page;
+use crate::parts::Part;
 use std::alloc::Global;
 
 /// Appends a chart as one file of SVG (SVG 2), which needs no other file. What stood in the page before stays in front of it.
 ///
 /// # Errors
 ///
-/// Only want of memory. Then a front of the file was appended.
+/// Only want of memory. Then nothing was appended.
 pub fn draw(alloc: Global, chart: &Chart, page: &mut Vec<u8>) -> Result<(), NoMemory>
     ensures { Extends page.old.items page.new.items }
 {
     let layout = Layout::of(alloc, chart)?;
-    open(alloc, page, chart, &layout)?;
-    legend(alloc, page, &layout)?;
-    names(alloc, page, chart, &layout)?;
-    content(alloc, page, chart, &layout)?;
-    put(page, "</svg>\n")
+    let mut drawn = Page::new(alloc);
+    open(&mut drawn, chart, &layout);
+    legend(&mut drawn, &layout);
+    names(&mut drawn, chart, &layout);
+    content(&mut drawn, chart, &layout);
+    drawn.close(page)
 }
 
 /// What stands in the chart, from the back to the front.
-fn content(
-    alloc: Global,
-    page: &mut Vec<u8>,
-    chart: &Chart,
-    layout: &Layout,
-) -> Result<(), NoMemory>
-    ensures { Extends page.old.items page.new.items }
-{
-    parties(alloc, page, chart, layout)?;
-    bars(alloc, page, chart, layout)?;
-    packets(alloc, page, chart, layout)?;
-    notes(alloc, page, chart, layout)
+fn content(page: &mut Page, chart: &Chart, layout: &Layout) {
+    parties(page, chart, layout);
+    bars(page, chart, layout);
+    packets(page, chart, layout);
+    notes(page, chart, layout);
+    page.put(&[Part::Text("</svg>\n")]);
 }

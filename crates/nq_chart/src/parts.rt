@@ -1,12 +1,11 @@
 //! Text that is made of parts.
 
 ghost use Rattle.std.specs.Fmt.{decimal};
-ghost use Rattle.std.specs.Prelude.{◌≡◌, ◌++◌, IfOk, OnErr, OnOk, string_bytes};
+ghost use Rattle.std.specs.Prelude.{◌≡◌, ◌++◌, IfOk, OnOk, string_bytes};
 ghost use Rattle.std.specs.List.{flat_map};
-ghost use Rattle.nq_chart.specs.Page.{Extends, spelled};
+ghost use Rattle.nq_chart.specs.Page.{spelled};
 
 use crate::NoMemory;
-use crate::text::{escape, put};
 use std::alloc::Global;
 
 /// A part of a text.
@@ -57,33 +56,4 @@ fn push_number(alloc: Global, text: &mut String, number: u64) -> Result<(), NoMe
 {
     let digits = format!(in alloc; "{number}")?;
     push_words(text, digits.as_str())
-}
-
-/// Appends the text that parts make, one behind the other.
-///
-/// # Errors
-///
-/// Only want of memory. Then nothing was appended.
-pub fn put_all(alloc: Global, page: &mut Vec<u8>, parts: &[Part]) -> Result<(), NoMemory>
-    ensures written { OnOk result (page.new.items ≡ page.old.items ++ flat_map spelled parts.now) }
-    ensures refused { OnErr result (page.new.items ≡ page.old.items) }
-    ensures extends { Extends page.old.items page.new.items }
-{
-    let text = text_of(alloc, parts)?;
-    put(page, text.as_str())
-}
-
-/// Appends a text within marks: the parts of the mark before it, the text as `escape` writes it, and the mark behind it.
-pub(crate) fn put_within(
-    alloc: Global,
-    page: &mut Vec<u8>,
-    mark: &[Part],
-    text: &str,
-    end: &str,
-) -> Result<(), NoMemory>
-    ensures { Extends page.old.items page.new.items }
-{
-    put_all(alloc, page, mark)?;
-    escape(page, text)?;
-    put(page, end)
 }

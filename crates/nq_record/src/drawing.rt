@@ -1,8 +1,9 @@
 //! A run as a chart.
 
-ghost use Rattle.std.specs.Prelude.{◌≡◌, ◌+◌, ◌≤◌, vec_len, IfOk};
+ghost use Rattle.std.specs.Prelude.{◌≡◌, ◌+◌, ◌≤◌, vec_len, IfOk, OnOk};
 
 use crate::NoMemory;
+use crate::lists::Growing;
 use crate::picture_rows::{Rows, packet_words, rows_of};
 use crate::record::{Record, Sent};
 use crate::spans::{Kind, Span};
@@ -86,13 +87,26 @@ fn columns(alloc: Global, hosts: u32) -> Result<Vec<Column>, NoMemory>
     let mut columns = Vec::new(alloc);
     let left = hosts_left(hosts);
     for host in 0..left {
-        columns.push(column(alloc, hosts, &Party::Client(Host(host)))?)?;
+        push_column(alloc, hosts, &Party::Client(Host(host)), &mut columns)?;
     }
-    columns.push(column(alloc, hosts, &Party::Server)?)?;
+    push_column(alloc, hosts, &Party::Server, &mut columns)?;
     for later in left..hosts {
-        columns.push(column(alloc, hosts, &Party::Client(Host(later)))?)?;
+        push_column(alloc, hosts, &Party::Client(Host(later)), &mut columns)?;
     }
     Ok(columns)
+}
+
+/// Adds a party.
+fn push_column(
+    alloc: Global,
+    hosts: u32,
+    party: &Party,
+    columns: &mut Vec<Column>,
+) -> Result<(), NoMemory>
+    ensures { OnOk result (vec_len columns.new ≡ vec_len columns.old + 1) }
+{
+    columns.push(column(alloc, hosts, party)?)?;
+    Ok(())
 }
 
 /// A party.
@@ -104,49 +118,60 @@ fn column(alloc: Global, hosts: u32, party: &Party) -> Result<Column, NoMemory> 
 
 /// The packets that are sent or arrive in the rows that are shown.
 fn packets(alloc: Global, record: &Record, shown: &Rows) -> Result<Vec<Packet>, NoMemory> {
-    let mut packets = Vec::new(alloc);
+    let mut packets = Growing::new(alloc);
     for (number, sent) in record.packets.iter().enumerate() {
         let arrivals = arrivals(alloc, sent, shown)?;
         let row = shown.row_of(sent.sent);
         let is_lost = sent.arrivals.is_empty() && row.is_some();
         if is_lost || !arrivals.is_empty() {
-            let text = packet_words(alloc, number as u64, sent, "")?;
-            packets.push(Packet {
-                from: place_of(record.hosts, sent.from),
-                to: place_of(record.hosts, sent.to),
-                sent: row,
-                arrivals,
-                text,
-            })?;
+            let text = packet_words(alloc, number as u64, sent, "");
+            packets.add(packet(record.hosts, sent, row, arrivals, text));
         }
     }
-    Ok(packets)
+    packets.finish()
+}
+
+/// A packet that is told of in a text, if there was memory for it.
+fn packet(
+    hosts: u32,
+    sent: &Sent,
+    row: Option<usize>,
+    arrivals: Vec<usize>,
+    text: Result<String, NoMemory>,
+) -> Result<Packet, NoMemory> {
+    Ok(Packet {
+        from: place_of(hosts, sent.from),
+        to: place_of(hosts, sent.to),
+        sent: row,
+        arrivals,
+        text: text?,
+    })
 }
 
 /// The rows in which a packet arrives.
 fn arrivals(alloc: Global, sent: &Sent, shown: &Rows) -> Result<Vec<usize>, NoMemory> {
-    let mut arrivals = Vec::new(alloc);
+    let mut arrivals = Growing::new(alloc);
     for moment in &sent.arrivals {
         if let Some(row) = shown.row_of(*moment) {
-            arrivals.push(row)?;
+            arrivals.push(row);
         }
     }
-    Ok(arrivals)
+    arrivals.finish()
 }
 
 /// The bars of what lasts in the rows that are shown.
 fn bars(alloc: Global, record: &Record, shown: &Rows) -> Result<Vec<Bar>, NoMemory> {
-    let mut bars = Vec::new(alloc);
+    let mut bars = Growing::new(alloc);
     for span in &record.spans {
         if span.first <= shown.to && span.last >= shown.from {
             let first = shown.row_of(span.first.max(shown.from));
             let last = shown.row_of(span.last.min(shown.to));
             if let (Some(first), Some(last)) = (first, last) {
-                bars.push(bar(alloc, record.hosts, span, first, last)?)?;
+                bars.add(bar(alloc, record.hosts, span, first, last));
             }
         }
     }
-    Ok(bars)
+    bars.finish()
 }
 
 /// The bar of something that lasts.

@@ -1,8 +1,10 @@
 //! A run as it was seen, event by event, and how it is shown: as a picture, told line by line, and why an entry came.
 #![tactic(auto)]
 
+mod columns;
 mod drawing;
 mod entries;
+mod lists;
 mod packets;
 mod picture_rows;
 mod reasons;

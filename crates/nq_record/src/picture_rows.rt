@@ -2,7 +2,9 @@
 
 use crate::NoMemory;
 use crate::drawing::{outer, place_of};
+use crate::lists::Growing;
 use crate::record::{Act, Moment, Record, Sent};
+use crate::text::owned;
 use nq_base::Party;
 use nq_chart::{Note, Part, Row, Side, Sign, text_of};
 use std::alloc::Global;
@@ -40,6 +42,43 @@ impl Rows {
     }
 }
 
+/// Rows that are drawn.
+#[derive(Drop)]
+struct Drawn {
+    rows: Growing<Row>,
+    places: Growing<usize>,
+}
+
+impl Drawn {
+    /// No rows.
+    fn new(alloc: Global) -> Drawn {
+        Drawn {
+            rows: Growing::new(alloc),
+            places: Growing::new(alloc),
+        }
+    }
+
+    /// Adds the row of so many events.
+    fn add(&mut self, events: usize, row: Result<Row, NoMemory>) {
+        let place = self.rows.len();
+        for _ in 0..events {
+            self.places.push(place);
+        }
+        self.rows.add(row);
+    }
+
+    /// The rows of the events from `from` to `to`.
+    fn finish(self, from: usize, to: usize) -> Result<Rows, NoMemory> {
+        let Drawn { rows, places } = self;
+        Ok(Rows {
+            from,
+            to,
+            rows: rows.finish()?,
+            places: places.finish()?,
+        })
+    }
+}
+
 /// What the clocks show that no row has told yet, by the places of the parties.
 #[derive(Drop)]
 struct Clocks {
@@ -49,10 +88,7 @@ struct Clocks {
 impl Clocks {
     /// Clocks that all show 0.
     fn new(alloc: Global, parties: usize) -> Result<Clocks, NoMemory> {
-        let mut shown = Vec::new(alloc);
-        for _ in 0..parties {
-            shown.push(Some(0))?;
-        }
+        let shown = vec![in alloc; Some(0u64); parties]?;
         Ok(Clocks { shown })
     }
 
@@ -65,12 +101,12 @@ impl Clocks {
 
     /// What the clocks show; from then on nothing is untold.
     fn take(&mut self, alloc: Global) -> Result<Vec<Option<u64>>, NoMemory> {
-        let mut told = Vec::new(alloc);
+        let mut told = Growing::new(alloc);
         for shown in self.shown.iter_mut() {
-            told.push(*shown)?;
+            told.push(*shown);
             *shown = None;
         }
-        Ok(told)
+        told.finish()
     }
 }
 
@@ -83,12 +119,7 @@ pub(crate) fn rows_of(
 ) -> Result<Rows, NoMemory> {
     let marked = marked(alloc, record)?;
     let mut clocks = Clocks::new(alloc, (record.hosts as usize).saturating_add(1))?;
-    let mut shown = Rows {
-        from,
-        to,
-        rows: Vec::new(alloc),
-        places: Vec::new(alloc),
-    };
+    let mut drawn = Drawn::new(alloc);
     let mut idle = Idle {
         first: from,
         count: 0,
@@ -100,21 +131,18 @@ pub(crate) fn rows_of(
             if is_idle(&marked, place, moment) {
                 idle.add(place, moment);
             } else {
-                idle.end(alloc, record, &mut shown, &mut clocks)?;
-                event_row(alloc, record, place, moment, &mut shown, &mut clocks)?;
+                idle.end(alloc, record.hosts, &mut drawn, &mut clocks);
+                drawn.add(1, event_row(alloc, record, place, moment, &mut clocks));
             }
         }
     }
-    idle.end(alloc, record, &mut shown, &mut clocks)?;
-    Ok(shown)
+    idle.end(alloc, record.hosts, &mut drawn, &mut clocks);
+    drawn.finish(from, to)
 }
 
 /// Which events begin or end something that lasts.
 fn marked(alloc: Global, record: &Record) -> Result<Vec<bool>, NoMemory> {
-    let mut marked = Vec::new(alloc);
-    for _moment in &record.moments {
-        marked.push(false)?;
-    }
+    let mut marked = vec![in alloc; false; record.moments.len()]?;
     for span in &record.spans {
         mark(&mut marked, span.first);
         if !span.open {
@@ -182,90 +210,93 @@ impl Idle {
     }
 
     /// Gives them a row, if there are any.
-    fn end(
-        &mut self,
-        alloc: Global,
-        record: &Record,
-        shown: &mut Rows,
-        clocks: &mut Clocks,
-    ) -> Result<(), NoMemory> {
-        if self.count == 0 {
-            return Ok(());
+    fn end(&mut self, alloc: Global, hosts: u32, drawn: &mut Drawn, clocks: &mut Clocks) {
+        if self.count > 0 {
+            drawn.add(self.count, self.row(alloc, hosts, clocks));
+            self.count = 0;
         }
-        let name = self.name(alloc)?;
-        let text = self.text(alloc)?;
-        let mut notes = Vec::new(alloc);
-        notes.push(Note {
-            side: outer(record.hosts, self.party),
-            sign: Sign::Plain,
-            text,
-        })?;
-        let row = shown.rows.len();
-        for _ in 0..self.count {
-            shown.places.push(row)?;
-        }
-        let told = clocks.take(alloc)?;
-        shown.rows.push(Row {
-            name,
-            clocks: told,
-            party: place_of(record.hosts, self.party),
-            notes,
-        })?;
-        self.count = 0;
-        Ok(())
+    }
+
+    /// Their row.
+    fn row(&self, alloc: Global, hosts: u32, clocks: &mut Clocks) -> Result<Row, NoMemory> {
+        let mut notes = Growing::new(alloc);
+        let side = outer(hosts, self.party);
+        notes.add(note(side, Sign::Plain, self.text(alloc)));
+        let party = place_of(hosts, self.party);
+        row(self.name(alloc), clocks.take(alloc), party, notes.finish())
     }
 }
 
-/// Gives an event a row.
+/// A row, if there was memory for what stands in it.
+fn row(
+    name: Result<String, NoMemory>,
+    clocks: Result<Vec<Option<u64>>, NoMemory>,
+    party: usize,
+    notes: Result<Vec<Note>, NoMemory>,
+) -> Result<Row, NoMemory> {
+    Ok(Row {
+        name: name?,
+        clocks: clocks?,
+        party,
+        notes: notes?,
+    })
+}
+
+/// A note, if there was memory for its text.
+fn note(side: Side, sign: Sign, text: Result<String, NoMemory>) -> Result<Note, NoMemory> {
+    Ok(Note {
+        side,
+        sign,
+        text: text?,
+    })
+}
+
+/// The row of an event.
 fn event_row(
     alloc: Global,
     record: &Record,
     place: usize,
     moment: &Moment,
-    shown: &mut Rows,
     clocks: &mut Clocks,
-) -> Result<(), NoMemory> {
-    let notes = notes(alloc, record, moment)?;
-    let name = text_of(alloc, &[Part::Number(place as u64)])?;
-    let told = clocks.take(alloc)?;
-    let row = shown.rows.len();
-    shown.places.push(row)?;
-    shown.rows.push(Row {
+) -> Result<Row, NoMemory> {
+    let name = text_of(alloc, &[Part::Number(place as u64)]);
+    let party = place_of(record.hosts, moment.party);
+    row(
         name,
-        clocks: told,
-        party: place_of(record.hosts, moment.party),
-        notes,
-    })?;
-    Ok(())
+        clocks.take(alloc),
+        party,
+        notes(alloc, record, moment),
+    )
 }
 
 /// The notes of an event.
 fn notes(alloc: Global, record: &Record, moment: &Moment) -> Result<Vec<Note>, NoMemory> {
-    let mut notes = Vec::new(alloc);
-    let mut side = outer(record.hosts, moment.party);
+    let mut notes = Growing::new(alloc);
+    let side = arrival_note(alloc, record, moment, &mut notes);
+    entry_notes(alloc, record, moment, side, &mut notes);
+    lost_notes(alloc, record, moment, &mut notes);
+    if notes.len() == 0 {
+        notes.add(note(side, Sign::Plain, owned(alloc, act_word(moment.act))));
+    }
+    notes.finish()
+}
+
+/// The note of the packet that arrives, if one does; the side on which the other notes stand.
+fn arrival_note(
+    alloc: Global,
+    record: &Record,
+    moment: &Moment,
+    notes: &mut Growing<Note>,
+) -> Side {
     if let Act::Arrival(number) = moment.act {
         if let Some(sent) = record.packets.get(number as usize) {
             let toward = toward(record.hosts, moment.party, sent.from);
-            side = other(toward);
-            let text = packet_words(alloc, number, sent, "")?;
-            notes.push(Note {
-                side: toward,
-                sign: Sign::Packet,
-                text,
-            })?;
+            let text = packet_words(alloc, number, sent, "");
+            notes.add(note(toward, Sign::Packet, text));
+            return other(toward);
         }
     }
-    entry_notes(alloc, record, moment, side, &mut notes)?;
-    lost_notes(alloc, record, moment, &mut notes)?;
-    if notes.is_empty() {
-        let text = String::from_str(alloc, act_word(moment.act))?;
-        notes.push(Note {
-            side,
-            sign: Sign::Plain,
-            text,
-        })?;
-    }
-    Ok(notes)
+    outer(record.hosts, moment.party)
 }
 
 /// The number of a packet and what it says, with an end.
@@ -303,43 +334,29 @@ fn entry_notes(
     record: &Record,
     moment: &Moment,
     side: Side,
-    notes: &mut Vec<Note>,
-) -> Result<(), NoMemory> {
+    notes: &mut Growing<Note>,
+) {
     let end = moment.entries.saturating_add(moment.made);
     for place in moment.entries..end {
         if let Some(entry) = record.entries.get(place) {
-            let text = String::from_str(alloc, entry.words.as_str())?;
-            notes.push(Note {
-                side,
-                sign: entry.sign,
-                text,
-            })?;
+            let text = owned(alloc, entry.words.as_str());
+            notes.add(note(side, entry.sign, text));
         }
     }
-    Ok(())
 }
 
 /// The notes of the packets that an event sends and that never arrive.
-fn lost_notes(
-    alloc: Global,
-    record: &Record,
-    moment: &Moment,
-    notes: &mut Vec<Note>,
-) -> Result<(), NoMemory> {
+fn lost_notes(alloc: Global, record: &Record, moment: &Moment, notes: &mut Growing<Note>) {
     let end = moment.packets.saturating_add(moment.sent);
     for number in moment.packets..end {
         if let Some(sent) = record.packets.get(number as usize) {
             if sent.arrivals.is_empty() {
-                let text = packet_words(alloc, number, sent, ", lost")?;
-                notes.push(Note {
-                    side: toward(record.hosts, moment.party, sent.to),
-                    sign: Sign::Loss,
-                    text,
-                })?;
+                let side = toward(record.hosts, moment.party, sent.to);
+                let text = packet_words(alloc, number, sent, ", lost");
+                notes.add(note(side, Sign::Loss, text));
             }
         }
     }
-    Ok(())
 }
 
 /// The side of a party on which another one stands.

@@ -6,6 +6,7 @@ use crate::NoMemory;
 use crate::record::{Act, Record};
 use crate::telling::tell_moment;
 use nq_base::{BlockNo, Entry, FileId, Number, Said, Who};
+use nq_chart::Page;
 use std::alloc::Global;
 
 /// Appends the events that led to an entry, newest first, each as `tell` tells it. What stood in the text before stays in
@@ -16,7 +17,7 @@ use std::alloc::Global;
 ///
 /// # Errors
 ///
-/// Only want of memory. Then some of the events were appended.
+/// Only want of memory. Then nothing was appended.
 pub fn why(
     alloc: Global,
     record: &Record,
@@ -27,14 +28,15 @@ pub fn why(
     ensures { Extends out.old.items out.new.items }
 {
     let led = led_to(alloc, record, entries, place)?;
+    let mut page = Page::new(alloc);
     let count = record.moments.len();
     for back in 0..count {
         let moment = count.saturating_sub(1).saturating_sub(back);
         if led.contains(&moment) {
-            tell_moment(alloc, record, moment, out)?;
+            tell_moment(record, moment, &mut page);
         }
     }
-    Ok(())
+    page.close(out)
 }
 
 /// The places of the events that led to an entry.

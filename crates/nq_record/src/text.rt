@@ -41,8 +41,13 @@ pub(crate) fn mode_word(mode: Mode) -> &'static str
 
 /// The name of a party.
 pub(crate) fn party_name(alloc: Global, party: Party) -> Result<String, NoMemory> {
+    text_of(alloc, &party_parts(party))
+}
+
+/// The parts of the name of a party.
+pub(crate) fn party_parts(party: Party) -> [Part<'static>; 2] {
     match party {
-        Party::Server => owned(alloc, "server"),
-        Party::Client(host) => text_of(alloc, &[Part::Text("host "), Part::Number(host.0 as u64)]),
+        Party::Server => [Part::Text("server"), Part::Text("")],
+        Party::Client(host) => [Part::Text("host "), Part::Number(host.0 as u64)],
     }
 }

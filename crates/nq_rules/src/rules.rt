@@ -5,7 +5,7 @@ ghost use Rattle.nq_rules.specs.Words.{word_of};
 
 /// A rule by which journals are judged, in the order in which they are named. `docs/check.md` says which entries are at
 /// fault under each.
-#[derive(Clone, Copy, Debug, PartialEq, Eq)]
+#[derive(Clone, Copy)]
 pub enum Rule {
     /// Each counted read gives the latest standing write, and reads and the answers that say ok to them are one for one.
     Legal,
@@ -35,7 +35,7 @@ impl Rule {
 }
 
 /// What the judge says of a journal.
-#[derive(Clone, Copy, Debug, PartialEq, Eq)]
+#[derive(Clone, Copy)]
 pub enum Judged {
     /// It is sound.
     Yes,

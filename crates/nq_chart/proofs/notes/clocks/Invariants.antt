@@ -1,5 +1,0 @@
-use Rattle.nq_chart.specs.Page.{Extends}
-use Rattle.nq_chart.proofs.notes.clocks.Given as goal
-
-abbrev pub invariant-loop-place : goal.invariant-loop-place
-invariant-loop-place l = Extends l.fn.page.items l.page.items
