@@ -60,9 +60,9 @@ impl State {
     }
 }
 
-#[tactic(auto, unfolding(nq_model::specs::Send::sends_request, nq_model::specs::Send::after_seq, nq_model::specs::Send::after_number, nq_model::specs::Send::gives_up))]
 impl Step {
     /// Sends a request that takes the next sequence.
+    #[tactic(auto, unfolding(nq_model::specs::Send::after_seq))]
     fn sends_in_order(&mut self, request: Request)
         requires idle { self.old.state.asked ≡ None }
         requires time { self.old.state.time < 2 ^ 62 }
@@ -77,6 +77,7 @@ impl Step {
     }
 
     /// Sends a WRITE of the block of the call under way, which goes through.
+    #[tactic(auto, unfolding(nq_model::specs::Send::after_seq, nq_model::specs::Send::after_number))]
     fn sends_write(&mut self, file: FileId, block: BlockNo, room: &mut Spare)
         requires block { room.old ≡ true }
         requires idle { self.old.state.asked ≡ None }
@@ -169,6 +170,7 @@ impl Step {
     }
 
     /// Gives the lease on a file up, with its clean blocks, and sends a request that changes the file.
+    #[tactic(auto, unfolding(nq_model::specs::Send::gives_up))]
     fn sends_change(&mut self, file: FileId, request: Request)
         requires idle { self.old.state.asked ≡ None }
         requires numbers { HasNumbers 1 self.old.state }

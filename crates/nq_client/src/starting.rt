@@ -62,7 +62,7 @@ pub(crate) fn begin(
 {
     letters.reserve(alloc)?;
     out.reserve(2)?;
-    let mut log = Journal::new(alloc)?;
+    let mut log = Journal::new(alloc).unwrap();
     let mut step = first_step(alloc, who, term, time)?;
     step.finish(letters, out, &mut log);
     // No call is under way, so there is no answer to give.
