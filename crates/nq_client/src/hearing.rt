@@ -36,9 +36,8 @@ pub(crate) fn is_same(who: &Who, other: &Who) -> bool
 
 impl Step {
     /// The request under way is no more under way.
-    #[tactic(auto, unfolding(nq_model::specs::Hear::spends))]
     pub(crate) fn spends(&mut self)
-        requires silent { self.old.asks ≡ false }
+        requires { self.old.asks ≡ false }
         ensures step { step_of self.new ≡ spends (step_of self.old) }
         ensures asked { self.new ≡ record self.old { state = record self.old.state { asked = None } } }
     {
