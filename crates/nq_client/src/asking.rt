@@ -375,45 +375,33 @@ impl Step {
     {
         let may_ask = self.state.pause <= self.state.time;
         match &self.state.call {
-            Some(u) => match &u.call {
-                Call::Create { name, blocks } => {
-                    let (name, blocks) = (*name, *blocks);
-                    self.creates(may_ask, name, blocks)
-                }
-                Call::Lookup { name } => {
-                    let name = *name;
-                    self.looks_up(may_ask, name)
-                }
-                Call::Attr { file } => {
-                    let file = *file;
-                    self.measures(may_ask, file)
-                }
+            Some(u) => match u.call {
+                Call::Create { name, blocks } => self.creates(may_ask, name, blocks),
+                Call::Lookup { name } => self.looks_up(may_ask, name),
+                Call::Attr { file } => self.measures(may_ask, file),
                 Call::Read { file, block } => {
-                    let (q, file, block) = (u.q, *file, *block);
+                    let q = u.q;
                     self.reads(may_ask, q, file, block)
                 }
                 Call::Fetch { file, block } => {
-                    let (q, file, block) = (u.q, *file, *block);
+                    let q = u.q;
                     self.fetches(may_ask, q, file, block)
                 }
                 Call::Write { file, block, .. } => {
-                    let (through, file, block) = (u.through, *file, *block);
+                    let through = u.through;
                     self.next_write(may_ask, through, file, block, room)
                 }
                 Call::WriteSync { file, block, .. } => {
-                    let (written, file, block) = (u.written, *file, *block);
+                    let written = u.written;
                     self.next_put(written, may_ask, file, block, room)
                 }
-                Call::Sync { file } => {
-                    let file = *file;
-                    self.pushes(file, room)
-                }
+                Call::Sync { file } => self.pushes(file, room),
                 Call::Resize { file, blocks } => {
-                    let (q, file, blocks) = (u.q, *file, *blocks);
+                    let q = u.q;
                     self.resizes(may_ask, q, file, blocks, room)
                 }
                 Call::Remove { file } => {
-                    let (q, file) = (u.q, *file);
+                    let q = u.q;
                     self.removes(may_ask, q, file, room)
                 }
             },
