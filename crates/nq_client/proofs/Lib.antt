@@ -10,5 +10,6 @@ pub mod Replied
 pub mod Reported
 pub mod Requested
 pub mod Settled
+pub mod Spent
 pub mod Ties
 pub mod Vacated

@@ -3,6 +3,7 @@ use Rattle.std.proofs.Common.{◌≡◌, ◌≤◌, ◌<◌, ◌^◌, ◌+◌, �
 use Rattle.nq_base.specs.declared.Reply.{Reply}
 use Rattle.nq_base.specs.declared.Request.{Request}
 use Rattle.nq_base.specs.declared.Tag.{Tag}
+use Rattle.nq_base.specs.declared.Who.{Who}
 use Rattle.nq_client.proofs.Calls.{Within}
 use Rattle.nq_client.proofs.Replied.{Kept, answered-kept, answered-none}
 use Rattle.nq_client.proofs.Requested.{sends, Sent}
@@ -182,6 +183,11 @@ idle-within n c = record {
 call-within : (n : ℕ) (c : Client) (r : Request) → Within (n + 4) c (on_call c r)
 call-within n c (Request.Evicted who file tag) = notice-within n c file tag
 call-within n c other = idle-within n c
+
+-- a call of the server that is no notice makes no step
+pub no-notice : (c : Client) (r : Request) → ((who : Who) (file : ℕ) (tag : Tag) → r ≡ Request.Evicted who file tag → ⊥) → begun c ≡ on_call c r
+no-notice c (Request.Evicted who file tag) h = absurd (h who file tag refl)
+no-notice c other h = refl
 
 -- what counts
 pub heard-within : (c : Client) (number : ℕ) (heard : Heard) → IsHeeded c.ticket heard → Within (most_entries c) c (on_heard c number heard)

@@ -16,7 +16,6 @@ use nq_base::{Answer, Block, FileId, Refusal, Rev, Said, Ticks, Value};
 /// So long a client pauses after a request was put off, in ticks.
 const PATIENCE: u64 = 2;
 
-#[tactic(auto, unfolding(nq_model::specs::Settle::answers, nq_model::specs::Hear::marks_through, nq_model::specs::Hear::pauses, nq_model::specs::Hear::attached, nq_model::specs::Hear::knows_revision))]
 impl Step {
     /// Answers the call under way, if there is one.
     fn answers_as(&mut self, answer: Answer, said: Said)
@@ -34,6 +33,7 @@ impl Step {
     }
 
     /// Answers the call under way with what it is done with.
+    #[tactic(auto, unfolding(nq_model::specs::Settle::answers))]
     pub(crate) fn answers_nothing(&mut self)
         requires { 1 ≤ self.old.entries.spare }
         ensures step { step_of self.new ≡ answers_call (step_of self.old) (ok Value.Nothing) None }
@@ -43,6 +43,7 @@ impl Step {
     }
 
     /// Answers the call under way with the id of a file.
+    #[tactic(auto, unfolding(nq_model::specs::Settle::answers))]
     pub(crate) fn answers_file(&mut self, file: FileId)
         requires { 1 ≤ self.old.entries.spare }
         ensures step { step_of self.new ≡ answers_call (step_of self.old) (ok (Value.File file)) None }
@@ -52,6 +53,7 @@ impl Step {
     }
 
     /// Answers the call under way with the length of a file.
+    #[tactic(auto, unfolding(nq_model::specs::Settle::answers))]
     pub(crate) fn answers_blocks(&mut self, blocks: u32)
         requires { 1 ≤ self.old.entries.spare }
         ensures step { step_of self.new ≡ answers_call (step_of self.old) (ok (Value.Blocks blocks)) None }
@@ -61,6 +63,7 @@ impl Step {
     }
 
     /// Answers the call under way with a block that the server sent in the packet of this number.
+    #[tactic(auto, unfolding(nq_model::specs::Settle::answers))]
     pub(crate) fn answers_body(&mut self, body: Block, packet: u64)
         requires { 1 ≤ self.old.entries.spare }
         ensures step { step_of self.new ≡ answers_call (step_of self.old) (ok (Value.Body body)) (Some packet) }
@@ -71,6 +74,7 @@ impl Step {
     }
 
     /// Answers the call under way with what a refusal means.
+    #[tactic(auto, unfolding(nq_model::specs::Settle::answers))]
     pub(crate) fn answers_refusal(&mut self, status: Refusal)
         requires { 1 ≤ self.old.entries.spare }
         ensures step { step_of self.new ≡ answers_call (step_of self.old) (answer_of status) None }
@@ -89,6 +93,7 @@ impl Step {
     }
 
     /// The write of the call under way is to go through, or not.
+    #[tactic(auto, unfolding(nq_model::specs::Hear::marks_through))]
     pub(crate) fn marks_through(&mut self, on: bool)
         ensures step { step_of self.new ≡ marks_through on (step_of self.old) }
         ensures left { Leaves 0 self.old self.new }
@@ -100,6 +105,7 @@ impl Step {
     }
 
     /// A request was put off: the client pauses, and a write is not to go through any more.
+    #[tactic(auto, unfolding(nq_model::specs::Hear::pauses))]
     pub(crate) fn pauses(&mut self)
         requires { self.old.state.time < 2 ^ 62 }
         ensures step { step_of self.new ≡ pauses (step_of self.old) }
@@ -110,6 +116,7 @@ impl Step {
     }
 
     /// The server knows this incarnation.
+    #[tactic(auto, unfolding(nq_model::specs::Hear::attached))]
     pub(crate) fn is_attached(&mut self)
         ensures step { step_of self.new ≡ attached (step_of self.old) }
         ensures left { Leaves 0 self.old self.new }
@@ -118,6 +125,7 @@ impl Step {
     }
 
     /// A file has this revision.
+    #[tactic(auto, unfolding(nq_model::specs::Hear::knows_revision))]
     pub(crate) fn knows_revision(&mut self, file: FileId, rev: Rev)
         requires { 1 ≤ self.old.state.cache.spare }
         ensures step { step_of self.new ≡ knows_revision (step_of self.old) file rev }

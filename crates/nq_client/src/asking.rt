@@ -60,9 +60,9 @@ impl State {
     }
 }
 
-#[tactic(auto, unfolding(nq_model::specs::Send::sends_request, nq_model::specs::Send::after_seq, nq_model::specs::Send::after_number, nq_model::specs::Send::gives_up))]
 impl Step {
     /// Sends a request that takes the next sequence.
+    #[tactic(auto, unfolding(nq_model::specs::Send::after_seq))]
     fn sends_in_order(&mut self, request: Request)
         requires idle { self.old.state.asked ≡ None }
         requires time { self.old.state.time < 2 ^ 62 }
@@ -77,6 +77,7 @@ impl Step {
     }
 
     /// Sends a WRITE of the block of the call under way, which goes through.
+    #[tactic(auto, unfolding(nq_model::specs::Send::after_seq, nq_model::specs::Send::after_number))]
     fn sends_write(&mut self, file: FileId, block: BlockNo, room: &mut Spare)
         requires block { room.old ≡ true }
         requires idle { self.old.state.asked ≡ None }
@@ -169,6 +170,7 @@ impl Step {
     }
 
     /// Gives the lease on a file up, with its clean blocks, and sends a request that changes the file.
+    #[tactic(auto, unfolding(nq_model::specs::Send::gives_up))]
     fn sends_change(&mut self, file: FileId, request: Request)
         requires idle { self.old.state.asked ≡ None }
         requires numbers { HasNumbers 1 self.old.state }
@@ -373,45 +375,33 @@ impl Step {
     {
         let may_ask = self.state.pause <= self.state.time;
         match &self.state.call {
-            Some(u) => match &u.call {
-                Call::Create { name, blocks } => {
-                    let (name, blocks) = (*name, *blocks);
-                    self.creates(may_ask, name, blocks)
-                }
-                Call::Lookup { name } => {
-                    let name = *name;
-                    self.looks_up(may_ask, name)
-                }
-                Call::Attr { file } => {
-                    let file = *file;
-                    self.measures(may_ask, file)
-                }
+            Some(u) => match u.call {
+                Call::Create { name, blocks } => self.creates(may_ask, name, blocks),
+                Call::Lookup { name } => self.looks_up(may_ask, name),
+                Call::Attr { file } => self.measures(may_ask, file),
                 Call::Read { file, block } => {
-                    let (q, file, block) = (u.q, *file, *block);
+                    let q = u.q;
                     self.reads(may_ask, q, file, block)
                 }
                 Call::Fetch { file, block } => {
-                    let (q, file, block) = (u.q, *file, *block);
+                    let q = u.q;
                     self.fetches(may_ask, q, file, block)
                 }
                 Call::Write { file, block, .. } => {
-                    let (through, file, block) = (u.through, *file, *block);
+                    let through = u.through;
                     self.next_write(may_ask, through, file, block, room)
                 }
                 Call::WriteSync { file, block, .. } => {
-                    let (written, file, block) = (u.written, *file, *block);
+                    let written = u.written;
                     self.next_put(written, may_ask, file, block, room)
                 }
-                Call::Sync { file } => {
-                    let file = *file;
-                    self.pushes(file, room)
-                }
+                Call::Sync { file } => self.pushes(file, room),
                 Call::Resize { file, blocks } => {
-                    let (q, file, blocks) = (u.q, *file, *blocks);
+                    let q = u.q;
                     self.resizes(may_ask, q, file, blocks, room)
                 }
                 Call::Remove { file } => {
-                    let (q, file) = (u.q, *file);
+                    let q = u.q;
                     self.removes(may_ask, q, file, room)
                 }
             },

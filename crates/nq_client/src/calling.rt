@@ -31,7 +31,7 @@ pub(crate) fn named_for(state: &State, call: &Call) -> Result<Named, NoMemory>
 {
     let losses = match changed_file(call) {
         Some(file) => state.losses.of(state.alloc, file)?,
-        None => Losses::new(state.alloc)?,
+        None => Losses::new(state.alloc).unwrap(),
     };
     let spans = spans_of(state.alloc, &losses)?;
     Ok(Named { losses, spans })

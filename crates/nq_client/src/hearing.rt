@@ -34,11 +34,10 @@ pub(crate) fn is_same(who: &Who, other: &Who) -> bool
     who.host == other.host && who.inc == other.inc
 }
 
-#[tactic(auto, unfolding(nq_model::specs::Hear::spends, nq_model::specs::Hear::cancels))]
 impl Step {
     /// The request under way is no more under way.
     pub(crate) fn spends(&mut self)
-        requires silent { self.old.asks ≡ false }
+        requires { self.old.asks ≡ false }
         ensures step { step_of self.new ≡ spends (step_of self.old) }
         ensures asked { self.new ≡ record self.old { state = record self.old.state { asked = None } } }
     {
@@ -49,6 +48,7 @@ impl Step {
     }
 
     /// A request that wants a lease on the file is given up.
+    #[tactic(auto, unfolding(nq_model::specs::Hear::spends, nq_model::specs::Hear::cancels))]
     fn cancels(&mut self, file: FileId)
         requires silent { self.old.asks ≡ false }
         ensures step { step_of self.new ≡ cancels (step_of self.old) file }

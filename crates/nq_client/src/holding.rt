@@ -25,9 +25,9 @@ fn put_held(leases: &mut Leases, held: Held)
     }
 }
 
-#[tactic(auto, unfolding(nq_model::specs::Hear::holds))]
 impl Step {
     /// Holds a lease whose request was first sent at `sent`. Clean blocks of another revision go.
+    #[tactic(auto, unfolding(nq_model::specs::Hear::holds))]
     pub(crate) fn holds(&mut self, file: FileId, grant: &Grant, sent: Ticks, held: Held)
         requires held { lease_of held ≡ Some (granted_lease file grant.now sent) }
         requires lease { 1 ≤ self.old.state.leases.spare }

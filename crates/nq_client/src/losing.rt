@@ -54,7 +54,7 @@ fn add_listed(dirty: &Dirty, place: usize, file: FileId, into: &mut Losses) -> R
 pub(crate) fn losses_in(alloc: Global, dirty: &Dirty, file: FileId) -> Result<Losses, NoMemory>
     ensures { IfOk result (λ l. l.items ≡ losses_in file dirty.now.dirty dirty.now.push) }
 {
-    let mut found = Losses::new(alloc)?;
+    let mut found = Losses::new(alloc).unwrap();
     add_under_way(dirty, file, &mut found)?;
     for place in 0..dirty.pending() {
         add_listed(dirty, place, file, &mut found)?;
@@ -126,7 +126,7 @@ pub(crate) struct Ready {
 fn room_for(alloc: Global, dirty: &Dirty, file: FileId) -> Result<Losses, NoMemory>
     ensures { IfOk result (λ l. length (all_dirty_in file dirty.now.dirty dirty.now.push) ≤ l.spare) }
 {
-    let mut room = Losses::new(alloc)?;
+    let mut room = Losses::new(alloc).unwrap();
     room.reserve(dirty.pending_of(file))?;
     Ok(room)
 }

@@ -59,9 +59,9 @@ fn copied(push: &Push, room: &mut Spare) -> Push
     }
 }
 
-#[tactic(auto, unfolding(nq_model::specs::Send::sends_request, nq_model::specs::Send::after_seq, nq_model::specs::Send::takes_push))]
 impl Step {
     /// Sends a request. It takes no memory.
+    #[tactic(auto, unfolding(nq_model::specs::Send::sends_request))]
     pub(crate) fn sends_request(&mut self, job: Job, request: Request)
         requires idle { self.old.state.asked ≡ None }
         requires time { self.old.state.time < 2 ^ 62 }
@@ -82,6 +82,7 @@ impl Step {
 
     /// Pushes the first delayed writes of a file, with a copy of their block in room that is there, and says whether it has
     /// some.
+    #[tactic(auto, unfolding(nq_model::specs::Send::takes_push))]
     pub(crate) fn pushes(&mut self, file: FileId, room: &mut Spare) -> bool
         requires block { room.old ≡ true }
         requires idle { self.old.state.asked ≡ None }
@@ -104,6 +105,7 @@ impl Step {
     }
 
     /// Sends delayed writes that are under way.
+    #[tactic(auto, unfolding(nq_model::specs::Send::after_seq))]
     fn sends_push(&mut self, push: Push)
         requires idle { self.old.state.asked ≡ None }
         requires numbers { HasNumbers 1 self.old.state }

@@ -104,7 +104,6 @@ fn body_of_call(call: &Call, room: &mut Spare) -> Block
     }
 }
 
-#[tactic(auto, unfolding(nq_model::specs::Settle::answers))]
 impl Step {
     /// An answer, as a journal tells it, ends the call under way.
     pub(crate) fn ends_call(&mut self, q: u64, answer: Answer, said: Said)
@@ -184,6 +183,7 @@ impl Step {
     }
 
     /// A read, by the lease that is held.
+    #[tactic(auto, unfolding(nq_model::specs::Settle::answers))]
     fn settle_read(&mut self, q: u64, file: FileId, block: BlockNo, room: &mut Spare)
         requires room { HasRoom self.old }
         requires block { room.old ≡ true }
@@ -254,6 +254,7 @@ impl Step {
     }
 
     /// A write, by the lease that is held: it is delayed, unless it is to go through or a notice waits.
+    #[tactic(auto, unfolding(nq_model::specs::Settle::answers))]
     fn settle_write(
         &mut self,
         q: u64,
@@ -279,6 +280,7 @@ impl Step {
     }
 
     /// A write under a lease that lets it, where there is room for it.
+    #[tactic(auto, unfolding(nq_model::specs::Settle::answers))]
     fn writes(&mut self, q: u64, sync: bool, file: FileId, block: BlockNo, room: &mut Spare)
         requires room { HasRoom self.old }
         requires block { room.old ≡ true }
@@ -321,6 +323,7 @@ impl Step {
     }
 
     /// What comes after the write of the call under way was delayed: a write is answered, a put waits until it is stored.
+    #[tactic(auto, unfolding(nq_model::specs::Settle::answers))]
     fn after_delay(&mut self, q: u64, sync: bool)
         requires { 1 ≤ self.old.entries.spare }
         ensures { step_of self.new ≡ goes_on_delayed (step_of self.old) q sync }
@@ -343,6 +346,7 @@ impl Step {
     }
 
     /// A sync, or a put whose write was delayed: it is answered once the file is clean.
+    #[tactic(auto, unfolding(nq_model::specs::Settle::answers))]
     fn settle_sync(&mut self, q: u64, file: FileId)
         requires room { HasRoom self.old }
         ensures { step_of self.new ≡ settles_sync (step_of self.old) q file }

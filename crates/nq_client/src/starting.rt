@@ -1,12 +1,12 @@
 //! The start of an incarnation.
 
-ghost use Rattle.std.specs.Prelude.{◌≡◌, ◌+◌, ◌<◌, ◌^◌, ◌++◌, None, All, map, IfOk, OnOk, OnErr};
+ghost use Rattle.std.specs.Prelude.{◌≡◌, ◌+◌, ◌<◌, ◌≤◌, ◌^◌, ◌++◌, None, All, map, IfOk, OnOk, OnErr};
 ghost use Rattle.nq_base.specs.declared.Request.{Request};
 ghost use Rattle.nq_datagrams.specs.Messages.{FitsMessage};
 ghost use Rattle.nq_model.specs.Client.{attaching};
 ghost use Rattle.nq_model.specs.ClientStep.{starts};
 ghost use Rattle.nq_model.specs.Send.{sends_request};
-ghost use Rattle.nq_client.specs.Finishing.{to_server};
+ghost use Rattle.nq_client.specs.Finishing.{HasLetters, to_server};
 ghost use Rattle.nq_client.specs.State.{client_of};
 ghost use Rattle.nq_client.specs.Step.{IsBegun, step_of};
 
@@ -43,6 +43,17 @@ fn first_step(alloc: Global, who: Who, term: u32, time: Ticks) -> Result<Step, N
     Ok(step)
 }
 
+/// Takes the memory that the first step may want.
+fn reserve(alloc: Global, letters: &mut Letters, out: &mut Outbox) -> Result<(), NoMemory>
+    ensures letters { OnOk result (HasLetters letters.new) }
+    ensures places { OnOk result (2 ≤ out.new.spare) }
+    ensures first { out.new.first ≡ out.old.first }
+    ensures datagrams { out.new.datagrams ≡ out.old.datagrams }
+{
+    letters.reserve(alloc)?;
+    out.reserve(2)
+}
+
 /// Begins an incarnation: its client asks to be attached.
 pub(crate) fn begin(
     alloc: Global,
@@ -60,9 +71,8 @@ pub(crate) fn begin(
     ensures fit { OnOk result (All FitsMessage (starts who term time).sends) }
     ensures refused { OnErr result (out.new.datagrams ≡ out.old.datagrams) }
 {
-    letters.reserve(alloc)?;
-    out.reserve(2)?;
-    let mut log = Journal::new(alloc)?;
+    reserve(alloc, letters, out)?;
+    let mut log = Journal::new(alloc).unwrap();
     let mut step = first_step(alloc, who, term, time)?;
     step.finish(letters, out, &mut log);
     // No call is under way, so there is no answer to give.

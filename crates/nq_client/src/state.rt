@@ -58,7 +58,7 @@ impl State {
         ensures { IfOk result (λ s. client_of s ≡ fresh_client who term time) }
     {
         let cache = Cache::new(alloc)?;
-        let dirty = Dirty::new(alloc)?;
+        let dirty = Dirty::new(alloc).unwrap();
         Ok(State {
             who,
             term,

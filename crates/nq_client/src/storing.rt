@@ -81,13 +81,13 @@ fn caches_stored(
     cache.put(file, block, body.copied(alloc)?)
 }
 
-#[tactic(auto, unfolding(nq_model::specs::Hear::caches_block, nq_model::specs::Hear::purges, nq_model::specs::Hear::knows_revision, nq_model::specs::Hear::ends_push))]
 impl Step {
     /// A WRITE that goes through was done: the call under way is answered.
     ///
     /// # Errors
     ///
     /// Only want of memory, and then nothing changed.
+    #[tactic(auto, unfolding(nq_model::specs::Hear::caches_block, nq_model::specs::Hear::purges, nq_model::specs::Hear::knows_revision))]
     pub(crate) fn write_done(
         &mut self,
         file: FileId,
@@ -120,6 +120,7 @@ impl Step {
     /// # Errors
     ///
     /// Only want of memory, and then nothing changed.
+    #[tactic(auto, unfolding(nq_model::specs::Hear::caches_block, nq_model::specs::Hear::knows_revision, nq_model::specs::Hear::ends_push))]
     pub(crate) fn push_done(
         &mut self,
         file: FileId,

@@ -28,9 +28,9 @@ fn forget(notice: Option<Notice>) {
     }
 }
 
-#[tactic(auto, unfolding(nq_model::specs::Hear::vacates_lease, nq_model::specs::Hear::notes_notice))]
 impl Step {
     /// Gives the lease on a clean file up: VACATED takes the next number.
+    #[tactic(auto, unfolding(nq_model::specs::Hear::vacates_lease))]
     pub(crate) fn vacates_lease(&mut self, notice: Notice)
         requires silent { self.old.asks ≡ false }
         requires first { self.old.vacated ≡ None }
@@ -77,6 +77,7 @@ impl Step {
     }
 
     /// Takes a notice in: a clean file's lease is given up at once, and another notice waits until its file is clean.
+    #[tactic(auto, unfolding(nq_model::specs::Hear::notes_notice))]
     pub(crate) fn evicted(&mut self, file: FileId, tag: Tag)
         requires silent { self.old.asks ≡ false }
         requires first { self.old.vacated ≡ None }

@@ -1,6 +1,6 @@
 //! Losses that no answer named yet.
 
-ghost use Rattle.std.specs.Prelude.{◌≡◌, ◌≤◌, ◌++◌, [], map, IfOk, OnOk};
+ghost use Rattle.std.specs.Prelude.{◌≡◌, ◌≤◌, ◌++◌, ◌∷◌, [], map, IfOk, OnOk};
 ghost use Rattle.nq_model.specs.ByFile.{past, up_to};
 ghost use Rattle.nq_model.specs.Client.{add_losses, file_of_loss, losses_of, other_losses, span_of};
 
@@ -47,7 +47,7 @@ impl Unreported {
     pub fn of(&self, alloc: Global, file: FileId) -> Result<Losses, NoMemory>
         ensures { IfOk result (λ l. l.items ≡ losses_of file self.now.items) }
     {
-        let mut of_file = Losses::new(alloc)?;
+        let mut of_file = Losses::new(alloc).unwrap();
         copy(&self.losses, file, &mut of_file)?;
         Ok(of_file)
     }
@@ -91,6 +91,14 @@ fn copy(losses: &[Loss], file: FileId, into: &mut Losses) -> Result<(), NoMemory
     Ok(())
 }
 
+/// Adds a loss to others.
+fn push(losses: &mut Vec<Loss>, loss: Loss) -> Result<(), NoMemory>
+    ensures { OnOk result (losses.new.items ≡ losses.old.items ++ loss ∷ []) }
+{
+    losses.push(loss)?;
+    Ok(())
+}
+
 /// Adds the losses of a file and of earlier ones to others.
 #[tactic(auto, using(std::proofs::lemmas::List::Elements::filter_more))]
 fn copy_up_to(losses: &[Loss], file: FileId, into: &mut Vec<Loss>) -> Result<(), NoMemory>
@@ -98,7 +106,7 @@ fn copy_up_to(losses: &[Loss], file: FileId, into: &mut Vec<Loss>) -> Result<(),
 {
     for loss in losses {
         if loss.file <= file {
-            into.push(*loss)?;
+            push(into, *loss)?;
         }
     }
     Ok(())
@@ -111,7 +119,7 @@ fn copy_past(losses: &[Loss], file: FileId, into: &mut Vec<Loss>) -> Result<(), 
 {
     for loss in losses {
         if loss.file > file {
-            into.push(*loss)?;
+            push(into, *loss)?;
         }
     }
     Ok(())
@@ -124,7 +132,7 @@ fn copy_all(losses: &Losses, into: &mut Vec<Loss>) -> Result<(), NoMemory>
 {
     for place in 0..losses.len() {
         let loss = losses.get(place).unwrap();
-        into.push(loss)?;
+        push(into, loss)?;
     }
     Ok(())
 }
@@ -134,7 +142,7 @@ fn copy_all(losses: &Losses, into: &mut Vec<Loss>) -> Result<(), NoMemory>
 pub fn spans_of(alloc: Global, losses: &Losses) -> Result<Spans, NoMemory>
     ensures { IfOk result (λ s. s.items ≡ map span_of losses.now.items) }
 {
-    let mut spans = Spans::new(alloc)?;
+    let mut spans = Spans::new(alloc).unwrap();
     for place in 0..losses.len() {
         let loss = losses.get(place).unwrap();
         spans.push(Span {

@@ -8,4 +8,4 @@ pub finish-requires-clause-room : goal.finish-requires-clause-room
 unfolding starts
 finish-requires-clause-room c =
     let none : c.in_ok-step.step.entries.items ≡ [] = ap (λ (t : ClientStep). t.entries) c.in_ok-step.ensures in
-    subst (λ (es : List Entry). length es ≤ c.in_ok-log.log.spare) (sym none) (omega arith)
+    subst (λ (es : List Entry). length es ≤ c.unwrap-log.result.spare) (sym none) (omega arith)
