@@ -6,7 +6,7 @@ ghost use Rattle.nq_disk.specs.Bytes.{AreBytes};
 ghost use Rattle.nq_disk.specs.Calling.{Counts, LeavesNoMore, LeavesTorn, ReadsFront, IsAllThatIsLeft, Writes};
 
 /// Why a disk did not do what it was asked.
-#[derive(Clone, Copy, Debug, PartialEq, Eq)]
+#[derive(Clone, Copy)]
 pub enum DiskFault {
     /// A fault, which the disk has counted.
     Failed,

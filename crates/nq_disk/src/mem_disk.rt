@@ -17,7 +17,7 @@ use std::marker::Model;
 use std::snapshot::Snapshot;
 
 /// How much a disk in memory takes: the most bytes that it has, the most calls, and the most bytes written in all.
-#[derive(Clone, Copy, Debug, PartialEq, Eq)]
+#[derive(Clone, Copy)]
 pub struct Room {
     pub size: u64,
     pub calls: u32,

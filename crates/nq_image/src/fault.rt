@@ -8,7 +8,7 @@ use std::alloc::{AllocError, AllocFailed};
 use std::marker::Model;
 
 /// A field of an image is wrong: the place of its first byte. Clauses see it as that number.
-#[derive(Clone, Copy, Debug, PartialEq, Eq)]
+#[derive(Clone, Copy)]
 pub struct WrongField(pub u64);
 
 impl Model for WrongField {
@@ -22,7 +22,7 @@ impl Model for WrongField {
 }
 
 /// Why an image was not read.
-#[derive(Clone, Copy, Debug, PartialEq, Eq)]
+#[derive(Clone, Copy)]
 pub enum ImageFault {
     /// The bytes are too few, or their first eight are not those of an image.
     NotAnImage,

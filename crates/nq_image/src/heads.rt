@@ -2,14 +2,14 @@
 
 ghost use Rattle.std.specs.Prelude.{◌≡◌, ◌≤◌, IfOk, length};
 ghost use Rattle.nq_image.specs.Check.{tested};
-ghost use Rattle.nq_image.specs.Heads.{boots_checks, boots_of, front_checks, front_of, version_of as version_at};
+ghost use Rattle.nq_image.specs.Heads.{boots_checks, boots_of, front_checks, front_of, is_next as is_next_of, is_term as is_term_of, version_of as version_at};
 
 use crate::fault::WrongField;
 use crate::fields::{are_zeros, word_in};
 use crate::rows::Version;
 
 /// The numbers of the server in an image of version 1.
-#[derive(Clone, Copy, PartialEq, Eq)]
+#[derive(Clone, Copy)]
 pub struct Boots {
     /// The number of the last boot, below 2^31.
     pub boot: u32,
@@ -18,7 +18,7 @@ pub struct Boots {
 }
 
 /// The numbers of the server in an image of version 2, and where its tables are.
-#[derive(Clone, Copy, PartialEq, Eq)]
+#[derive(Clone, Copy)]
 pub struct Front {
     /// The number of the last boot, below 2^31.
     pub boot: u32,
@@ -68,6 +68,20 @@ pub fn read_boots(front: &[u8]) -> Result<Boots, WrongField>
     Ok(Boots { boot, opened })
 }
 
+/// Whether a term is from 5 to 600 ticks.
+fn is_term(term: u32) -> bool
+    ensures { result ≡ is_term_of term }
+{
+    (5..=600).contains(&term)
+}
+
+/// Whether an id is from 1 to 2^31.
+fn is_next(next: u32) -> bool
+    ensures { result ≡ is_next_of next }
+{
+    (1..=0x8000_0000).contains(&next)
+}
+
 /// The numbers in the first 64 bytes of an image of version 2.
 ///
 /// # Errors
@@ -88,11 +102,11 @@ pub fn read_front(front: &[u8]) -> Result<Front, WrongField>
         return Err(WrongField(12));
     }
     let longest = word_in(front, 16);
-    if !(5..=600).contains(&longest) {
+    if !is_term(longest) {
         return Err(WrongField(16));
     }
     let next = word_in(front, 20);
-    if !(1..=0x8000_0000).contains(&next) {
+    if !is_next(next) {
         return Err(WrongField(20));
     }
     let tables = word_in(front, 24);

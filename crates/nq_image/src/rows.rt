@@ -31,7 +31,7 @@ use nq_base::{Name, Rev};
 use std::alloc::Global;
 
 /// The versions of an image: which one it is stands in its eighth byte.
-#[derive(Clone, Copy, PartialEq, Eq)]
+#[derive(Clone, Copy)]
 pub enum Version {
     /// Files stand one behind another; a file's first block is in its row.
     One,

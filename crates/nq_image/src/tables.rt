@@ -4,7 +4,7 @@ ghost use Rattle.std.specs.Prelude.{◌≡◌, ◌<◌, ◌≤◌, ◌+◌, ◌^
 ghost use Rattle.nq_image.specs.Check.{tested};
 ghost use Rattle.nq_image.specs.Reading.{Reads};
 ghost use Rattle.nq_image.specs.Rows.{blocks_of as blocks_in};
-ghost use Rattle.nq_image.specs.Tables.{is_entry, marks_behind, slot_checks, slot_marks, slot_table, table_checks, table_of, tables_blocks, tables_checks, tables_marks};
+ghost use Rattle.nq_image.specs.Tables.{is_entry, is_of_tables, marks_behind, slot_checks, slot_marks, slot_table, table_checks, table_of, tables_blocks, tables_checks, tables_marks};
 
 use crate::fault::ImageFault;
 use crate::fields::{are_zeros, piece, word_in};
@@ -16,6 +16,14 @@ pub const PHYSICAL_BLOCKS: u32 = 16641;
 
 /// How many blocks the tables have: one for each file row, and one for the ids.
 pub const TABLE_BLOCKS: u32 = 257;
+
+/// Whether a block is one of the tables'.
+fn is_of_tables(tables: u32, block: u32) -> bool
+    requires { tables ≤ 16384 }
+    ensures { result ≡ is_of_tables tables block }
+{
+    tables <= block && block < tables + TABLE_BLOCKS
+}
 
 /// The physical block that an entry of a table names; None where the entry is wrong.
 #[tactic(auto, unfolding(crate::specs::Tables::is_entry))]
@@ -29,7 +37,7 @@ fn block_of(entry: u32, tables: u32, marks: &[bool]) -> Option<u32>
         return None;
     }
     let block = entry - 1;
-    if (tables..tables + TABLE_BLOCKS).contains(&block) {
+    if is_of_tables(tables, block) {
         return None;
     }
     if marks[block as usize] {

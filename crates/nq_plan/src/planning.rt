@@ -1,6 +1,6 @@
 //! A change as the ranges of one batch. All memory that it wants is taken here.
 
-ghost use Rattle.std.specs.Prelude.{◌≡◌, ◌<◌, ◌≤◌, ◌+◌, ◌++◌, IfOk, IsSome, OnOk, length, slice_get};
+ghost use Rattle.std.specs.Prelude.{◌≡◌, ◌<◌, ◌≤◌, ◌+◌, [], ◌++◌, IfOk, IsSome, OnOk, length, slice_get};
 ghost use Rattle.std.specs.Option.{ForSome};
 ghost use Rattle.nq_plan.specs.Placing.{IsPlacedFor};
 ghost use Rattle.nq_plan.specs.Ranges.{blocks_then, body_ranges, placed_ranges, ranges_of, removed_ranges};
@@ -121,6 +121,26 @@ impl Tables {
         }
     }
 
+    /// Adds all that a change writes to a batch that has no ranges yet.
+    fn add_all(
+        &self,
+        batch: &mut Batch,
+        alloc: Global,
+        change: &Change,
+        placed: &Option<Placed>,
+    ) -> Result<(), NoMemory>
+        requires none { batch.old ≡ [] }
+        requires host { ForSome change.now.host (λ h. h.host < 64) }
+        requires placed { IsPlacedFor self.now change.now.file placed.now }
+        ensures { OnOk result (batch.new ≡ ranges_of self.now.standing change.now placed.now) }
+    {
+        add_heads(batch, alloc, &change.heads)?;
+        add_host(batch, alloc, &change.host)?;
+        self.add_placed(batch, alloc, &change.file, placed)?;
+        self.add_block(batch, alloc, &change.block, placed)?;
+        self.add_removed(batch, change.removed)
+    }
+
     /// What a change writes. A block that its file has not, and a file for which there is no room, is answered as want of memory.
     ///
     /// # Errors
@@ -133,11 +153,7 @@ impl Tables {
     {
         let placed = self.place_if(alloc, &change.file)?;
         let mut batch = Batch::new(alloc)?;
-        add_heads(&mut batch, alloc, &change.heads)?;
-        add_host(&mut batch, alloc, &change.host)?;
-        self.add_placed(&mut batch, alloc, &change.file, &placed)?;
-        self.add_block(&mut batch, alloc, &change.block, &placed)?;
-        self.add_removed(&mut batch, change.removed)?;
+        self.add_all(&mut batch, alloc, change, &placed)?;
         Ok(Plan { batch, placed })
     }
 }

@@ -1,7 +1,7 @@
 //! Where a redo record stands.
 
 /// Where a redo record stands on a disk.
-#[derive(Clone, Copy, Debug, PartialEq, Eq)]
+#[derive(Clone, Copy)]
 pub struct Area {
     /// Its first byte, the gate.
     pub place: u64,
