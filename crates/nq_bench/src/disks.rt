@@ -12,14 +12,13 @@ const BLOCK: usize = 4096;
 
 /// Four writes and syncs, as many and as long as those of a change of a block.
 fn write_bare<D: Disk>(disk: &mut D, record: &[u8], block: &[u8]) -> Option<()> {
-    disk.write_at(28673, record).ok()?;
-    disk.sync().ok()?;
-    disk.write_at(28672, &[1]).ok()?;
-    disk.sync().ok()?;
-    disk.write_at(40960, block).ok()?;
-    disk.sync().ok()?;
-    disk.write_at(28672, &[0]).ok()?;
-    disk.sync().ok()
+    let on: &[u8] = &[1];
+    let off: &[u8] = &[0];
+    for (place, bytes) in [(28673, record), (28672, on), (40960, block), (28672, off)] {
+        disk.write_at(place, bytes).ok()?;
+        disk.sync().ok()?;
+    }
+    Some(())
 }
 
 fn bare<D: Disk>(alloc: Global, disk: &mut D, times: u32) -> Option<u64> {
@@ -46,15 +45,16 @@ fn fresh<D: Disk + Drop>(alloc: Global, disk: D) -> Option<Store<D>> {
     Store::open(alloc, disk).ok()
 }
 
-fn opens_full<D: Disk + Drop>(alloc: Global, disk: D, times: u32) -> Option<u64> {
-    let mut store = fresh(alloc, disk)?;
-    fill(&mut store)?;
-    opens(alloc, store.into_disk(), times)
-}
-
 fn keeps<D: Disk + Drop>(alloc: Global, disk: D, deed: Deed, times: u32) -> Option<u64> {
     let mut store = fresh(alloc, disk)?;
-    over(&mut store, deed, times)
+    match deed {
+        Deed::Open => opens(alloc, store.into_disk(), times),
+        Deed::OpenFull => {
+            fill(&mut store)?;
+            opens(alloc, store.into_disk(), times)
+        }
+        _ => over(&mut store, deed, times),
+    }
 }
 
 /// Does one thing so many times with a disk.
@@ -62,9 +62,6 @@ pub(crate) fn often<D: Disk + Drop>(alloc: Global, disk: D, deed: Deed, times: u
     let mut disk = disk;
     match deed {
         Deed::Bare => bare(alloc, &mut disk, times),
-        Deed::Open => opens(alloc, fresh(alloc, disk)?.into_disk(), times),
-        Deed::OpenFull => opens_full(alloc, disk, times),
-        Deed::OpenThere => opens(alloc, disk, times),
-        Deed::Commit | Deed::Read => keeps(alloc, disk, deed, times),
+        _ => keeps(alloc, disk, deed, times),
     }
 }
