@@ -113,12 +113,14 @@ impl Disk for NotingDisk {
     ghost joins = { left-joins };
 
     fn size(&mut self) -> Result<u64, DiskFault> {
-        self.note(self.writes.len());
+        let before = self.writes.len();
+        self.note(before);
         self.disk.size()
     }
 
     fn read(&mut self, place: u64, into: &mut [u8]) -> Result<usize, DiskFault> {
-        self.note(self.writes.len());
+        let before = self.writes.len();
+        self.note(before);
         self.disk.read(place, into)
     }
 
@@ -128,7 +130,8 @@ impl Disk for NotingDisk {
     }
 
     fn sync(&mut self) -> Result<(), DiskFault> {
-        self.note(self.writes.len());
+        let before = self.writes.len();
+        self.note(before);
         self.settled = self.writes.len();
         self.disk.sync()
     }

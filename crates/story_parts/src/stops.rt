@@ -106,7 +106,8 @@ impl Bench {
 
     /// Begins with a server that boots over a disk of the image that was kept.
     pub(crate) fn serve(&mut self, alloc: Global) {
-        self.begin(alloc, copy_of(alloc, &self.kept), true);
+        let image = copy_of(alloc, &self.kept);
+        self.begin(alloc, image, true);
     }
 
     /// Has an event come to the server, and tells the answer.
@@ -120,7 +121,8 @@ impl Bench {
         let alloc = rt.alloc();
         let (name, words) = cut(rest);
         if matches!(name, "migration" | "boot") {
-            self.begin(alloc, copy_of(alloc, &self.image), name == "boot");
+            let image = copy_of(alloc, &self.image);
+            self.begin(alloc, image, name == "boot");
             self.values = u64::from_str_radix(words, 10).ok();
             self.after = reopened(alloc, &self.image);
         } else if name.starts_with("tick") {
@@ -237,8 +239,8 @@ fn write_over(into: &mut Vec<u8>, place: usize, bytes: &[u8]) {
     if into.len() < end {
         into.resize(end, 0).ok();
     }
-    for (own, byte) in into.iter_mut().skip(place).zip(bytes) {
-        *own = *byte;
+    if place <= end && end <= into.len() && end - place == bytes.len() {
+        into[place..end].copy_from_slice(bytes);
     }
 }
 
