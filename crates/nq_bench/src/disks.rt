@@ -10,22 +10,26 @@ const RECORD: usize = 4352;
 
 const BLOCK: usize = 4096;
 
-/// Four writes and syncs, as many and as long as those of a change of a block.
-fn write_bare<D: Disk>(disk: &mut D, record: &[u8], block: &[u8]) -> Option<()> {
-    let on: &[u8] = &[1];
-    let off: &[u8] = &[0];
-    for (place, bytes) in [(28673, record), (28672, on), (40960, block), (28672, off)] {
-        disk.write_at(place, bytes).ok()?;
-        disk.sync().ok()?;
-    }
-    Some(())
+/// Writes and syncs, and says whether both were done.
+fn write_once<D: Disk>(disk: &mut D, place: u64, bytes: &[u8]) -> bool {
+    disk.write_at(place, bytes).is_ok() && disk.sync().is_ok()
+}
+
+/// Four writes and syncs, as many and as long as those of a change of a block. Says whether all were done.
+fn write_bare<D: Disk>(disk: &mut D, record: &[u8], block: &[u8]) -> bool {
+    write_once(disk, 28673, record)
+        && write_once(disk, 28672, &[1])
+        && write_once(disk, 40960, block)
+        && write_once(disk, 28672, &[0])
 }
 
 fn bare<D: Disk>(alloc: Global, disk: &mut D, times: u32) -> Option<u64> {
     let record = vec![in alloc; 7; RECORD].ok()?;
     let block = vec![in alloc; 7; BLOCK].ok()?;
     for _ in 0..times {
-        write_bare(disk, &record, &block)?;
+        if !write_bare(disk, &record, &block) {
+            return None;
+        }
     }
     Some(u64::from(times))
 }

@@ -19,8 +19,9 @@
 //! `stopped migration N` opens a disk of the image, and `stopped boot N` boots a server over one in memory, `stopped boot file` over one in a
 //! file. `stopped NAME BYTES` hands that server a datagram of host 5, and `stopped tick-NAME TIME` ticks its clock. Each of these is stopped at
 //! each call that it makes of the disk. What a stop may leave is opened again: it keeps what was kept before or what is kept after it, and how
-//! often which of them is printed. A file is closed at the stop. Of a disk in memory each subset of the writes since the last sync may have come,
-//! each write may be torn, and in place of a single byte there may be any; N of them are tried. Then the image is what the disk has behind it.
+//! often which of them is printed. A file has what was written before the call. Of a disk in memory each subset of the writes since the last sync may have
+//! come, each write may be torn, and in place of a single byte there may be any; N of them are tried. Then the image is what the disk has behind it.
+//! Where memory is wanting something is left out of what is printed.
 //!
 //! A line that begins with `machine` says which part of the machine is tried: its clock, what comes over UDP, or a disk in one of its files.
 #![tactic(auto)]
