@@ -58,10 +58,10 @@ impl Extent {
     }
 
     /// The file and the block that come at this place, where the files take turns.
-    fn at(self, place: u32) -> Option<(FileId, BlockNo)> {
-        let file = place.checked_rem(self.files)?;
-        let block = place.checked_div(self.files)?;
-        Some((FileId(file), BlockNo(block)))
+    fn at(self, place: u32) -> (FileId, BlockNo) {
+        let file = place.checked_rem(self.files).unwrap_or(0);
+        let block = place.checked_div(self.files).unwrap_or(0);
+        (FileId(file), BlockNo(block))
     }
 
     /// The place behind this one, or the first.
@@ -96,8 +96,8 @@ fn filled_and_used(
     extent: Extent,
     times: u64,
 ) -> Option<u64> {
-    let mut desk = Desk::new(alloc)?;
-    desk.fill(client, act, extent)?;
+    let mut desk = Desk::new(alloc);
+    desk.fill(client, act, extent);
     match act {
         Act::ReadCached => read_cached_often(alloc, client, extent, times),
         Act::Read | Act::Write => desk.call_often(client, act, extent, times),
@@ -105,26 +105,30 @@ fn filled_and_used(
 }
 
 impl Desk {
-    fn new(alloc: Global) -> Option<Desk> {
-        Some(Desk {
+    fn new(alloc: Global) -> Desk {
+        Desk {
             alloc,
-            out: Outbox::new(alloc, 0).ok()?,
-            log: Journal::new(alloc).ok()?,
-        })
+            out: Outbox::new(alloc, 0).unwrap(),
+            log: Journal::new(alloc).unwrap(),
+        }
     }
 
     /// Has each file held and each block read or written once. The server answers what is asked on the way.
-    fn fill(&mut self, client: &mut Client, act: Act, extent: Extent) -> Option<()> {
+    fn fill(&mut self, client: &mut Client, act: Act, extent: Extent) {
         for place in 0..extent.files.max(extent.there) {
-            let (file, block) = extent.at(place)?;
+            let (file, block) = extent.at(place);
             if let Answer::Pending = self.call(client, act, file, block) {
-                let reply = reply(act, place);
-                let xid = place.wrapping_add(1);
-                let bytes = reply_bytes(self.alloc, xid, &reply).ok()?;
-                client.receive(u64::from(place), &bytes, &mut self.out, &mut self.log);
+                self.answer(client, act, place);
             }
         }
-        Some(())
+    }
+
+    /// Has the server answer what was asked at this place.
+    fn answer(&mut self, client: &mut Client, act: Act, place: u32) {
+        let xid = place.wrapping_add(1);
+        if let Ok(bytes) = reply_bytes(self.alloc, xid, &reply(act, place)) {
+            client.receive(u64::from(place), &bytes, &mut self.out, &mut self.log);
+        }
     }
 
     fn call_often(
@@ -138,9 +142,9 @@ impl Desk {
         let mut place: u32 = 0;
         for time in 0..times {
             if time % CALLS == 0 {
-                self.log = Journal::new(self.alloc).ok()?;
+                self.log = Journal::new(self.alloc).unwrap();
             }
-            let (file, block) = extent.at(place)?;
+            let (file, block) = extent.at(place);
             sum = sum.wrapping_add(told(&self.call(client, act, file, block))?);
             place = extent.next(place);
         }
@@ -163,7 +167,7 @@ fn read_cached_often(
     let mut sum: u64 = 0;
     let mut place: u32 = 0;
     for _ in 0..times {
-        let (file, block) = extent.at(place)?;
+        let (file, block) = extent.at(place);
         room.reserve(alloc).ok()?;
         let body = client.read_cached(file, block, &mut room)?;
         sum = sum.wrapping_add(u64::from(body.value()));

@@ -20,8 +20,12 @@ pub(crate) fn often(alloc: Global, way: &str, times: u64) -> Option<u64> {
         _ => return None,
     };
     let cache = listed(alloc, count)?;
-    let names = names(alloc, count)?;
-    Some(find_often(&cache, &names, times))
+    let sum = find_often(&cache, &names(alloc, count), times);
+    if sum > 0 || times == 0 {
+        Some(sum)
+    } else {
+        None
+    }
 }
 
 /// Adds up the ids of the files that are found.
@@ -49,12 +53,14 @@ fn id_found(cache: &NameCache, name: &Name) -> u64 {
 }
 
 /// So many names.
-fn names(alloc: Global, count: u32) -> Option<Vec<Name>> {
+fn names(alloc: Global, count: u32) -> Vec<Name> {
     let mut names = Vec::new(alloc);
     for number in 0..count {
-        names.push(name_of(number)?).ok()?;
+        if let Some(name) = name_of(number) {
+            names.push(name).ok();
+        }
     }
-    Some(names)
+    names
 }
 
 /// The name of this number: a letter and three digits.
@@ -74,32 +80,32 @@ fn listed(alloc: Global, count: u32) -> Option<NameCache> {
         host: Host(0),
         inc: Inc(1),
     };
-    let mut cache = NameCache::new(alloc, who);
     let prefix = Prefix::new(b"")?;
-    let _request = cache.list(alloc, &prefix, TERM, Ticks(0)).ok()?;
+    let mut cache = NameCache::new(alloc, who);
+    cache.list(alloc, &prefix, TERM, Ticks(0)).ok();
     for page in 0..count.div_ceil(MOST_NAMES) {
-        let bytes = page_bytes(alloc, page, count)?;
-        let _next = cache.heard(alloc, &bytes, TERM, Ticks(0)).ok()?;
+        if let Some(bytes) = page_bytes(alloc, page, count) {
+            cache.heard(alloc, &bytes, TERM, Ticks(0)).ok();
+        }
     }
     Some(cache)
 }
 
 /// The reply with the page of this number.
 fn page_bytes(alloc: Global, page: u32, count: u32) -> Option<Vec<u8>> {
-    let first = page.checked_mul(MOST_NAMES)?;
+    let first = page.saturating_mul(MOST_NAMES);
     let end = first.saturating_add(MOST_NAMES).min(count);
     let mut entries = Vec::new(alloc);
     for number in first..end {
-        let entry = FileName {
-            file: FileId(number.checked_add(1)?),
-            name: name_of(number)?,
-        };
-        entries.push(entry).ok()?;
+        if let Some(name) = name_of(number) {
+            let file = FileId(number.wrapping_add(1));
+            entries.push(FileName { file, name }).ok();
+        }
     }
     if entries.len() > MOST_NAMES as usize {
         return None;
     }
-    let number = FIRST_NUMBER.checked_add(page)?;
+    let number = FIRST_NUMBER.wrapping_add(page);
     let begun = BegunPage::new(alloc, number, 1, &entries, end < count).ok()?;
     Some(begun.end(&Some(grant(page))))
 }

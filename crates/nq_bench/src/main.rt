@@ -4,7 +4,7 @@
 //! 512, the blocks read or written, or with 1-1-of-512; `find` with 1 or 256, the names that a host keeps;
 //! `server-lookup`, `server-read`, `server-read-wanted`, `server-write` or `server-push` with 1-1, 256-1 or 256-2048, the
 //! files and the rows of the server; or `store-commit` or `store-read` with `list`, `memory` or the path of a file, where is kept
-//! what a server keeps, and `store-bare`, `store-open`, `store-open-full` or `store-open-there` with `memory` or the path of a file.
+//! what a server keeps, and `store-bare`, `store-open` or `store-open-full` with `memory` or the path of a file.
 #![tactic(auto)]
 
 mod clients;
@@ -56,7 +56,6 @@ fn deed_of(what: &str) -> Option<Deed> {
         "store-bare" => Some(Deed::Bare),
         "store-open" => Some(Deed::Open),
         "store-open-full" => Some(Deed::OpenFull),
-        "store-open-there" => Some(Deed::OpenThere),
         _ => None,
     }
 }

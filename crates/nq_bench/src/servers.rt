@@ -72,19 +72,21 @@ impl Extent {
     }
 }
 
-/// A server, with what it is lent.
+/// A server, with what it is lent, and whether it answered OK each time.
 #[derive(Drop)]
 struct Desk {
     alloc: Global,
     server: Server<ListKeeper>,
+    out: Outbox,
     log: Journal,
+    is_well: bool,
 }
 
 /// Asks one thing so many times; None where there is no such word, memory is wanting, or the server does not answer OK.
 pub(crate) fn often(alloc: Global, ask: Ask, way: &str, times: u64) -> Option<u64> {
     let extent = Extent::of(way)?;
     let mut desk = Desk::new(alloc)?;
-    desk.fill(ask, extent)?;
+    desk.fill(ask, extent);
     desk.ask_often(ask, times)
 }
 
@@ -94,41 +96,46 @@ impl Desk {
         Some(Desk {
             alloc,
             server: Server::boot(alloc, keeper, LONGEST, Ticks(0)).ok()?,
-            log: Journal::new(alloc).ok()?,
+            out: Outbox::new(alloc, 0).unwrap(),
+            log: Journal::new(alloc).unwrap(),
+            is_well: true,
         })
     }
 
     /// Makes the files and the rows.
-    fn fill(&mut self, ask: Ask, extent: Extent) -> Option<()> {
+    fn fill(&mut self, ask: Ask, extent: Extent) {
         for host in 0..64 {
-            self.ask_once(&Request::Attach { who: who(host) })?;
+            self.ask_once(&Request::Attach { who: who(host) });
         }
         for number in 1..=extent.files {
-            self.ask_once(&create(number)?)?;
-        }
-        self.ask_once(&lease(ASKER, 1, mode_of(ask)))?;
-        for place in 0..extent.shared {
-            for host in 0..extent.holders {
-                self.lease_beside(host, extent.files.wrapping_sub(place))?;
+            if let Some(request) = create(number) {
+                self.ask_once(&request);
             }
         }
-        Some(())
+        self.ask_once(&lease(ASKER, 1, mode_of(ask)));
+        for place in 0..extent.shared {
+            for host in 0..extent.holders {
+                self.lease_beside(host, extent.files.wrapping_sub(place));
+            }
+        }
     }
 
     /// Has a host hold one more reading lease, as far as the table has room.
-    fn lease_beside(&mut self, host: u32, file: u32) -> Option<()> {
+    fn lease_beside(&mut self, host: u32, file: u32) {
         if self.server.table().len() < 2048 {
-            self.ask_once(&lease(host, file, Mode::Reading))?;
+            self.ask_once(&lease(host, file, Mode::Reading));
         }
-        Some(())
     }
 
-    fn ask_once(&mut self, request: &Request) -> Option<u64>
+    fn ask_once(&mut self, request: &Request)
         requires { HasSpelling request.now }
     {
-        let datagram = call_bytes(self.alloc, 1, request).ok()?;
-        let mut out = Outbox::new(self.alloc, 0).ok()?;
-        self.take_in(host_of(request), &datagram, &mut out)
+        match call_bytes(self.alloc, 1, request) {
+            Ok(datagram) => {
+                self.take_in(host_of(request), &datagram);
+            }
+            Err(_) => self.is_well = false,
+        }
     }
 
     /// Asks again and again. Where requests have a sequence, it rises by one each time, and so does the revision of the file.
@@ -136,36 +143,37 @@ impl Desk {
         let mut datagram = call_bytes(self.alloc, 1, &request(ask)?).ok()?;
         let mut sum: u64 = 0;
         let mut asked: u32 = 0;
-        let mut out = Outbox::new(self.alloc, 0).ok()?;
         for time in 0..times {
             if time % REQUESTS == 0 {
-                self.log = Journal::new(self.alloc).ok()?;
+                self.log = Journal::new(self.alloc).unwrap();
             }
             number(&mut datagram, ask, asked);
             asked = asked.wrapping_add(1);
-            out.cut(0);
-            sum = sum.wrapping_add(self.take_in(ASKER, &datagram, &mut out)?);
+            sum = sum.wrapping_add(self.take_in(ASKER, &datagram));
         }
-        Some(sum)
+        if self.is_well { Some(sum) } else { None }
     }
 
-    /// How many bytes the server answers, where it answers OK.
-    fn take_in(&mut self, host: u32, datagram: &[u8], out: &mut Outbox) -> Option<u64> {
-        match self
+    /// How many bytes the server answers.
+    fn take_in(&mut self, host: u32, datagram: &[u8]) -> u64 {
+        self.out.cut(0);
+        let host = Host(host);
+        let received = self
             .server
-            .receive(self.alloc, Host(host), datagram, out, &mut self.log)
-        {
-            Received::Done => answered(out),
-            _ => None,
+            .receive(self.alloc, host, datagram, &mut self.out, &mut self.log);
+        let answered = answered(&self.out);
+        if received != Received::Done || answered == 0 {
+            self.is_well = false;
         }
+        answered
     }
 }
 
-/// How many bytes the one datagram that was sent has, where it says OK.
-fn answered(out: &Outbox) -> Option<u64> {
+/// How many bytes the one datagram that was sent has; 0 where it does not say OK.
+fn answered(out: &Outbox) -> u64 {
     match out.get(0) {
-        Some((_, bytes)) if says_ok(bytes) => Some(bytes.len() as u64),
-        _ => None,
+        Some((_, bytes)) if says_ok(bytes) => bytes.len() as u64,
+        _ => 0,
     }
 }
 

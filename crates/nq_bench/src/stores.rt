@@ -47,8 +47,6 @@ pub(crate) enum Deed {
     Open,
     /// The opening of the largest image.
     OpenFull,
-    /// The opening of what stands on the disk.
-    OpenThere,
 }
 
 /// Does one thing so many times, with lists, with a disk in memory, or with the file at this path; None where that cannot be done
@@ -98,14 +96,14 @@ fn value_of(decided: &Decided) -> Option<u64> {
     }
 }
 
-fn attach<K: Keeper>(keeper: &mut K) -> Option<u64> {
+/// Has the asker attach. What it asks is refused where that failed.
+fn attach<K: Keeper>(keeper: &mut K) {
     let request = Request::Attach { who: ASKER };
-    let decided = decide(keeper, request, SERVING).ok()?;
-    value_of(&decided)
+    decide(keeper, request, SERVING).ok();
 }
 
-/// Makes a file, and says its id.
-fn create<K: Keeper>(keeper: &mut K, number: u32, blocks: u32) -> Option<FileId> {
+/// Makes a file, and says its id. The first one has the id 1.
+fn create<K: Keeper>(keeper: &mut K, number: u32, blocks: u32) -> Option<u64> {
     let letter = [b'a' + (number % 26) as u8];
     let request = Request::Create {
         who: ASKER,
@@ -114,16 +112,16 @@ fn create<K: Keeper>(keeper: &mut K, number: u32, blocks: u32) -> Option<FileId>
         blocks,
     };
     let decided = decide(keeper, request, SERVING).ok()?;
-    Some(FileId(u32::try_from(value_of(&decided)?).ok()?))
+    value_of(&decided)
 }
 
-/// Writes the first block of a file.
-fn write<K: Keeper>(keeper: &mut K, file: FileId, turn: u32) -> Option<u64> {
+/// Writes the first block of the first file.
+fn write<K: Keeper>(keeper: &mut K, turn: u32) -> Option<u64> {
     let number = Number(u64::from(turn) + 1);
     let request = Request::Write {
         who: ASKER,
         seq: Seq(u64::from(turn) + 2),
-        file,
+        file: FileId(1),
         block: BlockNo(0),
         first: number,
         last: number,
@@ -136,18 +134,18 @@ fn write<K: Keeper>(keeper: &mut K, file: FileId, turn: u32) -> Option<u64> {
 
 /// So many changes of a block.
 fn commits<K: Keeper>(keeper: &mut K, times: u32) -> Option<u64> {
-    attach(keeper)?;
-    let file = create(keeper, 0, 1)?;
+    attach(keeper);
+    create(keeper, 0, 1)?;
     let mut last = 0;
     for turn in 0..times {
-        last = write(keeper, file, turn)?;
+        last = write(keeper, turn)?;
     }
     Some(last)
 }
 
-/// Reads the first block of a file.
-fn read<K: Keeper>(keeper: &mut K, file: FileId) -> Option<u64> {
-    match read_block(keeper, file, BlockNo(0)).ok()? {
+/// Reads the first block of the first file.
+fn read<K: Keeper>(keeper: &mut K) -> Option<u64> {
+    match read_block(keeper, FileId(1), BlockNo(0)).ok()? {
         ReadOut::Got { .. } => Some(1),
         _ => None,
     }
@@ -155,20 +153,20 @@ fn read<K: Keeper>(keeper: &mut K, file: FileId) -> Option<u64> {
 
 /// So many reads of a block.
 fn reads<K: Keeper>(keeper: &mut K, times: u32) -> Option<u64> {
-    attach(keeper)?;
-    let file = create(keeper, 0, 1)?;
+    attach(keeper);
+    create(keeper, 0, 1)?;
     let mut last = 0;
     for _ in 0..times {
-        last = read(keeper, file)?;
+        last = read(keeper)?;
     }
     Some(last)
 }
 
 /// Fills an image.
-pub(crate) fn fill<K: Keeper>(keeper: &mut K) -> Option<u64> {
-    attach(keeper)?;
+pub(crate) fn fill<K: Keeper>(keeper: &mut K) -> Option<()> {
+    attach(keeper);
     for number in 0..MOST_FILES {
         create(keeper, number, MOST_BLOCKS)?;
     }
-    Some(0)
+    Some(())
 }

@@ -1,6 +1,6 @@
 //! What is the machine's: its clock, UDP, and a disk in a file.
 
-use anyhow::{Context, Result};
+use crate::page::Page;
 use nq_base::{Host, Party};
 use nq_clock::{Clock, StdClock};
 use nq_disk::{Disk, FileDisk};
@@ -14,75 +14,108 @@ const PATH: &str = "story_parts.img";
 const PORT: u16 = 20603;
 
 /// Tries a part of the machine.
-pub(crate) fn try_part(rt: &HostRuntime, rest: &[&str]) -> Result<()> {
-    match *rest.first().context("no part")? {
-        "clock" => clocks(rt),
-        "UDP" => strangers(rt),
-        _ => disks(rt),
+pub(crate) fn try_part(rt: &HostRuntime, part: &str, page: &mut Page) {
+    page.say("== ");
+    page.say(part);
+    page.say("\n");
+    match part {
+        "clock" => clocks(rt, page),
+        "UDP" => {
+            strangers(rt, page);
+        }
+        _ => {
+            disks(rt, page);
+        }
     }
+}
+
+/// Adds whether something is so.
+fn tell(page: &mut Page, what: &str, is_so: bool) {
+    page.say(what);
+    page.say(if is_so { "true\n" } else { "false\n" });
 }
 
 /// Two readings of the machine's clock, which does not go back and has not run for a minute.
-fn clocks(rt: &HostRuntime) -> Result<()> {
-    let mut clock = StdClock::new(rt.clone()?);
-    let (first, second) = (clock.now().0, clock.now().0);
-    println!(rt; "== clock\n{}", first <= second && second < 60)?;
-    Ok(())
+fn clocks(rt: &HostRuntime, page: &mut Page) {
+    if let Ok(machine) = rt.clone() {
+        let mut clock = StdClock::new(machine);
+        let first = clock.now().0;
+        let second = clock.now().0;
+        tell(page, "", first <= second && second < 60);
+    }
 }
 
-/// Prints the length of the datagram that comes next from a host, if one comes.
-fn receive(rt: &HostRuntime, link: &mut UdpLink<HostRuntime>, room: &mut [u8]) -> Result<()> {
+/// The link of a host.
+fn link_of(rt: &HostRuntime, host: u32) -> Option<UdpLink<HostRuntime>> {
+    Some(UdpLink::new(rt.clone().ok()?, Party::Client(Host(host))))
+}
+
+/// Tells the length of the datagram that comes next from a host, if one comes.
+fn receive(link: &mut UdpLink<HostRuntime>, room: &mut [u8], page: &mut Page) {
     for _ in 0..100 {
         if let Came::Datagram { length, sender } = link.receive(room) {
-            println!(rt; "{length} bytes {}", sender == Party::Client(Host(43)))?;
-            return Ok(());
+            page.debug(&length);
+            tell(page, " bytes ", sender == Party::Client(Host(43)));
+            return;
         }
     }
-    println!(rt; "nothing")?;
-    Ok(())
+    page.say("nothing\n");
+}
+
+/// Sends a datagram to host 42 from a port that is nobody's.
+fn ask_as_stranger(rt: &HostRuntime) {
+    let local = IpAddr::V4(Ipv4Addr::LOCALHOST);
+    if let Ok(stranger) = UdpSocket::bind(rt, SocketAddr::new(local, 0)) {
+        stranger.send_to(b"ask", SocketAddr::new(local, PORT)).ok();
+    }
 }
 
 /// A stranger, at a port that is nobody's, is not heard. A datagram may be empty, and a long one is cut. There is no host 64.
-fn strangers(rt: &HostRuntime) -> Result<()> {
-    println!(rt; "== UDP")?;
-    let local = IpAddr::V4(Ipv4Addr::LOCALHOST);
-    let me = Party::Client(Host(42));
-    let mut here = UdpLink::new(rt.clone()?, me);
-    let mut there = UdpLink::new(rt.clone()?, Party::Client(Host(43)));
-    let mut room = vec![in rt.alloc(); 0u8; 4401]?;
+fn strangers(rt: &HostRuntime, page: &mut Page) -> Option<()> {
+    let mut room = vec![in rt.alloc(); 0u8; 4401].ok()?;
+    let long = vec![in rt.alloc(); 7u8; 5000].ok()?;
+    let mut here = link_of(rt, 42)?;
+    let mut there = link_of(rt, 43)?;
     // The socket is bound in the first call.
-    receive(rt, &mut here, &mut room)?;
-    let stranger = UdpSocket::bind(rt, SocketAddr::new(local, 0))?;
-    stranger.send_to(b"ask", SocketAddr::new(local, PORT))?;
-    let long = vec![in rt.alloc(); 7u8; 5000]?;
-    println!(rt; "sent {}", there.send(me, b"") == Sent::All)?;
-    println!(rt; "sent {}", there.send(me, &long) == Sent::All)?;
+    receive(&mut here, &mut room, page);
+    ask_as_stranger(rt);
+    let me = Party::Client(Host(42));
+    tell(page, "sent ", there.send(me, b"") == Sent::All);
+    tell(page, "sent ", there.send(me, &long) == Sent::All);
     for _ in 0..3 {
-        receive(rt, &mut here, &mut room)?;
+        receive(&mut here, &mut room, page);
     }
-    println!(rt;
-        "sent {}",
-        here.send(Party::Client(Host(64)), b"ask") == Sent::All
-    )?;
-    Ok(())
+    let nobody = Party::Client(Host(64));
+    tell(page, "sent ", here.send(nobody, b"ask") == Sent::All);
+    Some(())
+}
+
+/// A disk in a file.
+fn disk_of(rt: &HostRuntime, path: &str) -> Option<FileDisk> {
+    FileDisk::new(rt.alloc(), rt.clone().ok()?, path).ok()
 }
 
 /// A file is a disk for one at a time.
-fn disks(rt: &HostRuntime) -> Result<()> {
-    println!(rt; "== disk")?;
-    let alloc = rt.alloc();
-    let mut disk = FileDisk::new(alloc, rt.clone()?, PATH)?;
-    println!(rt; "write {:?}", disk.write_at(3, b"abc"))?;
-    println!(rt; "sync {:?}", disk.sync())?;
-    let mut other = FileDisk::new(alloc, rt.clone()?, PATH)?;
-    println!(rt; "size of another {:?}", other.size())?;
+fn disks(rt: &HostRuntime, page: &mut Page) -> Option<()> {
+    let mut disk = disk_of(rt, PATH)?;
+    page.say("write ");
+    page.debug(&disk.write_at(3, b"abc"));
+    page.say("\nsync ");
+    page.debug(&disk.sync());
+    let mut other = disk_of(rt, PATH)?;
+    page.say("\nsize of another ");
+    page.debug(&other.size());
     drop(disk);
     let mut into = *b"------";
-    println!(rt; "read {:?}", other.read(2, &mut into))?;
-    println!(rt; "{:?}", str::from_utf8(&into)?)?;
+    page.say("\nread ");
+    page.debug(&other.read(2, &mut into));
+    page.say("\n");
+    page.debug(&str::from_utf8(&into).unwrap_or("no text"));
     drop(other);
-    fs::remove_file(rt, PATH)?;
-    let mut nowhere = FileDisk::new(alloc, rt.clone()?, "no_folder/none.img")?;
-    println!(rt; "sync {:?}", nowhere.sync())?;
-    Ok(())
+    fs::remove_file(rt, PATH).ok();
+    let mut nowhere = disk_of(rt, "no_folder/none.img")?;
+    page.say("\nsync ");
+    page.debug(&nowhere.sync());
+    page.say("\n");
+    Some(())
 }

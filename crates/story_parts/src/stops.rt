@@ -1,27 +1,14 @@
-//! What comes to a disk of an image, stopped at each call that it makes of the disk.
+//! An image that is built, what comes to a disk of it, and what a stop may leave.
 
-use crate::images::{disk_of, told_of};
-use crate::torn_disk::{ALL, TornDisk};
-use crate::words::{bytes_of, number_of};
-use anyhow::{Context, Result};
-use nq_base::{Host, Journal, Ticks};
-use nq_disk::{Disk, FileDisk};
-use nq_server::{BootFault, Server};
-use nq_store::{OpenFault, Store};
-use nq_wire::Outbox;
+use crate::kept;
+use crate::noting_disk::{NotingDisk, Write};
+use crate::page::{Page, bytes_of, copy_of, cut, number_of};
+use crate::serving::{Event, Script, disk_of, in_file, in_memory, run};
 use std::alloc::Global;
-use std::{fs, mem};
+use std::mem;
 
-/// The longest term that the server grants.
-const LONGEST: u32 = 60;
-
-/// The host of which all datagrams are.
-const SENDER: Host = Host(5);
-
-/// The first time that no clock shows.
-const END_OF_CLOCKS: u64 = 1 << 62;
-
-const PATH: &str = "stopped.img";
+/// The host of which all datagrams are where a server is stopped.
+const SENDER: u32 = 5;
 
 /// The most writes of which each subset is tried.
 const MOST: usize = 5;
@@ -31,161 +18,154 @@ const FEW: u64 = 16;
 
 const MANY: u64 = 4;
 
-/// What comes to a disk once it is opened: a server boots over it, and then takes in what comes.
+/// The number of the set that has all writes.
+const ALL: usize = usize::MAX;
+
+/// The image that is being built, the one that was kept last, and what comes to a disk of one.
 #[derive(Drop)]
-enum Event {
-    Boot,
-    Datagram(Vec<u8>),
-    Tick(u64),
-}
-
-/// The disk once it was opened and these events came, also where a call of it failed; None where it is no image, and for want of memory.
-fn after<D: Disk + Drop>(alloc: Global, disk: D, events: &[Event]) -> Option<D> {
-    match Store::open(alloc, disk) {
-        Ok(store) if events.is_empty() => Some(store.into_disk()),
-        Ok(store) => match Server::boot(alloc, store, LONGEST, Ticks(0)) {
-            Ok(server) => after_events(alloc, server, events),
-            Err(BootFault::Failed(store)) => Some(store.into_disk()),
-            Err(_) => None,
-        },
-        Err(OpenFault::Failed(disk)) => Some(disk),
-        Err(_) => None,
-    }
-}
-
-/// The disk of a server after events.
-fn after_events<D: Disk + Drop>(
-    alloc: Global,
-    server: Server<Store<D>>,
-    events: &[Event],
-) -> Option<D> {
-    let mut server = server;
-    let mut out = Outbox::new(alloc, 0).ok()?;
-    let mut log = Journal::new(alloc).ok()?;
-    for event in events {
-        match event {
-            Event::Datagram(bytes) => {
-                let _ = server.receive(alloc, SENDER, bytes, &mut out, &mut log);
-            }
-            Event::Tick(time) if server.time().0 <= *time && *time < END_OF_CLOCKS => {
-                let _ = server.tick(Ticks(*time), &mut out, &mut log);
-            }
-            _ => {}
-        }
-    }
-    Some(server.into_keeper().into_disk())
-}
-
-/// A disk of these bytes after events, stopped at a call.
-fn stopped<D: Disk + Drop>(
-    disk: D,
-    first: &[u8],
-    events: &[Event],
-    stop: u32,
-    alloc: Global,
-) -> Result<TornDisk<D>> {
-    let disk = TornDisk {
-        disk,
-        settled: first.to_vec(alloc)?,
-        open: Vec::new(alloc),
-        alloc,
-        made: 0,
-        stop,
-        faults: 0,
-    };
-    after(alloc, disk, events).context("no image")
-}
-
-/// For what an image stands, once a disk of it is opened.
-fn kept_in(alloc: Global, image: Vec<u8>) -> Result<String> {
-    let disk = after(alloc, disk_of(alloc, image)?, &[]).context("no image")?;
-    told_of(alloc, disk.bytes())
-}
-
-/// An image, the events that came to a disk of it, and what was found when the last one was stopped.
-#[derive(Drop)]
-pub(crate) struct Stops {
+pub(crate) struct Bench {
+    image: Vec<u8>,
+    kept: Vec<u8>,
+    /// The image to which the script comes.
     first: Vec<u8>,
+    script: Script,
     /// How many values of a single byte are tried of a disk in memory; None where the disk is a file.
     values: Option<u64>,
-    events: Vec<Event>,
-    /// How many calls they made.
-    calls: u32,
-    /// What was kept before the last event.
-    before: String,
-    /// What is kept behind it.
-    after: String,
+    /// How many calls the events before the last one made.
+    calls: usize,
+    /// What was kept before the last event, and what is kept behind it.
+    before: Page,
+    after: Page,
     /// How often the one was found, how often the other, and how often anything else.
-    found: [u32; 3],
+    found: [u64; 3],
 }
 
-impl Stops {
-    /// An image of no bytes, to which nothing came.
-    pub(crate) fn new(alloc: Global) -> Stops {
-        Stops {
+/// A script of no boot and no events.
+fn nothing(alloc: Global) -> Script {
+    Script {
+        boots: false,
+        events: Vec::new(alloc),
+    }
+}
+
+impl Bench {
+    /// Nothing is built, and nothing kept.
+    pub(crate) fn new(alloc: Global) -> Bench {
+        Bench {
+            image: Vec::new(alloc),
+            kept: Vec::new(alloc),
             first: Vec::new(alloc),
+            script: nothing(alloc),
             values: None,
-            events: Vec::new(alloc),
             calls: 0,
-            before: String::new(alloc),
-            after: String::new(alloc),
+            before: Page::new(alloc),
+            after: Page::new(alloc),
             found: [0; 3],
         }
     }
 
-    /// Carries out a line, and stops what comes: the opening or the boot of a disk of the image, or what comes to it then.
-    pub(crate) fn carry_out(
-        &mut self,
-        rt: &HostRuntime,
-        rest: &[&str],
-        image: &mut Vec<u8>,
-    ) -> Result<()> {
-        let (name, words) = rest.split_first().context("no name")?;
-        if matches!(*name, "migration" | "boot") {
-            self.first = image.to_vec(rt.alloc())?;
-            self.values = number_of(words.first(), 10).ok();
-            self.events.clear();
-            self.calls = 0;
-            self.after = kept_in(rt.alloc(), image.to_vec(rt.alloc())?)?;
+    /// Carries out a line that builds an image.
+    pub(crate) fn build(&mut self, alloc: Global, verb: &str, rest: &str) {
+        match verb {
+            "base" => self.image.clear(),
+            "image" => self.image = copy_of(alloc, &self.kept),
+            "size" => {
+                self.image.resize(number_of(rest) as usize, 0).ok();
+            }
+            "put" => {
+                let (place, words) = cut(rest);
+                write_over(
+                    &mut self.image,
+                    number_of(place) as usize,
+                    &bytes_of(alloc, words),
+                );
+            }
+            _ => self.kept = copy_of(alloc, &self.image),
         }
-        if *name == "boot" {
-            self.events.push(Event::Boot)?;
-        } else if name.starts_with("tick") {
-            self.events
-                .push(Event::Tick(number_of(words.first(), 10)?))?;
-        } else if *name != "migration" {
-            self.events
-                .push(Event::Datagram(bytes_of(rt.alloc(), words)?))?;
-        }
-        self.stop_last(rt, name, image)
     }
 
-    /// Stops the last event at each of its calls, prints what is found again, and puts what the disk has behind it in place of the image.
-    fn stop_last(&mut self, rt: &HostRuntime, name: &str, image: &mut Vec<u8>) -> Result<()> {
+    /// Opens a disk of the image as a store, and tells for what it stands, or where the first wrong field is.
+    pub(crate) fn open(&mut self, alloc: Global, page: &mut Page) {
+        match in_memory(alloc, &self.image, &nothing(alloc), &mut Page::new(alloc)) {
+            Ok(left) => {
+                page.say("ok");
+                kept::tell(alloc, &left, page);
+                self.image = left;
+            }
+            Err(place) => page.field("image byte", place),
+        }
+    }
+
+    /// Has a script begin over a disk of an image.
+    fn begin(&mut self, alloc: Global, image: Vec<u8>, boots: bool) {
+        self.first = image;
+        self.script = nothing(alloc);
+        self.script.boots = boots;
+        self.calls = 0;
+    }
+
+    /// Begins with a server that boots over a disk of the image that was kept.
+    pub(crate) fn serve(&mut self, alloc: Global) {
+        let image = copy_of(alloc, &self.kept);
+        self.begin(alloc, image, true);
+    }
+
+    /// Has an event come to the server, and tells the answer.
+    pub(crate) fn answer(&mut self, alloc: Global, event: Event, page: &mut Page) {
+        self.script.events.push(event).ok();
+        in_memory(alloc, &self.first, &self.script, page).ok();
+    }
+
+    /// Stops what comes: the opening or the boot of a disk of the image, or what comes to it then.
+    pub(crate) fn stop(&mut self, rt: &HostRuntime, rest: &str, page: &mut Page) {
         let alloc = rt.alloc();
-        let disk = disk_of(alloc, self.first.to_vec(alloc)?)?;
-        let done = stopped(disk, &self.first, &self.events, u32::MAX, alloc)?;
-        *image = done.disk.bytes().to_vec(alloc)?;
-        let kept = kept_in(alloc, image.to_vec(alloc)?)?;
-        self.before = mem::replace(&mut self.after, kept);
+        let (name, words) = cut(rest);
+        if matches!(name, "migration" | "boot") {
+            let image = copy_of(alloc, &self.image);
+            self.begin(alloc, image, name == "boot");
+            self.values = u64::from_str_radix(words, 10).ok();
+            self.after = reopened(alloc, &self.image);
+        } else if name.starts_with("tick") {
+            self.script.events.push(Event::Tick(number_of(words))).ok();
+        } else {
+            let event = Event::Datagram(SENDER, bytes_of(alloc, words));
+            self.script.events.push(event).ok();
+        }
+        page.say(name);
+        self.stop_last(rt);
+        let [old, new, other] = self.found;
+        page.field(":", old);
+        page.field(" before,", new);
+        page.field(" after,", other);
+        page.say(" other");
+    }
+
+    /// Stops the last event at each of its calls, and puts what the disk has behind it in place of the image.
+    fn stop_last(&mut self, rt: &HostRuntime) {
+        let alloc = rt.alloc();
+        let Some(noted) = noted(alloc, &self.first, &self.script) else {
+            return;
+        };
+        self.image = match self.values {
+            Some(_) => copy_of(alloc, noted.bytes()),
+            None => in_file(rt, &self.first, &self.script).unwrap_or(Vec::new(alloc)),
+        };
+        self.before = mem::replace(&mut self.after, reopened(alloc, &self.image));
         self.found = [0; 3];
-        for stop in self.calls..done.made {
+        for call in self.calls..noted.moments.len() {
             match self.values {
-                Some(values) => self.stop_in_memory(alloc, stop, values)?,
-                None => self.stop_in_file(rt, stop)?,
+                Some(values) => self.stop_in_memory(alloc, &noted, call, values),
+                None => self.stop_in_file(rt, &noted, call),
             }
         }
-        self.calls = done.made;
-        let [old, new, other] = self.found;
-        println!(rt; "{name}: {old} before, {new} after, {other} other")?;
-        Ok(())
+        self.calls = noted.moments.len();
     }
 
     /// Counts what is found.
-    fn count(&mut self, kept: &str) {
-        let place = if kept == self.before.as_str() {
+    fn count(&mut self, kept: &Page) {
+        let place = if kept.as_str() == self.before.as_str() {
             0
-        } else if kept == self.after.as_str() {
+        } else if kept.as_str() == self.after.as_str() {
             1
         } else {
             2
@@ -193,37 +173,102 @@ impl Stops {
         self.found[place] = self.found[place].saturating_add(1);
     }
 
-    /// Stops over a disk in memory at a call, and opens images of what that may leave. Of a single byte that was written so many values are tried.
-    fn stop_in_memory(&mut self, alloc: Global, stop: u32, values: u64) -> Result<()> {
-        let disk = disk_of(alloc, self.first.to_vec(alloc)?)?;
-        let left = stopped(disk, &self.first, &self.events, stop, alloc)?;
-        let (subsets, images) = match left.open.as_slice() {
+    /// Opens images of what a stop at a call may leave of a disk in memory. Of a single byte that was written so many values are tried.
+    fn stop_in_memory(&mut self, alloc: Global, noted: &NotingDisk, call: usize, values: u64) {
+        let Some(moment) = noted.moments.get(call) else {
+            return;
+        };
+        let settled = noted.writes.get(..moment.settled).unwrap_or(&[]);
+        let open = noted
+            .writes
+            .get(moment.settled..moment.with_it)
+            .unwrap_or(&[]);
+        let settled = with_whole(copy_of(alloc, &self.first), settled, ALL);
+        let (subsets, images) = match open {
             [] => (0, 0),
             [only] if only.bytes.len() == 1 => (1, values),
             few if few.len() <= MOST => ((1_usize << few.len()).saturating_sub(1), FEW),
             _ => (1, MANY),
         };
         for came in (0..subsets).chain([ALL]) {
-            self.count(&kept_in(alloc, left.image_with(alloc, came)?)?);
+            let image = with_whole(copy_of(alloc, &settled), open, came);
+            self.count(&reopened(alloc, &image));
         }
-        let mut random = stop;
+        let mut random = (call & 0xffff_ffff) as u32;
         for number in 0..images {
-            let image = left.torn_image(alloc, &mut random, (number & 0xff) as u8)?;
-            self.count(&kept_in(alloc, image)?);
+            let image = copy_of(alloc, &settled);
+            let image = with_torn(image, open, &mut random, (number & 0xff) as u8);
+            self.count(&reopened(alloc, &image));
         }
-        Ok(())
     }
 
-    /// Stops over a disk in a file at a call, closes the file, and opens it again.
-    fn stop_in_file(&mut self, rt: &HostRuntime, stop: u32) -> Result<()> {
+    /// Opens a file of what stood there before a call.
+    fn stop_in_file(&mut self, rt: &HostRuntime, noted: &NotingDisk, call: usize) {
         let alloc = rt.alloc();
-        fs::write(rt, PATH, self.first.as_slice())?;
-        let disk = FileDisk::new(alloc, rt.clone()?, PATH)?;
-        drop(stopped(disk, &self.first, &self.events, stop, alloc)?);
-        let again = FileDisk::new(alloc, rt.clone()?, PATH)?;
-        drop(after(alloc, again, &[]).context("no image")?);
-        self.count(&told_of(alloc, &fs::read(rt, PATH)?)?);
-        fs::remove_file(rt, PATH)?;
-        Ok(())
+        let Some(moment) = noted.moments.get(call) else {
+            return;
+        };
+        let writes = noted.writes.get(..moment.before).unwrap_or(&[]);
+        let image = with_whole(copy_of(alloc, &self.first), writes, ALL);
+        let mut told = Page::new(alloc);
+        if let Some(left) = in_file(rt, &image, &nothing(alloc)) {
+            kept::tell(alloc, &left, &mut told);
+        }
+        self.count(&told);
     }
+}
+
+/// What a disk in memory notes while a script comes to it.
+fn noted(alloc: Global, first: &[u8], script: &Script) -> Option<NotingDisk> {
+    let disk = NotingDisk::new(alloc, disk_of(alloc, copy_of(alloc, first))?);
+    run(alloc, disk, script, &mut Page::new(alloc)).ok()
+}
+
+/// For what an image stands, once a disk of it is opened.
+fn reopened(alloc: Global, image: &[u8]) -> Page {
+    let mut told = Page::new(alloc);
+    if let Ok(left) = in_memory(alloc, image, &nothing(alloc), &mut Page::new(alloc)) {
+        kept::tell(alloc, &left, &mut told);
+    }
+    told
+}
+
+/// Writes bytes over others, and past their end.
+fn write_over(into: &mut Vec<u8>, place: usize, bytes: &[u8]) {
+    let end = place.saturating_add(bytes.len());
+    if into.len() < end {
+        into.resize(end, 0).ok();
+    }
+    if place <= end && end <= into.len() && end - place == bytes.len() {
+        into[place..end].copy_from_slice(bytes);
+    }
+}
+
+/// The bytes where of these writes those came whole whose bit is set, or all, and of the others nothing.
+fn with_whole(bytes: Vec<u8>, writes: &[Write], came: usize) -> Vec<u8> {
+    let mut image = bytes;
+    let mut bits = came;
+    for write in writes {
+        if bits % 2 == 1 {
+            write_over(&mut image, write.place, &write.bytes);
+        }
+        if bits != ALL {
+            bits /= 2;
+        }
+    }
+    image
+}
+
+/// The bytes where of each of these writes a front came, and behind it stands a byte that nobody wrote. A write of one byte leaves any.
+fn with_torn(bytes: Vec<u8>, writes: &[Write], random: &mut u32, byte: u8) -> Vec<u8> {
+    let mut image = bytes;
+    for write in writes {
+        *random = random.wrapping_mul(1_664_525).wrapping_add(1_013_904_223);
+        let count = write.bytes.len().max(1);
+        let front = (*random >> 16) as usize % count;
+        let came = write.bytes.get(..front).unwrap_or(&[]);
+        write_over(&mut image, write.place, came);
+        write_over(&mut image, write.place.saturating_add(front), &[byte]);
+    }
+    image
 }

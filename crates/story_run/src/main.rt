@@ -10,39 +10,41 @@ mod parts;
 mod scenes;
 mod top;
 
+use crate::parts::{failing, words_of};
 use crate::scenes::{play, text_of};
-use anyhow::{Context, Result};
-use nq_disk::MemDisk;
-use nq_io::MemSink;
+use nq_io::{MemSink, MemSource};
 use std::str;
 
-fn main(rt: HostRuntime) -> Result<()> {
+/// The most bytes that a scene prints.
+const ROOM: usize = 4_194_304;
+
+fn main(rt: HostRuntime) {
     let mut left = Vec::new(rt.alloc());
     for line in rt.lines(rt.alloc()) {
-        let line = line?;
-        if line.starts_with('=') {
-            println!(rt; "{line}")?;
-        } else {
-            left = tell(&rt, &line, left)?;
+        if let Ok(line) = line {
+            if line.starts_with('=') {
+                println!(rt; "{line}").ok();
+            } else {
+                left = tell(&rt, &line, left);
+            }
         }
     }
-    Ok(())
 }
 
 /// Plays a scene over a disk on which these bytes were left, if it goes on with them, and prints what comes of it. Gives the bytes that it
 /// leaves.
-fn tell(rt: &HostRuntime, line: &str, left: Vec<u8>) -> Result<Vec<u8>> {
-    let (told, input) = line.split_once(": ").context("no input")?;
-    println!(rt; "- {told}")?;
-    let (scene, said) = told.split_once(' ').context("no words")?;
-    let input = text_of(rt.alloc(), input)?;
-    let (ended, out) = play(rt.alloc(), scene, said, input, left)?;
-    show(rt, &out, ended.status, &ended.disk)
-}
-
-/// Prints what was printed in a scene, and its status. Gives the bytes of its disk.
-fn show(rt: &HostRuntime, out: &MemSink, status: u8, disk: &MemDisk) -> Result<Vec<u8>> {
-    print!(rt; "{}", str::from_utf8(out.bytes())?)?;
-    println!(rt; "status {status}")?;
-    Ok(disk.bytes().to_vec(rt.alloc())?)
+fn tell(rt: &HostRuntime, line: &str, left: Vec<u8>) -> Vec<u8> {
+    let alloc = rt.alloc();
+    let (told, input) = line.split_once(": ").unwrap_or((line, ""));
+    println!(rt; "- {told}").ok();
+    let (scene, said) = told.split_once(' ').unwrap_or((told, ""));
+    let words = words_of(alloc, said);
+    let mut source = MemSource::new(text_of(alloc, input), failing(alloc, scene, "unread"));
+    let Ok(mut out) = MemSink::new(alloc, ROOM, failing(alloc, scene, "unput")) else {
+        return left;
+    };
+    let (status, left) = play(alloc, scene, &words, &mut source, &mut out, left);
+    print!(rt; "{}", str::from_utf8(out.bytes()).unwrap_or("no text")).ok();
+    println!(rt; "status {status}").ok();
+    left
 }

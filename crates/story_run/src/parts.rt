@@ -4,10 +4,10 @@ ghost use Rattle.std.specs.Prelude.{◌≡◌, ◌+◌, ℕ, Some, IfOk, vec_len
 ghost use Rattle.nq_command.specs.Commands.{command_of};
 ghost use Rattle.nq_command.specs.declared.Command.{Command};
 
-use anyhow::{Result, bail};
-use nq_base::{Host, Party};
+use nq_base::{Host, Party, Ticks};
+use nq_clock::MemClock;
 use nq_disk::{MemDisk, Room};
-use nq_disk_run::{Command, NoMemory, Words};
+use nq_disk_run::{Command, CutFate, Fate, HostileFate, LossyFate, NoMemory, SteadyFate, Words};
 use nq_link::MemLink;
 use std::alloc::Global;
 
@@ -23,33 +23,62 @@ const ATTACHED: [u8; 32] = [
     0, 0, 0, 1, 0, 0, 0, 1, 0, 0, 0, 0, 0, 0, 0, 0, 0, 0, 0, 0, 0, 0, 0, 0, 0, 0, 0, 1, 0, 0, 0, 0,
 ];
 
+/// Words that stand behind one another, with a blank between two.
+pub(crate) fn words_of(alloc: Global, said: &str) -> Words {
+    let mut words = Words::new(alloc).unwrap();
+    for word in said.split(' ') {
+        words.push(word).ok();
+    }
+    words
+}
+
 /// The numbers of the calls that fail: the first where the scene ends with a word, else none.
-pub(crate) fn failing(alloc: Global, scene: &str, word: &str) -> Result<Vec<u32>, NoMemory> {
+pub(crate) fn failing(alloc: Global, scene: &str, word: &str) -> Vec<u32> {
     let mut numbers = Vec::new(alloc);
     if scene.ends_with(word) {
-        numbers.push(0)?;
+        numbers.push(0).ok();
     }
-    Ok(numbers)
+    numbers
 }
 
 /// The disk of a scene.
-pub(crate) fn disk_of(alloc: Global, scene: &str, left: Vec<u8>) -> Result<MemDisk> {
+pub(crate) fn disk_of(alloc: Global, scene: &str, left: Vec<u8>) -> Result<MemDisk, NoMemory> {
     let mut bytes = left;
     if !scene.starts_with("again") {
         bytes.clear();
     }
-    if 68_202_496 < bytes.len() {
-        bail!("more bytes than a disk has");
+    bytes.truncate(68_202_496);
+    MemDisk::new(alloc, bytes, ROOM, failing(alloc, scene, "unkept"), None)
+}
+
+/// The clock of a scene. It shows 0, and from then on 1.
+pub(crate) fn clock_of(alloc: Global) -> Result<MemClock, NoMemory> {
+    Ok(MemClock::new(vec![in alloc; Ticks(0), Ticks(1)]?))
+}
+
+/// The four fates of storms.
+pub(crate) fn fates_of(alloc: Global) -> Vec<Box<dyn Fate>> {
+    let mut fates: Vec<Box<dyn Fate>> = Vec::new(alloc);
+    if let Ok(fate) = Box::new(alloc, SteadyFate::new()) {
+        fates.push(fate).ok();
     }
-    let failing = failing(alloc, scene, "unkept")?;
-    Ok(MemDisk::new(alloc, bytes, ROOM, failing, None)?)
+    if let Ok(fate) = Box::new(alloc, LossyFate::new()) {
+        fates.push(fate).ok();
+    }
+    if let Ok(fate) = Box::new(alloc, CutFate::new()) {
+        fates.push(fate).ok();
+    }
+    if let Ok(fate) = Box::new(alloc, HostileFate::new()) {
+        fates.push(fate).ok();
+    }
+    fates
 }
 
 /// The link of a party in a scene.
 pub(crate) fn link_of(alloc: Global, scene: &str, me: Party) -> Result<MemLink, NoMemory> {
-    let mut link = MemLink::new(alloc, me, 8, 8000, failing(alloc, scene, "unsent")?)?;
+    let mut link = MemLink::new(alloc, me, 8, 8000, failing(alloc, scene, "unsent"))?;
     if scene.starts_with("attached") {
-        link.bring(alloc, Party::Server, &ATTACHED)?;
+        link.bring(alloc, Party::Server, &ATTACHED).ok();
     }
     Ok(link)
 }

@@ -1,86 +1,77 @@
 //! What words do in a scene.
 
-use crate::parts::{disk_of, failing, link_of, links_of};
+use crate::parts::{clock_of, disk_of, fates_of, link_of, links_of};
 use crate::top::ran;
-use anyhow::Result;
-use nq_base::{Host, Party, Ticks};
-use nq_clock::MemClock;
+use nq_base::{Host, Party};
 use nq_disk::MemDisk;
 use nq_disk_run::{Ended, NoMemory, Words};
 use nq_io::{MemSink, MemSource};
 use std::alloc::Global;
 
-/// The most bytes that a scene prints.
-const ROOM: usize = 4_194_304;
-
-/// Words that stand behind one another, with a blank between two.
-fn words_of(alloc: Global, said: &str) -> Result<Words> {
-    let mut words = Words::new(alloc)?;
-    for word in said.split(' ') {
-        words.push(word)?;
-    }
-    Ok(words)
-}
+/// The status of a scene that was not played, for want of memory.
+const WANTING: u8 = 255;
 
 /// The text whose lines are parted by `|`, where `N*L` stands for N lines L.
-pub(crate) fn text_of(alloc: Global, input: &str) -> Result<Vec<u8>> {
+pub(crate) fn text_of(alloc: Global, input: &str) -> Vec<u8> {
     let mut text = Vec::new(alloc);
     for line in input.split('|') {
-        push_line(&mut text, line)?;
+        push_line(&mut text, line);
     }
     text.pop();
-    Ok(text)
+    text
 }
 
 /// Adds a line, or as many as it stands for.
-fn push_line(text: &mut Vec<u8>, line: &str) -> Result<()> {
-    let (times, line) = match line.split_once('*') {
-        Some((times, line)) => (u32::from_str_radix(times, 10)?, line),
-        None => (1, line),
-    };
-    for _ in 0..times {
-        text.extend_from_slice(line.as_bytes())?;
-        text.push(b'\n')?;
+fn push_line(text: &mut Vec<u8>, line: &str) {
+    let (times, line) = line.split_once('*').unwrap_or(("1", line));
+    for _ in 0..u32::from_str_radix(times, 10).unwrap_or(0) {
+        text.extend_from_slice(line.as_bytes()).ok();
+        text.push(b'\n').ok();
     }
-    Ok(())
 }
 
-/// The sink of a scene.
-fn sink_of(alloc: Global, scene: &str) -> Result<MemSink> {
-    let failing = failing(alloc, scene, "unput")?;
-    Ok(MemSink::new(alloc, ROOM, failing)?)
-}
-
-/// The clock of a scene. It shows 0, and from then on 1.
-fn clock_of(alloc: Global) -> Result<MemClock, NoMemory> {
-    Ok(MemClock::new(vec![in alloc; Ticks(0), Ticks(1)]?))
-}
-
-/// Runs what words say in a scene, with an input and over a disk on which these bytes were left, if it goes on with them: how it ended, and
-/// what was printed.
+/// Runs what words say in a scene, over a disk on which these bytes were left, if it goes on with them: the status, and the bytes that are
+/// left now.
 pub(crate) fn play(
     alloc: Global,
     scene: &str,
-    said: &str,
-    input: Vec<u8>,
+    words: &Words,
+    source: &mut MemSource,
+    out: &mut MemSink,
     left: Vec<u8>,
-) -> Result<(Ended<MemDisk>, MemSink)> {
-    let words = words_of(alloc, said)?;
-    let mut source = MemSource::new(input, failing(alloc, scene, "unread")?);
-    let mut out = sink_of(alloc, scene)?;
-    let disk = disk_of(alloc, scene, left)?;
-    let mut link = link_of(alloc, scene, Party::Client(Host(0)))?;
-    let mut links = links_of(alloc, scene, &words)?;
+) -> (u8, Vec<u8>) {
+    match ended(alloc, scene, words, source, out, left) {
+        Ok(ended) => {
+            let left = ended.disk.bytes().to_vec(alloc);
+            (ended.status, left.unwrap_or(Vec::new(alloc)))
+        }
+        Err(_) => (WANTING, Vec::new(alloc)),
+    }
+}
+
+/// How it ends.
+fn ended(
+    alloc: Global,
+    scene: &str,
+    words: &Words,
+    source: &mut MemSource,
+    out: &mut MemSink,
+    left: Vec<u8>,
+) -> Result<Ended<MemDisk>, NoMemory> {
     let mut clock = clock_of(alloc)?;
-    let ended = ran(
+    let mut link = link_of(alloc, scene, Party::Client(Host(0)))?;
+    let mut links = links_of(alloc, scene, words)?;
+    let disk = disk_of(alloc, scene, left)?;
+    let mut fates = fates_of(alloc);
+    Ok(ran(
         alloc,
-        &words,
-        &mut source,
-        &mut out,
+        words,
+        source,
+        out,
         disk,
         &mut link,
         links.as_mut_slice(),
         &mut clock,
-    )?;
-    Ok((ended, out))
+        fates.as_mut_slice(),
+    ))
 }

@@ -7,9 +7,7 @@ ghost use Rattle.nq_run.specs.Frames.{makes_a_run};
 
 use nq_clock::Clock;
 use nq_disk::Disk;
-use nq_disk_run::{
-    CutFate, Ended, Fate, HostileFate, LossyFate, NoMemory, SteadyFate, Words, run_disk,
-};
+use nq_disk_run::{Ended, Fate, Words, run_disk};
 use nq_io::{Sink, Source};
 use nq_link::Link;
 use std::alloc::Global;
@@ -24,25 +22,10 @@ pub(crate) fn ran<S: Source, K: Sink, D: Disk + Drop, L: Link, C: Clock>(
     link: &mut L,
     links: &mut [L],
     clock: &mut C,
-) -> Result<Ended<D>, NoMemory>
+    fates: &mut [Box<dyn Fate>],
+) -> Ended<D>
     requires tells { makes_a_run (command_of words.now) ≡ true → (bytes : List ℕ) × (D.told disk ≡ Some bytes) }
     requires links { (hosts turns : ℕ) → command_of words.now ≡ Some (Command.Loop hosts turns) → length links.old ≡ hosts + 1 }
 {
-    let mut fates: Vec<Box<dyn Fate>> = Vec::new(alloc);
-    fates.push(Box::new(alloc, SteadyFate::new())?)?;
-    fates.push(Box::new(alloc, LossyFate::new())?)?;
-    fates.push(Box::new(alloc, CutFate::new())?)?;
-    fates.push(Box::new(alloc, HostileFate::new())?)?;
-    let ended = run_disk(
-        alloc,
-        words,
-        input,
-        out,
-        disk,
-        link,
-        links,
-        clock,
-        fates.as_mut_slice(),
-    );
-    Ok(ended)
+    run_disk(alloc, words, input, out, disk, link, links, clock, fates)
 }
