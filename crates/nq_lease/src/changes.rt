@@ -17,7 +17,7 @@ use nq_base::{Access, FileId, Host, Mode, Row, Ticks};
 pub const MOST_ROWS: usize = 2048;
 
 /// The table has the most rows that it can have.
-#[derive(Clone, Copy, Debug, PartialEq, Eq)]
+#[derive(Clone, Copy)]
 pub struct Full;
 
 /// Writes a row at a place.

@@ -1,6 +1,6 @@
 //! The table.
 
-ghost use Rattle.std.specs.Prelude.{◌≡◌, ◌^◌, ◌<◌, ◌≤◌, ◌↔◌, length, slice_get, None, IsTrue, IsErr, IfOk, OnOk, OnErr};
+ghost use Rattle.std.specs.Prelude.{◌≡◌, ◌^◌, ◌<◌, ◌≤◌, ◌↔◌, length, None, IsTrue, IsErr, IfOk, OnOk, OnErr};
 ghost use Rattle.nq_model.specs.Ask.{marked};
 ghost use Rattle.nq_model.specs.Profile.{most_rows};
 ghost use Rattle.nq_model.specs.ServerStep.{end_reading};
@@ -93,32 +93,11 @@ impl Table {
         self.rows.is_empty()
     }
 
-    /// Whether there are as many rows as there can be.
-    pub fn is_full(&self) -> bool
-        ensures { IsTrue result ↔ (length self.now.rows ≡ most_rows) }
-    {
-        self.rows.len() == MOST_ROWS
-    }
-
     /// The row of a file and a host.
     pub fn row(&self, key: RowKey) -> Option<Row>
         ensures { result ≡ find_row key.file key.host self.now.rows }
     {
         rows::find(self.rows.as_slice(), key.file, key.host)
-    }
-
-    /// The row at a place, in order of files, then hosts; None where the place is not below the number of rows.
-    pub fn nth(&self, place: usize) -> Option<Row>
-        ensures { result ≡ slice_get self.now.rows place }
-    {
-        rows::nth(self.rows.as_slice(), place)
-    }
-
-    /// The row of a file at a place, in order of hosts; None where the place is not below the number of the file's rows.
-    pub fn nth_of(&self, file: FileId, place: usize) -> Option<Row>
-        ensures { result ≡ slice_get (rows_of file self.now.rows) place }
-    {
-        rows::nth(self.rows_of(file), place)
     }
 
     /// The least time at which a row ends, in ticks; None where there is no row. A writing row ends when the write slack
@@ -129,13 +108,6 @@ impl Table {
     {
         let first = self.ends.first().copied()?;
         Some(first.time)
-    }
-
-    /// How many tags were drawn.
-    pub fn drawn(&self) -> u64
-        ensures { result ≡ self.now.drawn }
-    {
-        self.drawn
     }
 
     /// The tag that is drawn next.
