@@ -110,6 +110,13 @@ impl Table {
         Some(first.time)
     }
 
+    /// How many tags were drawn.
+    pub fn drawn(&self) -> u64
+        ensures { result ≡ self.now.drawn }
+    {
+        self.drawn
+    }
+
     /// The tag that is drawn next.
     pub fn peek_tag(&self) -> Tag
         requires { self.now.drawn < 2 ^ 63 }
