@@ -17,10 +17,10 @@ use Rattle.nq_model.specs.Hear.{answer_of, inc_of}
 use Rattle.nq_model.specs.Journal.{SpeaksOf, call_of}
 use Rattle.nq_model.specs.Settle.{said}
 use Rattle.nq_model.specs.World.{Head, World}
-use Rattle.nq_promises.specs.AnswersTellWhatWas.{HasNamed, HasLength, ToldSo}
-use Rattle.nq_promises.specs.RepliesTellWhatWas.{Once, KeepsNamed}
+use Rattle.nq_model.specs.AnswersTellWhatWas.{HasNamed, HasLength, ToldSo}
+use Rattle.nq_model.specs.RepliesTellWhatWas.{Once, KeepsNamed}
 use Rattle.law_rounds.specs.RequestsAreMeant.{IsWriteTo}
-use Rattle.law_legal.proofs.OkFacts.{IsFor}
+use Rattle.law_runs.proofs.OkFacts.{IsFor}
 use Rattle.law_answered.specs.RefusalsHaveCauses.{LacksName, HasName, LacksFile, HasNoRoom, CannotGrow, LacksBlock, IsNoLength, IsAnsweredSo}
 use Rattle.law_answered.proofs.RunTells.{once-map, HadSo}
 use Rattle.walk_steps.proofs.RepliedCases.{IsNamed, looked_up, created, attributes}

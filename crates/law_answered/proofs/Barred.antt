@@ -14,7 +14,7 @@ use Rattle.nq_base.specs.declared.Row.{Row}
 use Rattle.nq_base.specs.declared.Tag.{Tag}
 use Rattle.nq_base.specs.declared.Want.{Want}
 use Rattle.nq_base.specs.declared.Who.{Who}
-use Rattle.nq_promises.specs.Bounds.{KeepsBounds}
+use Rattle.nq_model.specs.Bounds.{KeepsBounds}
 use Rattle.nq_model.specs.Ask.{marked, term_of, sharing_row, caching_row, shared_again, renewed_row}
 use Rattle.nq_model.specs.Decide.{decides, creates, writes_through, stores, stores_recovering, wrote, resizes, removes, puts_off, commits}
 use Rattle.nq_model.specs.Kept.{File, Kept, find_file, replace_file, drop_file, new_file, fenced_file, with_files, with_new_file, with_row}

@@ -13,7 +13,7 @@ use Rattle.nq_model.specs.Kept.{File, blocks_of, blocks_in_all, find_file}
 use Rattle.nq_model.specs.LeaseInterval.{requested_file}
 use Rattle.nq_model.specs.Profile.{most_blocks, most_blocks_of_file, most_files, most_ids}
 use Rattle.nq_model.specs.Server.{Server}
-use Rattle.nq_promises.specs.RepliesTellWhatWas.{IsSo, KeepsAt}
+use Rattle.nq_model.specs.RepliesTellWhatWas.{IsSo, KeepsAt}
 use Rattle.law_answered.specs.RefusalsHaveCauses.{LacksNamed, IsCause, file_named}
 use Rattle.walk_steps.proofs.ClientMoves.{some-same}
 use Rattle.walk_steps.proofs.ServerOutcomes.{file_changed_by, IsDeclined, bad_length, name_taken, no_room, not_kept, outside, no_row, not_under, not_over, not_while_recovering, bad_size, no_room_to_grow}

@@ -20,7 +20,7 @@ use Rattle.nq_model.specs.Server.{serving, ServerStep, to_host}
 use Rattle.nq_model.specs.ServerStep.{receive}
 use Rattle.nq_model.specs.Table.{caches, greater_mode, same_who, find_row}
 use Rattle.nq_model.specs.World.{Head, World, from_host, after_client, after_server, sending_host, step, run}
-use Rattle.nq_promises.specs.RowsStandApart.{WritesAlone}
+use Rattle.nq_model.specs.RowsStandApart.{WritesAlone}
 use Rattle.law_rounds.specs.RequestsAreMeant.{wanted, IsMeant}
 use Rattle.law_rounds.proofs.ClientCount.{client-count}
 use Rattle.law_rounds.proofs.HostsBelow.{run-local, stands-apart}

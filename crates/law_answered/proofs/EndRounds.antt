@@ -14,7 +14,7 @@ use Rattle.nq_model.specs.Server.{Phase, serving, recovering, Server}
 use Rattle.nq_model.specs.Skew.{IsWithinSkew}
 use Rattle.nq_model.specs.Table.{caches, is_writing}
 use Rattle.nq_model.specs.World.{Head, World, run}
-use Rattle.nq_promises.specs.Bounds.{KeepsBounds}
+use Rattle.nq_model.specs.Bounds.{KeepsBounds}
 use Rattle.law_rounds.proofs.ClientCount.{client-count}
 use Rattle.law_rounds.specs.DeliveryEnds.{calmed, enough_deliveries}
 use Rattle.law_bounds.proofs.LeaseIntervals.{run-runs}

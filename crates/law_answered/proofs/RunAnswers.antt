@@ -23,9 +23,9 @@ use Rattle.nq_model.specs.ServerStep.{receive, tick, crash}
 use Rattle.nq_model.specs.Settle.{said}
 use Rattle.nq_model.specs.Skew.{IsWithinSkew}
 use Rattle.nq_model.specs.World.{Head, World, after_server, after_client, at_client, after_hearing, sending_host, deliver_to_client, deliver_to, deliver, start, run}
-use Rattle.nq_promises.specs.AnswersTellWhatWas.{HasLength, ToldSo, TellsSoAt, AnswersTellWhatWas}
-use Rattle.nq_promises.specs.Bounds.{KeepsBounds, InEveryRun}
-use Rattle.nq_promises.specs.RepliesTellWhatWas.{Once}
+use Rattle.nq_model.specs.AnswersTellWhatWas.{HasLength, ToldSo, TellsSoAt, AnswersTellWhatWas}
+use Rattle.nq_model.specs.Bounds.{KeepsBounds, InEveryRun}
+use Rattle.nq_model.specs.RepliesTellWhatWas.{Once}
 use Rattle.walk_calls.proofs.CallFacts.{CallsAt}
 use Rattle.walk_calls.proofs.Placed.{Placed, call-told, call-later}
 use Rattle.walk_steps.proofs.ClientEntries.{IsTelling, Lent}
@@ -35,9 +35,9 @@ use Rattle.walk_steps.proofs.Packets.{In, in-get, Told as ToldTo}
 use Rattle.walk_steps.proofs.RunCases.{client_at}
 use Rattle.walk_steps.proofs.Worlds.{Holds, to-told, run-holds}
 use Rattle.law_rounds.proofs.Meant.{requests-are-meant}
-use Rattle.law_calls.proofs.RunCalls.{calls-known}
-use Rattle.law_legal.proofs.OkFacts.{KeepsOf}
-use Rattle.law_legal.proofs.Standings.{oks-in-every-run}
+use Rattle.law_runs.proofs.RunCalls.{calls-known}
+use Rattle.law_runs.proofs.OkFacts.{KeepsOf}
+use Rattle.law_runs.proofs.Standings.{oks-in-every-run}
 use Rattle.law_answered.specs.RefusalsHaveCauses.{LacksBlock, HasCauseAt, AnswersHaveCauses}
 use Rattle.law_answered.proofs.AnswerCauses.{Says, SaysAt, Leases, HadNoBlock, later-says, range-of-block, telling-says}
 use Rattle.law_answered.proofs.ClientRests.{IsCachedNext, IsOutside, Rests, AllRest, call-rests, tick-rests, hear-rests, restart-rests}

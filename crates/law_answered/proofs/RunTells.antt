@@ -18,7 +18,7 @@ use Rattle.nq_model.specs.Profile.{most_hosts}
 use Rattle.nq_model.specs.Server.{Server, ServerStep, quiet, with_table, keeping_with, to_host}
 use Rattle.nq_model.specs.ServerStep.{receive, tick, crash, boot, fence, at_time, opens, ends_writing}
 use Rattle.nq_model.specs.World.{Head, World, from_host, after_server, after_client, at_client, after_hearing, sending_host, deliver_to_client, deliver_to, deliver, first_row, start, run}
-use Rattle.nq_promises.specs.RepliesTellWhatWas.{Once, WasSo, RepliesTellWhatWas}
+use Rattle.nq_model.specs.RepliesTellWhatWas.{Once, WasSo, RepliesTellWhatWas}
 use Rattle.walk_steps.proofs.Mail.{none-to-host}
 use Rattle.walk_steps.proofs.Packets.{In, in-append, in-left, in-get, Asked, Told}
 use Rattle.walk_steps.proofs.Worlds.{to-server, run-holds}

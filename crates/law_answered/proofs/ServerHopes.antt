@@ -7,7 +7,7 @@ use Rattle.nq_base.specs.declared.Reply.{Reply}
 use Rattle.nq_base.specs.declared.Request.{Request}
 use Rattle.nq_base.specs.declared.Row.{Row}
 use Rattle.nq_base.specs.declared.Want.{Want}
-use Rattle.nq_promises.specs.RowsStandApart.{WritesAlone}
+use Rattle.nq_model.specs.RowsStandApart.{WritesAlone}
 use Rattle.nq_model.specs.Ask.{mode_conflicts}
 use Rattle.nq_model.specs.Client.{Client, Ticket, UnderWay}
 use Rattle.nq_model.specs.Hear.{inc_of}

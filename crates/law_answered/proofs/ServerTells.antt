@@ -21,7 +21,7 @@ use Rattle.nq_model.specs.Profile.{same_bytes}
 use Rattle.nq_model.specs.Server.{Server, ServerStep, to_host, says, quiet, drops, notices, keeping, keeping_with, with_table, after_notices}
 use Rattle.nq_model.specs.ServerStep.{attaches, vacates, tells_later, serves, leases, receive}
 use Rattle.nq_model.specs.Table.{Table}
-use Rattle.nq_promises.specs.RepliesTellWhatWas.{KeepsAt, KeepsNamed}
+use Rattle.nq_model.specs.RepliesTellWhatWas.{KeepsAt, KeepsNamed}
 use Rattle.law_answered.specs.RefusalsHaveCauses.{IsCause}
 use Rattle.law_answered.proofs.Causes.{IsTold, refused-told, none-beyond, requested-lacks, declined-told}
 use Rattle.walk_steps.proofs.Packets.{In, in-append, told-same, reply-same}

@@ -6,7 +6,7 @@ use Rattle.nq_base.specs.Block.{filled, zeros}
 use Rattle.nq_base.specs.declared.Call.{Call}
 use Rattle.nq_base.specs.declared.Event.{Event}
 use Rattle.nq_base.specs.declared.Row.{Row}
-use Rattle.nq_promises.specs.Bounds.{BootsWithin, KeepsBounds}
+use Rattle.nq_model.specs.Bounds.{BootsWithin, KeepsBounds}
 use Rattle.nq_model.specs.Lines.{Play}
 use Rattle.nq_model.specs.Profile.{shortest_term}
 use Rattle.nq_model.specs.Server.{Server}

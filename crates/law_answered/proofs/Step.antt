@@ -13,7 +13,7 @@ use Rattle.nq_base.specs.declared.Row.{Row}
 use Rattle.nq_base.specs.declared.Tag.{Tag}
 use Rattle.nq_base.specs.declared.Want.{Want}
 use Rattle.nq_base.specs.declared.Who.{Who}
-use Rattle.nq_promises.specs.RowsStandApart.{WritesAlone}
+use Rattle.nq_model.specs.RowsStandApart.{WritesAlone}
 use Rattle.nq_model.specs.Ask.{mode_conflicts}
 use Rattle.nq_model.specs.Client.{Client, ClientStep, Job, attaching, for_call, renewing, pushing, Notice, Ticket, UnderWay, begun, lease_on, notice_on}
 use Rattle.nq_model.specs.Hear.{hear, refusal_counts, holds_later, cancels, evicted, goes_on}
@@ -68,7 +68,7 @@ use Rattle.law_answered.proofs.Served.{IsStill, IsWant, by_read, by_lease, RowFr
 use Rattle.law_answered.proofs.UnderWay.{InOrder, TagsFit, hear-sent, serves-is}
 use Rattle.law_answered.proofs.Asking.{Caller, IsOff, Fate, all_on, off, fate, other-hopes, goes-on}
 use Rattle.law_answered.proofs.Barred.{Shares, Barred, shared, gone, gone-receive, shared-receive, rows-kept}
-use Rattle.law_files.proofs.ChainWorlds.{run-ids}
+use Rattle.law_runs.proofs.ChainWorlds.{run-ids}
 use Rattle.law_answered.proofs.Leaving.{waits-leave, told-leaves}
 
 -- ---- rows and calls

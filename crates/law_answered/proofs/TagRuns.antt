@@ -21,7 +21,7 @@ use Rattle.nq_model.specs.ServerStep.{receive, tick, crash, boot}
 use Rattle.nq_model.specs.Skew.{IsWithinSkew}
 use Rattle.nq_model.specs.Table.{Table, same_who, tag_below, next_tag, find_row, empty_table, with_rows}
 use Rattle.nq_model.specs.World.{Head, World, from_host, after_server, after_client, sending_host, start, run}
-use Rattle.nq_promises.specs.Bounds.{KeepsBounds}
+use Rattle.nq_model.specs.Bounds.{KeepsBounds}
 use Rattle.law_rounds.proofs.HostsBelow.{one-row-each}
 use Rattle.law_rounds.proofs.NoticeRows.{notices-mark}
 use Rattle.law_bounds.proofs.LeaseIntervals.{run-runs}

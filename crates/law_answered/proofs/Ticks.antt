@@ -12,7 +12,7 @@ use Rattle.nq_model.specs.Settle.{settle}
 use Rattle.nq_model.specs.Table.{find_row, is_row_of, with_rows}
 use Rattle.nq_model.specs.World.{Head, World, after_client, after_server, at_client, run}
 use Rattle.nq_model.specs.Skew.{IsWithinSkew}
-use Rattle.nq_promises.specs.Bounds.{KeepsBounds}
+use Rattle.nq_model.specs.Bounds.{KeepsBounds}
 use Rattle.law_rounds.proofs.ClientCount.{client-count}
 use Rattle.law_rounds.specs.CalmRoundsAreLawful.{IsLawful}
 use Rattle.law_rounds.specs.QuietDeliveries.{recovers}

@@ -1,7 +1,7 @@
 -- Every call is answered after as many calm rounds as the longest term alone tells, however many calls are open.
 use Rattle.std.specs.Prelude.{◌≤◌, ℕ, ◌+◌, List, All, length}
 use Rattle.nq_base.specs.declared.Event.{Event}
-use Rattle.nq_promises.specs.Bounds.{KeepsBounds}
+use Rattle.nq_model.specs.Bounds.{KeepsBounds}
 use Rattle.nq_model.specs.Profile.{most_hosts}
 use Rattle.nq_model.specs.Skew.{IsWithinSkew}
 use Rattle.nq_model.specs.World.{Head, run}

@@ -1,7 +1,7 @@
 -- Where no read and no write is open, each call is answered within four rounds, however many there are.
 use Rattle.std.specs.Prelude.{◌≡◌, ℕ, ◌+◌, false, List, Some, All, length}
 use Rattle.nq_base.specs.declared.Event.{Event}
-use Rattle.nq_promises.specs.Bounds.{KeepsBounds}
+use Rattle.nq_model.specs.Bounds.{KeepsBounds}
 use Rattle.nq_model.specs.Client.{Client, UnderWay}
 use Rattle.nq_model.specs.Skew.{IsWithinSkew}
 use Rattle.nq_model.specs.World.{Head, run}

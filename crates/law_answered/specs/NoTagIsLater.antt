@@ -10,7 +10,7 @@ use Rattle.nq_model.specs.Message.{call}
 use Rattle.nq_model.specs.Server.{serving, to_host}
 use Rattle.nq_model.specs.Table.{find_row, tag_below}
 use Rattle.nq_model.specs.World.{World, from_host, run}
-use Rattle.nq_promises.specs.Bounds.{InEveryRun}
+use Rattle.nq_model.specs.Bounds.{InEveryRun}
 
 -- what a host's client has and was told of a file, and what it gave up: its lease, whether it runs or not, the notice that waits, each notice that was
 -- ever sent to it, and each VACATED that it ever sent. None of these has a later tag than this one

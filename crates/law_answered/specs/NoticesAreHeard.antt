@@ -2,7 +2,7 @@
 use Rattle.std.specs.Prelude.{◌≡◌, ◌<◌, ℕ, true, Some, slice_get}
 use Rattle.nq_base.specs.declared.Request.{Request}
 use Rattle.nq_base.specs.declared.Row.{Row}
-use Rattle.nq_promises.specs.Bounds.{InEveryRun}
+use Rattle.nq_model.specs.Bounds.{InEveryRun}
 use Rattle.nq_model.specs.Client.{Client, ClientStep, Lease, lease_on}
 use Rattle.nq_model.specs.Hear.{hear}
 use Rattle.nq_model.specs.Message.{call}

@@ -19,8 +19,8 @@ use Rattle.nq_model.specs.Message.{call, reply, asker}
 use Rattle.nq_model.specs.Profile.{most_blocks, most_blocks_of_file, most_files, most_ids}
 use Rattle.nq_model.specs.Server.{to_host}
 use Rattle.nq_model.specs.World.{Head, World, from_host, run}
-use Rattle.nq_promises.specs.Bounds.{InEveryRun}
-use Rattle.nq_promises.specs.RepliesTellWhatWas.{Once}
+use Rattle.nq_model.specs.Bounds.{InEveryRun}
+use Rattle.nq_model.specs.RepliesTellWhatWas.{Once}
 
 -- ---- causes
 

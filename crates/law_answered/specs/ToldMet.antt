@@ -12,7 +12,7 @@ use Rattle.nq_model.specs.Profile.{most_files}
 use Rattle.nq_model.specs.Server.{to_host}
 use Rattle.nq_model.specs.Skew.{IsWithinSkew}
 use Rattle.nq_model.specs.World.{Head, run}
-use Rattle.nq_promises.specs.Bounds.{KeepsBounds}
+use Rattle.nq_model.specs.Bounds.{KeepsBounds}
 
 -- after some schedule a file was made, and was found by its name; its length and revision were told
 pub record TellingsAreMet : Type 0 where

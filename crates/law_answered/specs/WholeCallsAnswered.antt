@@ -1,7 +1,7 @@
 -- Whole rounds answer every call: all that is under way arrives before the clocks tick, in any order in which each link keeps its own.
 use Rattle.std.specs.Prelude.{◌≡◌, ◌≤◌, ℕ, ◌+◌, ◌*◌, false, List, All, length}
 use Rattle.nq_base.specs.declared.Event.{Event}
-use Rattle.nq_promises.specs.Bounds.{KeepsBounds}
+use Rattle.nq_model.specs.Bounds.{KeepsBounds}
 use Rattle.nq_model.specs.Skew.{IsWithinSkew}
 use Rattle.nq_model.specs.World.{Head, run}
 use Rattle.law_rounds.specs.DeliveryEnds.{AreUnderWay, calmed}

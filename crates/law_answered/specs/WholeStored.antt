@@ -1,7 +1,7 @@
 -- By whole rounds all that is delayed is stored, though nobody syncs.
 use Rattle.std.specs.Prelude.{◌≤◌, ℕ, ◌+◌, List, All, length}
 use Rattle.nq_base.specs.declared.Event.{Event}
-use Rattle.nq_promises.specs.Bounds.{KeepsBounds}
+use Rattle.nq_model.specs.Bounds.{KeepsBounds}
 use Rattle.nq_model.specs.Skew.{IsWithinSkew}
 use Rattle.nq_model.specs.World.{Head, run}
 use Rattle.law_rounds.specs.DeliveryEnds.{AreUnderWay, calmed}

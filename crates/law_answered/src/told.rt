@@ -3,8 +3,8 @@
 
 ghost use Rattle.law_answered.specs.ToldMet.{NoRoomIsMet, RefusalsAreMet, TellingsAreMet};
 ghost use Rattle.law_answered.specs.RefusalsHaveCauses.{AnswersHaveCauses, RefusalsHaveCauses};
-ghost use Rattle.nq_promises.specs.AnswersTellWhatWas.{AnswersTellWhatWas};
-ghost use Rattle.nq_promises.specs.RepliesTellWhatWas.{RepliesTellWhatWas};
+ghost use Rattle.nq_model.specs.AnswersTellWhatWas.{AnswersTellWhatWas};
+ghost use Rattle.nq_model.specs.RepliesTellWhatWas.{RepliesTellWhatWas};
 
 /// After every schedule, what a reply to LOOKUP, CREATE or GETATTR tells of a file was so at the server at some moment when the
 /// request had been sent: the file of that name had that id, or the file had that length and that revision.

@@ -8,7 +8,7 @@ use Rattle.nq_model.specs.Message.{Datagram}
 use Rattle.nq_model.specs.Server.{Phase, serving, recovering, Server, quiet, drops, says, after_notices, keeping, keeping_with, with_table}
 use Rattle.nq_model.specs.ServerStep.{attaches, vacates, tells_later, serves, leases, receive, tick, at_time, opens, ends_writing}
 use Rattle.nq_model.specs.Table.{Table}
-use Rattle.nq_promises.specs.RecoveriesWait.{WasStoredAt}
+use Rattle.nq_model.specs.RecoveriesWait.{WasStoredAt}
 use Rattle.walk_steps.proofs.ServerCases.{server-hears, server-ticks}
 use Rattle.walk_steps.proofs.ServerNumbers.{PhaseWaits, PhaseWaitsOf, Waits}
 use Rattle.walk_steps.proofs.ServerOutcomes.{ServerCases}

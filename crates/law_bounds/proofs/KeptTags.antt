@@ -10,7 +10,7 @@ use Rattle.nq_model.specs.Message.{Datagram}
 use Rattle.nq_model.specs.Server.{Phase, serving, recovering, Server}
 use Rattle.nq_model.specs.ServerStep.{to_read, is_over, end_reading, receive, tick, boot, crash}
 use Rattle.nq_model.specs.Table.{Table, is_row_of, find_row, put_row, with_rows, after_draw, empty_table}
-use Rattle.nq_promises.specs.RowsStandApart.{KeepsTags}
+use Rattle.nq_model.specs.RowsStandApart.{KeepsTags}
 use Rattle.walk_steps.proofs.AskCases.{with_marked, IsGranted, shares_again, begins_sharing, begins_caching, renews_row}
 use Rattle.walk_steps.proofs.RowChanges.{HasUniqueKeys, unique-filtered, of-key, found-put, found-kept, found-vacated, found-marked, mark-is}
 use Rattle.walk_steps.proofs.Rows.{found-row}

@@ -27,8 +27,8 @@ use Rattle.walk_steps.proofs.ServerTables.{boots-receive, boots-tick, boots-cras
 use Rattle.walk_steps.proofs.Unrowed.{IsUnrowed, unrowed-receive, unrowed-tick, unrowed-crash}
 use Rattle.walk_steps.proofs.WorldClocks.{Clocked, StillOf, StillIf, call-still, tick-still, hear-still, run-clocked}
 use Rattle.walk_steps.proofs.Worlds.{IsAt, Holds, get-set-same, get-set-other, to-server, to-told, run-holds, first-client}
-use Rattle.nq_promises.specs.Bounds.{BootsWithin, KeepsBounds}
-use Rattle.nq_promises.specs.LeaseIntervals.{LeaseIntervalInEveryRun}
+use Rattle.nq_model.specs.Bounds.{BootsWithin, KeepsBounds}
+use Rattle.nq_model.specs.LeaseIntervals.{LeaseIntervalInEveryRun}
 use Rattle.nq_model.specs.Client.{Client, ClientStep, attaching, Ticket}
 use Rattle.nq_model.specs.ClientStep.{client_call, client_tick, restart, starts, fresh_client, attached_client, next_incarnation}
 use Rattle.nq_model.specs.Hear.{hear}

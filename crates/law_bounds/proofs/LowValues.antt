@@ -20,7 +20,7 @@ use Rattle.nq_model.specs.ServerStep.{row_of_attach}
 use Rattle.nq_model.specs.Stepped.{most_events, most_sent}
 use Rattle.nq_model.specs.Table.{Table, find_row}
 use Rattle.nq_model.proofs.FreshFits.{found-has}
-use Rattle.nq_promises.specs.RepliesAreOwed.{goes_out, is_out_of_bounds}
+use Rattle.nq_model.specs.RepliesAreOwed.{goes_out, is_out_of_bounds}
 use Rattle.walk_steps.proofs.Rows.{choice}
 use Rattle.walk_steps.proofs.Tests.{is-not-at-most}
 use Rattle.law_bounds.specs.Within.{RevisionsUpTo}

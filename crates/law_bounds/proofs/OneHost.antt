@@ -11,7 +11,7 @@ use Rattle.nq_model.specs.Message.{Message, Packet, datagram_of}
 use Rattle.nq_model.specs.Server.{Server, ServerStep}
 use Rattle.nq_model.specs.ServerStep.{receive, tick, crash}
 use Rattle.nq_model.specs.World.{World, from_host, after_server, after_client, at_client, after_hearing, sending_host, deliver_to_client, deliver_to, deliver}
-use Rattle.nq_promises.specs.StepsAreOfOneHost.{receiver_of, ChangesOnly, StepsAreOfOneHost, IsAlike, DoesSame, StepsRestOnTheirHost}
+use Rattle.nq_model.specs.StepsAreOfOneHost.{receiver_of, ChangesOnly, StepsAreOfOneHost, IsAlike, DoesSame, StepsRestOnTheirHost}
 use Rattle.walk_steps.proofs.Worlds.{set-there, get-set-other}
 
 -- ---- one party

@@ -22,7 +22,7 @@ use Rattle.walk_steps.proofs.ServerKnows.{LineMoves, line_stays, line_decides, l
 use Rattle.walk_steps.proofs.ServerSays.{AllSaid}
 use Rattle.law_bounds.proofs.WorldSequences.{Draws, run-draws}
 use Rattle.walk_steps.proofs.Worlds.{IsAt, Holds, get-set-same, get-set-other, to-told, received-said, tick-said, crash-said, run-holds}
-use Rattle.nq_promises.specs.Bounds.{KeepsBounds}
+use Rattle.nq_model.specs.Bounds.{KeepsBounds}
 use Rattle.nq_model.specs.Client.{Client, ClientStep, Ticket}
 use Rattle.nq_model.specs.ClientStep.{client_call, client_tick, restart}
 use Rattle.nq_model.specs.Hear.{hear}

@@ -5,7 +5,7 @@ use Rattle.nq_base.specs.declared.Reply.{Reply}
 use Rattle.walk_steps.proofs.ClientMoves.{none-some}
 use Rattle.walk_steps.proofs.Packets.{In, in-get}
 use Rattle.walk_steps.proofs.ServerSays.{IsReplyTo}
-use Rattle.nq_promises.specs.OneRequestPerSequence.{AnswersRequest}
+use Rattle.nq_model.specs.OneRequestPerSequence.{AnswersRequest}
 use Rattle.nq_model.specs.Message.{Packet, call, reply}
 use Rattle.nq_model.specs.Server.{to_host}
 use Rattle.nq_model.specs.World.{from_host}

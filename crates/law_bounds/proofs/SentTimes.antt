@@ -4,7 +4,7 @@ use Rattle.nq_base.specs.declared.Event.{Event}
 use Rattle.walk_steps.proofs.Rows.{choice}
 use Rattle.walk_steps.proofs.Tests.{is-below, is-not-below}
 use Rattle.walk_steps.proofs.WorldClocks.{run-clocked}
-use Rattle.nq_promises.specs.OneRequestPerSequence.{sent_time}
+use Rattle.nq_model.specs.OneRequestPerSequence.{sent_time}
 use Rattle.nq_model.specs.World.{Head, run}
 
 -- the server's clock never goes back

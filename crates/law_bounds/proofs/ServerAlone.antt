@@ -8,9 +8,9 @@ use Rattle.nq_model.specs.Message.{Datagram}
 use Rattle.nq_model.specs.Server.{Phase, serving, recovering, Server}
 use Rattle.nq_model.specs.ServerStep.{boot}
 use Rattle.nq_model.specs.Table.{Table, is_row_of, find_row, empty_table}
-use Rattle.nq_promises.specs.RecoveriesWait.{WaitsLong, RecoveryWaits}
-use Rattle.nq_promises.specs.RowsStandApart.{AreOfKeptIncarnations, WritesAlone, KeepsTags, StandApart, RowsStandApart}
-use Rattle.nq_promises.specs.ServerAlone.{Coming, datagram, ticks, crashes, step_for, server_after, first_boot, booted_last, entries_since_boot}
+use Rattle.nq_model.specs.RecoveriesWait.{WaitsLong, RecoveryWaits}
+use Rattle.nq_model.specs.RowsStandApart.{AreOfKeptIncarnations, WritesAlone, KeepsTags, StandApart, RowsStandApart}
+use Rattle.nq_model.specs.ServerAlone.{Coming, datagram, ticks, crashes, step_for, server_after, first_boot, booted_last, entries_since_boot}
 use Rattle.law_bounds.proofs.HeardWrites.{HeardWrites, StoredBy, hears-writes, writes-receive, writes-tick}
 use Rattle.law_bounds.proofs.KeptTags.{own-keys, keeps-receive, keeps-tick, keeps-crash}
 use Rattle.walk_steps.proofs.RowChanges.{HasUniqueKeys, of-key}

@@ -16,7 +16,7 @@ use Rattle.nq_model.specs.Profile.{most_hosts, xid_end}
 use Rattle.nq_model.specs.Server.{Server, last_in, notices, quiet, drops, says}
 use Rattle.nq_model.specs.ServerStep.{access_of, to_read, end_reading, attaches, vacates, vacated_rows, tells_later, serves, leases, opens, ends_writing, receive, tick, boot, crash}
 use Rattle.nq_model.specs.Table.{Table, empty_table, after_draw, find_row, is_row_of, put_row, drop_row, same_tag, with_rows}
-use Rattle.nq_promises.specs.ServerAlone.{Coming, datagram, ticks, crashes, step_for, server_after, first_boot}
+use Rattle.nq_model.specs.ServerAlone.{Coming, datagram, ticks, crashes, step_for, server_after, first_boot}
 use Rattle.walk_steps.proofs.AskCases.{IsGranted, shares_again, begins_sharing, begins_caching, renews_row}
 use Rattle.walk_steps.proofs.RowChanges.{mark, find-put, find-marked, none-filtered, of-key}
 use Rattle.walk_steps.proofs.Rows.{choice, found-row}

@@ -4,7 +4,7 @@ use Rattle.nq_base.specs.Block.{filled, zeros}
 use Rattle.nq_base.specs.declared.Call.{Call}
 use Rattle.nq_base.specs.declared.Event.{Event}
 use Rattle.walk_steps.proofs.NoCrash.{no-crash-within, one-first}
-use Rattle.nq_promises.specs.Bounds.{BootsWithin}
+use Rattle.nq_model.specs.Bounds.{BootsWithin}
 use Rattle.law_bounds.specs.IntervalsMet.{IsMet, IsMetInRecovery, holds_running, is_recovering}
 use Rattle.std.specs.Prelude.{slice_get, All}
 use Rattle.nq_model.proofs.SkewTest.{skew-test-is-sound}

@@ -13,8 +13,8 @@ use Rattle.nq_model.specs.ServerStep.{attaches, tells_later, serves, leases, vac
 use Rattle.nq_model.specs.Table.{Table, empty_table, with_rows, after_draw, find_row}
 use Rattle.nq_model.specs.World.{first_kept}
 use Rattle.law_bounds.specs.RecoveriesAreMet.{is_writer_to_go, RecoveriesAreMet}
-use Rattle.nq_promises.specs.RecoveriesWait.{WasStoredAt}
-use Rattle.nq_promises.specs.ServerAlone.{Coming, datagram, ticks, crashes, server_after, first_boot, entries_since_boot}
+use Rattle.nq_model.specs.RecoveriesWait.{WasStoredAt}
+use Rattle.nq_model.specs.ServerAlone.{Coming, datagram, ticks, crashes, server_after, first_boot, entries_since_boot}
 
 -- two hosts, one file of one block
 abbrev kept : Kept

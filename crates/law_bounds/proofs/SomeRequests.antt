@@ -7,7 +7,7 @@ use Rattle.nq_base.specs.declared.Event.{Event}
 use Rattle.nq_base.specs.declared.Reply.{Reply}
 use Rattle.nq_base.specs.declared.Request.{Request}
 use Rattle.walk_steps.proofs.NoCrash.{no-crash-within}
-use Rattle.nq_promises.specs.OneRequestPerSequence.{IsOpenRequest}
+use Rattle.nq_model.specs.OneRequestPerSequence.{IsOpenRequest}
 use Rattle.law_bounds.specs.RequestsMet.{IsAskedTwice}
 use Rattle.nq_model.proofs.SkewTest.{skew-test-is-sound}
 use Rattle.nq_model.specs.Client.{Client, Job, Ticket}

@@ -6,7 +6,7 @@ use Rattle.nq_model.specs.Server.{Phase, serving, recovering}
 use Rattle.nq_model.specs.Skew.{IsWithinSkew}
 use Rattle.nq_model.specs.Table.{caches}
 use Rattle.nq_model.specs.World.{Head, run}
-use Rattle.nq_promises.specs.Bounds.{KeepsBounds}
+use Rattle.nq_model.specs.Bounds.{KeepsBounds}
 
 -- whether a lease is a caching one, and runs by the client's clock
 abbrev pub lease_runs : Client → Option Lease → Bool

@@ -14,7 +14,7 @@ use Rattle.nq_model.specs.Profile.{shortest_term, longest_term, most_hosts, most
 use Rattle.nq_model.specs.Server.{Server}
 use Rattle.nq_model.specs.Stepped.{most_events, most_sent}
 use Rattle.nq_model.specs.World.{Head, World, run}
-use Rattle.nq_promises.specs.RepliesAreOwed.{is_out_of_bounds}
+use Rattle.nq_model.specs.RepliesAreOwed.{is_out_of_bounds}
 
 -- if a message is a request, its name is a name, and its body a block of bytes
 abbrev pub CarriesText : Message → Type 0

@@ -24,7 +24,7 @@ use Rattle.nq_plan.specs.Held.{HeldTables}
 use Rattle.nq_plan.specs.Placing.{IsPlaced, is_unused, placed_slot}
 use Rattle.nq_plan.specs.Ranges.{blocks_then, body_range, removal_ranges}
 use Rattle.nq_plan.specs.declared.Placed.{Placed}
-use Rattle.nq_redo.specs.Ranges.{applied}
+use Rattle.nq_disk.specs.Ranges.{applied}
 use Rattle.law_image.proofs.Files.{HasId, each-file, found-at, known-file, none-at, position-none, position-some, row-has-not, unknown-files}
 use Rattle.law_image.proofs.Filing.{of-row}
 use Rattle.law_image.proofs.Writing.{cleared-ranges, written-over}

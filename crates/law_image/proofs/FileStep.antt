@@ -23,7 +23,7 @@ use Rattle.nq_plan.specs.Held.{HeldTables, IsHeldOf}
 use Rattle.nq_plan.specs.Placing.{IsPlaced, file_for, free_blocks, is_unused, placed_blocks, placed_slot}
 use Rattle.nq_plan.specs.Ranges.{file_ranges, whole_ranges, row_range}
 use Rattle.nq_plan.specs.declared.Placed.{Placed}
-use Rattle.nq_redo.specs.Ranges.{Range, applied}
+use Rattle.nq_disk.specs.Ranges.{Range, applied}
 use Rattle.law_image.specs.Changing.{HasZeros, new_blocks}
 use Rattle.law_image.proofs.Files.{HasId, each-row, found-at, known-file, name-of, none-at, position-some, unknown-files, unnamed-files}
 use Rattle.law_image.proofs.Filing.{AreOwn, IsFiled, IsRight, IsSeated, can-stand, has-bodies, new-filed, row-filed, same-filed}

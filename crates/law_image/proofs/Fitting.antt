@@ -13,7 +13,7 @@ use Rattle.nq_base.specs.declared.Change.{Change}
 use Rattle.nq_base.specs.declared.FileRow.{FileRow}
 use Rattle.nq_base.specs.declared.Heads.{Heads}
 use Rattle.nq_base.specs.declared.HostChange.{HostChange}
-use Rattle.nq_format.specs.Standing.{image_area}
+use Rattle.nq_plan.specs.Standing.{image_area}
 use Rattle.nq_image.specs.Heads.{front_checks, front_of}
 use Rattle.nq_image.specs.Layout.{block_place, piece, word_in}
 use Rattle.nq_image.specs.Standing.{IsFileBlock, PlacedFile, Standing, Stands, blocks_in, found_of, front_for, row_at, row_blocks}
@@ -35,9 +35,9 @@ use Rattle.nq_plan.specs.Held.{HeldTables, IsHeldOf}
 use Rattle.nq_plan.specs.Placing.{IsPlaced, IsPlacedFor, free_blocks}
 use Rattle.nq_plan.specs.Ranges.{blocks_then, body_range, body_ranges, file_ranges, heads_ranges, host_ranges, id_range, placed_ranges, range, ranges_of, removal_ranges, removed_ranges, row_range, table_range, whole_ranges}
 use Rattle.nq_plan.specs.declared.Placed.{Placed}
-use Rattle.nq_redo.specs.Batch.{AreAllowed, IsFit, body_of, spelled}
-use Rattle.nq_redo.specs.Ranges.{Range}
-use Rattle.nq_redo.specs.Record.{is_misplaced}
+use Rattle.nq_disk.specs.Batch.{AreAllowed, IsFit, body_of, spelled}
+use Rattle.nq_disk.specs.Ranges.{Range}
+use Rattle.nq_disk.specs.Record.{is_misplaced}
 use Rattle.law_image.specs.Changing.{CanBeWritten, HasZeros, new_blocks}
 use Rattle.law_image.proofs.Files.{PassesAt, position-some}
 use Rattle.law_image.proofs.Filing.{of-row}

@@ -6,7 +6,7 @@ use Rattle.std.specs.Prelude.{nat_eq, nat_le, nat_lt}
 use Rattle.std.proofs.lemmas.Bool.Decides.{nat_tests}
 use Rattle.nq_disk.specs.Bytes.{written}
 use Rattle.nq_disk.specs.BytesLaws.{length-written, written-outside}
-use Rattle.nq_format.specs.Standing.{begins_as_image, image_area, settled_as, stands_as}
+use Rattle.nq_plan.specs.Standing.{begins_as_image, image_area, settled_as, stands_as}
 use Rattle.nq_image.specs.Image.{FoundOne}
 use Rattle.nq_image.specs.Kept.{opened}
 use Rattle.nq_image.specs.Layout.{block_place, piece}
@@ -17,11 +17,11 @@ use Rattle.nq_image.specs.declared.Slot.{Slot}
 use Rattle.nq_image.proofs.Holding.{length-slots}
 use Rattle.nq_image.proofs.Pieces.{at-piece, piece-same}
 use Rattle.nq_image.proofs.ReadBack.{and-two, ge-true}
-use Rattle.nq_redo.specs.Batch.{IsFit, body_of}
-use Rattle.nq_redo.specs.Record.{blanked, is_misplaced}
-use Rattle.nq_redo.specs.Whole.{IsClosed, OpensAs, after, found as found_by}
-use Rattle.nq_redo.proofs.Front.{front-stays}
-use Rattle.nq_redo.proofs.Opening.{blanked-outside, length-blanked, opened-closed}
+use Rattle.nq_disk.specs.Batch.{IsFit, body_of}
+use Rattle.nq_disk.specs.Record.{blanked, is_misplaced}
+use Rattle.nq_disk.specs.Whole.{IsClosed, OpensAs, after, found as found_by}
+use Rattle.nq_disk.proofs.Front.{front-stays}
+use Rattle.nq_disk.proofs.Opening.{blanked-outside, length-blanked, opened-closed}
 use Rattle.law_image.specs.Migrated.{AgreeUpTo, IsMigrated, blocks_in, numbers_then}
 use Rattle.law_image.specs.Prepared.{SameBelow, change_of, prepared}
 use Rattle.law_image.proofs.Ids.{few-files}

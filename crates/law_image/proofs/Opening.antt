@@ -8,7 +8,7 @@ use Rattle.std.proofs.lemmas.Bool.Decides.{nat_tests}
 use Rattle.std.proofs.lemmas.List.{get_or_past, length-replicate}
 use Rattle.nq_base.specs.declared.Change.{Change}
 use Rattle.nq_disk.specs.Bytes.{written}
-use Rattle.nq_format.specs.Standing.{begins_as_image, image_area, settled_as, stands_as}
+use Rattle.nq_plan.specs.Standing.{begins_as_image, image_area, settled_as, stands_as}
 use Rattle.nq_image.specs.Kept.{opened}
 use Rattle.nq_image.specs.Layout.{block_place, piece}
 use Rattle.nq_image.specs.Standing.{Agree, IsInBlock, IsUsed, Standing, Stands, found_of, kept_at, overwritten}
@@ -24,11 +24,11 @@ use Rattle.nq_plan.specs.Held.{HeldTables, IsHeldOf}
 use Rattle.nq_plan.specs.Ranges.{ranges_of}
 use Rattle.nq_plan.specs.Settling.{settled}
 use Rattle.nq_plan.specs.declared.Placed.{Placed}
-use Rattle.nq_redo.specs.Ranges.{applied}
-use Rattle.nq_redo.specs.Record.{blanked}
-use Rattle.nq_redo.specs.Whole.{IsClosed, after, found}
-use Rattle.nq_redo.proofs.Front.{front-stays}
-use Rattle.nq_redo.proofs.Opening.{blanked-outside, length-blanked, opened-closed}
+use Rattle.nq_disk.specs.Ranges.{applied}
+use Rattle.nq_disk.specs.Record.{blanked}
+use Rattle.nq_disk.specs.Whole.{IsClosed, after, found}
+use Rattle.nq_disk.proofs.Front.{front-stays}
+use Rattle.nq_disk.proofs.Opening.{blanked-outside, length-blanked, opened-closed}
 use Rattle.law_image.specs.Changing.{CanBeWritten, HasZeros, IsWritten, new_blocks}
 use Rattle.law_image.proofs.Whole.{change-is-written}
 use Rattle.law_image.proofs.Writing.{written-over, zeros-behind}

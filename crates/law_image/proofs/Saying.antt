@@ -3,7 +3,7 @@ use Rattle.std.proofs.Common.{◌≡◌, ◌≤◌, ◌&&◌, ℕ, Bool, true, f
 use Rattle.std.specs.Cmp.Lexicographic.{pointwise}
 use Rattle.std.specs.Prelude.{nat_eq, nat_le, slice_index_or, sum_by}
 use Rattle.nq_base.specs.declared.HostRow.{HostRow}
-use Rattle.nq_format.specs.Standing.{begins_as_image, image_area, stands_as}
+use Rattle.nq_plan.specs.Standing.{begins_as_image, image_area, stands_as}
 use Rattle.nq_image.specs.Check.{tested}
 use Rattle.nq_image.specs.Heads.{boots_checks, boots_of, version_of}
 use Rattle.nq_image.specs.Hosts.{hosts_checks, hosts_of}
@@ -17,9 +17,9 @@ use Rattle.nq_image.specs.declared.Slot.{Slot}
 use Rattle.nq_image.specs.declared.Version.{Version}
 use Rattle.nq_image.proofs.Imaging.{goes-if}
 use Rattle.nq_image.proofs.Pieces.{piece-by-first, piece-of-first}
-use Rattle.nq_redo.specs.Record.{blanked}
-use Rattle.nq_redo.specs.Whole.{IsClosed}
-use Rattle.nq_redo.proofs.Opening.{blanked-outside, length-blanked}
+use Rattle.nq_disk.specs.Record.{blanked}
+use Rattle.nq_disk.specs.Whole.{IsClosed}
+use Rattle.nq_disk.proofs.Opening.{blanked-outside, length-blanked}
 use Rattle.law_image.specs.Head.{head_one, if_reached}
 use Rattle.law_image.proofs.Leaving.{blank-rows, both-begin, closed-found, stands-found}
 

@@ -17,7 +17,7 @@ use Rattle.nq_model.specs.Change.{AreHeadsWithin, IsHostWithin, heads_of, heads_
 use Rattle.nq_model.specs.Kept.{Kept, with_row}
 use Rattle.nq_plan.proofs.Sizes.{length-heads, length-host}
 use Rattle.nq_plan.specs.Ranges.{heads_ranges, host_ranges}
-use Rattle.nq_redo.specs.Ranges.{applied}
+use Rattle.nq_disk.specs.Ranges.{applied}
 use Rattle.law_image.specs.Changing.{HasZeros}
 use Rattle.law_image.proofs.Writing.{written-over, zeros-behind}
 

@@ -27,7 +27,7 @@ use Rattle.nq_plan.specs.Placing.{IsPlacedFor}
 use Rattle.nq_plan.specs.Ranges.{blocks_then, body_ranges, heads_ranges, host_ranges, placed_ranges, ranges_of, removal_ranges, removed_ranges}
 use Rattle.nq_plan.specs.Settling.{marked_all, settled, with_file_at, with_file_if, with_rows, without, without_at, without_slot}
 use Rattle.nq_plan.specs.declared.Placed.{Placed}
-use Rattle.nq_redo.specs.Ranges.{applied}
+use Rattle.nq_disk.specs.Ranges.{applied}
 use Rattle.law_image.specs.Changing.{CanBeWritten, HasZeros, IsWritten, new_blocks}
 use Rattle.law_image.proofs.BlockStep.{IsBlockEnd, IsOf, IsRemovalEnd, block-end, of-known, of-other, of-placed, removal-end}
 use Rattle.law_image.proofs.FileStep.{IsEnd, IsFitRow, IsNewRow, file-end, known-here, own-row-id}

@@ -7,7 +7,7 @@ use Rattle.nq_image.specs.Layout.{block_place}
 use Rattle.nq_image.specs.Rows.{blocks_of}
 use Rattle.nq_image.specs.Writing.{table_of_blocks}
 use Rattle.nq_image.specs.declared.Slot.{Slot}
-use Rattle.nq_redo.specs.Ranges.{Range}
+use Rattle.nq_disk.specs.Ranges.{Range}
 use Rattle.law_image.specs.Migrated.{blocks_in, files_in, numbers_then}
 
 -- the bytes once the tables of these rows were written from a place on, whose blocks stand one behind another from one on

@@ -2,12 +2,12 @@
 
 ghost use Rattle.std.specs.Prelude.{ℕ, List, Option, length};
 ghost use Rattle.nq_base.specs.declared.Change.{Change};
-ghost use Rattle.nq_format.specs.Standing.{image_area};
+ghost use Rattle.nq_plan.specs.Standing.{image_area};
 ghost use Rattle.nq_plan.specs.Held.{HeldTables};
 ghost use Rattle.nq_plan.specs.Ranges.{ranges_of};
 ghost use Rattle.nq_plan.specs.declared.Placed.{Placed};
-ghost use Rattle.nq_redo.specs.Batch.{IsFit};
-ghost use Rattle.nq_redo.specs.Ranges.{applied};
+ghost use Rattle.nq_disk.specs.Batch.{IsFit};
+ghost use Rattle.nq_disk.specs.Ranges.{applied};
 ghost use Rattle.law_image.specs.Changing.{CanBeWritten, IsWritten};
 
 /// Where the ranges of a change are written, the image stands for the changed state. They fit into its redo record.

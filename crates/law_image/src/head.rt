@@ -1,11 +1,11 @@
 //! An image of version 1 is what its first bytes say, where the disk holds its blocks.
 
 ghost use Rattle.std.specs.Prelude.{◌≡◌, ℕ, List, Err, Ok, Some, true, length, slice_index};
-ghost use Rattle.nq_format.specs.Standing.{begins_as_image, image_area, stands_as};
+ghost use Rattle.nq_plan.specs.Standing.{begins_as_image, image_area, stands_as};
 ghost use Rattle.nq_image.specs.Image.{FoundOne, image_one};
 ghost use Rattle.nq_image.specs.Layout.{piece};
 ghost use Rattle.nq_image.specs.Whole.{image_in, of_one};
-ghost use Rattle.nq_redo.specs.Whole.{IsClosed};
+ghost use Rattle.nq_disk.specs.Whole.{IsClosed};
 ghost use Rattle.law_image.specs.Head.{one_in};
 
 /// An image of version 1 is read in its first bytes. Where one with a closed record has a wrong field, it stands for that.

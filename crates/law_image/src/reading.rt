@@ -1,7 +1,7 @@
 //! What is read of an image whose record is closed.
 
 ghost use Rattle.std.specs.Prelude.{◌≡◌, ℕ, List, Some, None, Result, Ok, Err, slice_index};
-ghost use Rattle.nq_format.specs.Standing.{stands_as};
+ghost use Rattle.nq_plan.specs.Standing.{stands_as};
 ghost use Rattle.nq_image.specs.Check.{tested};
 ghost use Rattle.nq_image.specs.Heads.{front_checks, front_of, version_of};
 ghost use Rattle.nq_image.specs.Image.{FoundTwo, image_two, no_marks};

@@ -2,13 +2,13 @@
 
 ghost use Rattle.std.specs.Prelude.{◌≡◌, ◌≤◌, ℕ, List, Option, Some, Ok, length};
 ghost use Rattle.nq_base.specs.declared.Change.{Change};
-ghost use Rattle.nq_format.specs.Standing.{image_area, stands_as};
+ghost use Rattle.nq_plan.specs.Standing.{image_area, stands_as};
 ghost use Rattle.nq_image.specs.Standing.{Standing, Stands, kept_at};
 ghost use Rattle.nq_model.specs.Change.{applied};
 ghost use Rattle.nq_plan.specs.Held.{HeldTables};
 ghost use Rattle.nq_plan.specs.Ranges.{ranges_of};
 ghost use Rattle.nq_plan.specs.declared.Placed.{Placed};
-ghost use Rattle.nq_redo.specs.Whole.{IsClosed, after, found};
+ghost use Rattle.nq_disk.specs.Whole.{IsClosed, after, found};
 ghost use Rattle.law_image.specs.Changing.{CanBeWritten, IsWritten};
 
 /// What opens as an image whose record is closed, and where a state stands, stands for that state.

@@ -1,12 +1,12 @@
 //! What a stop leaves of a migration, and what is there behind it.
 
 ghost use Rattle.std.specs.Prelude.{◌≡◌, ◌≤◌, ℕ, List, Ok, Some, true, length, slice_index};
-ghost use Rattle.nq_format.specs.Standing.{begins_as_image, image_area, stands_as};
+ghost use Rattle.nq_plan.specs.Standing.{begins_as_image, image_area, stands_as};
 ghost use Rattle.nq_image.specs.Image.{FoundOne};
 ghost use Rattle.nq_image.specs.Layout.{block_place};
 ghost use Rattle.nq_image.specs.Whole.{image_in, of_one};
-ghost use Rattle.nq_redo.specs.Batch.{IsFit};
-ghost use Rattle.nq_redo.specs.Whole.{IsClosed, OpensAs, after, found as found_by};
+ghost use Rattle.nq_disk.specs.Batch.{IsFit};
+ghost use Rattle.nq_disk.specs.Whole.{IsClosed, OpensAs, after, found as found_by};
 ghost use Rattle.law_image.specs.Migrated.{blocks_in};
 ghost use Rattle.law_image.specs.Prepared.{SameBelow, change_of, prepared};
 

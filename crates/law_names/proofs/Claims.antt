@@ -21,7 +21,7 @@ use Rattle.nq_model.specs.Table.{tag_below}
 use Rattle.nq_name_cache.specs.Asking.{is_reading}
 use Rattle.nq_name_cache.specs.Names.{DirList, Names, Request}
 use Rattle.nq_name_server.specs.Served.{Served, names_behind}
-use Rattle.nq_names_run.specs.Outer.{Outer}
+use Rattle.nq_name_server.specs.Outer.{Outer}
 use Rattle.walk_steps.proofs.Packets.{In}
 use Rattle.law_names.proofs.Chains.{Chained, HasFit, Leads, WasDrawn}
 use Rattle.law_names.proofs.Entries.{entries_in, page-same, upto-same, whole-same, behind-same}

@@ -17,7 +17,7 @@ use Rattle.nq_listing.specs.Reading.{call_as, call_by, call_in, dir_evicted_in, 
 use Rattle.nq_model.specs.Kept.{File, Kept, find_file}
 use Rattle.nq_model.specs.Message.{call, request}
 use Rattle.nq_name_cache.specs.Asking.{is_reading}
-use Rattle.nq_names_run.specs.Outside.{Changes, changes_as, changes_of, own_changes}
+use Rattle.nq_name_server.specs.Outside.{Changes, changes_as, changes_of, own_changes}
 use Rattle.nq_rpc.proofs.Messages.{message_again, null_fits}
 use Rattle.nq_rpc.specs.Message.{call_with, null, numbers, reply_with, spelling}
 use Rattle.nq_wire.specs.Parts.{grant_bytes, head, optional, tag_bytes, IsGrant}

@@ -2,8 +2,8 @@
 use Rattle.std.proofs.Common.{◌≡◌, ◌≤◌, ◌⊎◌, ℕ, zero, suc, ◌+◌, List, [], ◌∷◌, Some, None, length, map, refl, sym, subst, ap, ◌∙◌, arith, inl, inr}
 use Rattle.std.specs.Prelude.{slice_get}
 use Rattle.nq_base.specs.declared.Event.{Event}
-use Rattle.nq_promises.specs.Bounds.{KeepsBounds}
-use Rattle.nq_promises.specs.OneRequestPerSequence.{OneOpenInEveryRun}
+use Rattle.nq_model.specs.Bounds.{KeepsBounds}
+use Rattle.nq_model.specs.OneRequestPerSequence.{OneOpenInEveryRun}
 use Rattle.nq_model.specs.Client.{Client}
 use Rattle.nq_model.specs.ClientStep.{attached_client, fresh_client}
 use Rattle.nq_model.specs.ServerStep.{boot}
@@ -12,12 +12,12 @@ use Rattle.nq_model.specs.Table.{empty_table}
 use Rattle.nq_model.specs.World.{Head, first_clients, start}
 use Rattle.nq_name_cache.specs.Names.{Names, first_number, new_names}
 use Rattle.nq_name_server.specs.Served.{Served}
-use Rattle.nq_names_run.proofs.Inner.{core-listing, delivery-cases, inner-ran, runs-inside}
-use Rattle.nq_names_run.specs.declared.event.NameEvent.{NameEvent}
-use Rattle.nq_names_run.specs.Lasting.{EachListLasts}
-use Rattle.nq_names_run.specs.Outer.{Outside, of_boot, outside_start}
-use Rattle.nq_names_run.specs.Outside.{outside_run, outside_step}
-use Rattle.nq_names_run.specs.Theorem.{EachFindIsKept, IsNamesSchedule}
+use Rattle.nq_name_server.proofs.Inner.{core-listing, delivery-cases, inner-ran, runs-inside}
+use Rattle.nq_name_server.specs.declared.run.event.NameEvent.{NameEvent}
+use Rattle.nq_name_server.specs.Lasting.{EachListLasts}
+use Rattle.nq_name_server.specs.Outer.{Outside, of_boot, outside_start}
+use Rattle.nq_name_server.specs.Outside.{outside_run, outside_step}
+use Rattle.nq_name_server.specs.Theorem.{EachFindIsKept, IsNamesSchedule}
 use Rattle.law_bounds.specs.Within.{AreGiven, NumbersStayWithin}
 use Rattle.walk_steps.proofs.ClientMoves.{none-some, some-same}
 use Rattle.walk_steps.proofs.Clocks.{within-before}

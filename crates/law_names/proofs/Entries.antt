@@ -13,7 +13,7 @@ use Rattle.nq_model.specs.Change.{AreApart}
 use Rattle.nq_model.specs.Kept.{File, find_file, find_name, replace_file, drop_file}
 use Rattle.nq_model.specs.Profile.{same_bytes}
 use Rattle.nq_name_server.specs.Served.{name_of, names_of, names_behind}
-use Rattle.nq_names_run.specs.Lasting.{id_of}
+use Rattle.nq_name_server.specs.Lasting.{id_of}
 use Rattle.law_names.proofs.Pages.{upto, cut, IsUpTo, IsWhole, IsPage}
 
 -- the files of a directory with their names

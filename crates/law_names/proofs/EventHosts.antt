@@ -6,7 +6,7 @@ use Rattle.nq_base.specs.declared.Event.{Event}
 use Rattle.nq_base.specs.declared.Party.{Party}
 use Rattle.nq_base.specs.declared.Tag.{Tag}
 use Rattle.nq_base.specs.declared.Who.{Who}
-use Rattle.nq_promises.specs.StepsAreOfOneHost.{receiver_of, stepper}
+use Rattle.nq_model.specs.StepsAreOfOneHost.{receiver_of, stepper}
 use Rattle.nq_model.specs.Client.{Client, ClientStep, UnderWay}
 use Rattle.nq_model.specs.ClientStep.{client_call, client_tick, fresh_client, next_incarnation, restart, starts}
 use Rattle.nq_model.specs.Hear.{hear}
@@ -14,8 +14,8 @@ use Rattle.nq_model.specs.Message.{Packet}
 use Rattle.nq_model.specs.World.{Head, World, after_client, after_hearing, at_client, deliver, deliver_to, deliver_to_client, step}
 use Rattle.nq_name_cache.specs.Names.{Names, before_call, new_names}
 use Rattle.nq_name_server.specs.Served.{Served}
-use Rattle.nq_names_run.specs.Outer.{Outer}
-use Rattle.nq_names_run.specs.Outside.{at_side}
+use Rattle.nq_name_server.specs.Outer.{Outer}
+use Rattle.nq_name_server.specs.Outside.{at_side}
 use Rattle.law_bounds.proofs.OneHost.{of-one-host}
 use Rattle.walk_steps.proofs.ClientMoves.{none-some, some-same}
 use Rattle.walk_steps.proofs.WorldClocks.{StillIf, call-still, hear-still, tick-still}

@@ -21,7 +21,7 @@ use Rattle.nq_model.specs.Skew.{ticks_of}
 use Rattle.nq_model.specs.World.{Head, World, from_host, sending_host}
 use Rattle.nq_name_cache.specs.Names.{Names}
 use Rattle.nq_name_server.specs.Served.{Served}
-use Rattle.nq_names_run.specs.Outer.{Outer}
+use Rattle.nq_name_server.specs.Outer.{Outer}
 use Rattle.walk_steps.proofs.ClientFacts.{fits_job}
 use Rattle.walk_steps.proofs.ClientMoves.{some-same}
 use Rattle.walk_steps.proofs.Clocks.{same-cover}

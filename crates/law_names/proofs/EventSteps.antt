@@ -18,8 +18,8 @@ use Rattle.nq_model.specs.Table.{empty_table}
 use Rattle.nq_model.specs.World.{Head, World, after_server, sending_host, step}
 use Rattle.nq_name_cache.specs.Names.{Names, new_names}
 use Rattle.nq_name_server.specs.Served.{Served}
-use Rattle.nq_names_run.specs.Outer.{Outer, of_boot}
-use Rattle.nq_names_run.specs.Outside.{new_side}
+use Rattle.nq_name_server.specs.Outer.{Outer, of_boot}
+use Rattle.nq_name_server.specs.Outside.{new_side}
 use Rattle.walk_steps.proofs.ServerLives.{booted-kept, booted-phase}
 use Rattle.walk_steps.proofs.Clocks.{moment-past, same-cover}
 use Rattle.walk_steps.proofs.Worlds.{get-set-other, get-set-same}

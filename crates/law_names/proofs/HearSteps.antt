@@ -22,8 +22,8 @@ use Rattle.nq_model.specs.World.{World}
 use Rattle.nq_name_cache.specs.Asking.{Asks, asks_behind, cleared, evicted, gives_up, goes_on, grown, heard, heard_as, heard_by, is_later, last_id, lease_by, lists_dir, noticed, request_of, silent, takes_page, told, vacated_of, with_page, with_room}
 use Rattle.nq_name_cache.specs.Names.{DirList, Names, Request, empty_list, forgets, list_of, most_lists, number_after, other_lists}
 use Rattle.nq_name_server.specs.Served.{Served}
-use Rattle.nq_names_run.specs.Outer.{Outer}
-use Rattle.nq_names_run.specs.Outside.{beside, is_change, is_changing}
+use Rattle.nq_name_server.specs.Outer.{Outer}
+use Rattle.nq_name_server.specs.Outside.{beside, is_change, is_changing}
 use Rattle.walk_steps.proofs.ClientMoves.{some-same, none-some}
 use Rattle.walk_steps.proofs.Packets.{In, in-append, in-last}
 use Rattle.law_names.proofs.Chains.{WasDrawn}

@@ -14,8 +14,8 @@ use Rattle.nq_model.specs.Stepped.{most_events}
 use Rattle.nq_model.specs.World.{World}
 use Rattle.nq_name_cache.specs.Names.{DirList, Names, Request, first_number, number_after}
 use Rattle.nq_name_server.specs.Served.{Served}
-use Rattle.nq_names_run.specs.Outer.{Outer}
-use Rattle.nq_names_run.specs.Outside.{beside}
+use Rattle.nq_name_server.specs.Outer.{Outer}
+use Rattle.nq_name_server.specs.Outside.{beside}
 use Rattle.walk_steps.proofs.ClientMoves.{some-same, none-some}
 use Rattle.walk_steps.proofs.Packets.{In, in-append}
 use Rattle.walk_steps.proofs.Worlds.{get-set-same, get-set-other}

@@ -1,8 +1,8 @@
 -- What is known of the inner world of a run with lists.
 use Rattle.std.proofs.Common.{◌≡◌, ◌≤◌, ℕ, ◌+◌, List, length, refl, sym, subst, ap, ◌∙◌}
 use Rattle.nq_base.specs.declared.Event.{Event}
-use Rattle.nq_promises.specs.Bounds.{KeepsBounds}
-use Rattle.nq_promises.specs.OneRequestPerSequence.{OpensOne, OneOpenInEveryRun}
+use Rattle.nq_model.specs.Bounds.{KeepsBounds}
+use Rattle.nq_model.specs.OneRequestPerSequence.{OpensOne, OneOpenInEveryRun}
 use Rattle.nq_model.specs.Client.{Client}
 use Rattle.nq_model.specs.ClientStep.{attached_client, client_call, client_tick, fresh_client, restart, starts}
 use Rattle.nq_model.specs.Server.{ServerStep}

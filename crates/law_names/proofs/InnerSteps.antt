@@ -10,7 +10,7 @@ use Rattle.nq_model.specs.Client.{Client, UnderWay}
 use Rattle.nq_model.specs.World.{World}
 use Rattle.nq_name_cache.specs.Names.{Names, first_number}
 use Rattle.nq_name_server.specs.Served.{Served}
-use Rattle.nq_names_run.specs.Outer.{Outer}
+use Rattle.nq_name_server.specs.Outer.{Outer}
 use Rattle.walk_steps.proofs.ClientMoves.{none-some, some-same}
 use Rattle.walk_steps.proofs.Packets.{In, in-append}
 use Rattle.law_names.proofs.Chains.{IsServed, WasDrawn}

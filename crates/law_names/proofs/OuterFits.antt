@@ -18,14 +18,14 @@ use Rattle.nq_model.specs.Message.{Packet}
 use Rattle.nq_model.specs.Profile.{same_bytes}
 use Rattle.nq_model.specs.Server.{Phase, serving, recovering}
 use Rattle.nq_model.specs.World.{World}
-use Rattle.nq_client_leases.specs.Leases.{passes}
+use Rattle.nq_client_parts.specs.HoldingLeases.{passes}
 use Rattle.nq_name_cache.specs.declared.Found.{Found}
 use Rattle.nq_name_cache.specs.Names.{DirList, Names, Request, first_number, found_as, found_in, list_of}
 use Rattle.nq_name_server.specs.Served.{Served}
-use Rattle.nq_names_run.specs.Lasting.{IsCovered, IsLive, Lasts, id_of}
-use Rattle.nq_names_run.specs.Outer.{Outer, Outside}
-use Rattle.nq_names_run.specs.Outside.{beside, found_by, inside}
-use Rattle.nq_names_run.specs.Theorem.{FindsWhatIsKept, kept_as}
+use Rattle.nq_name_server.specs.Lasting.{IsCovered, IsLive, Lasts, id_of}
+use Rattle.nq_name_server.specs.Outer.{Outer, Outside}
+use Rattle.nq_name_server.specs.Outside.{beside, found_by, inside}
+use Rattle.nq_name_server.specs.Theorem.{FindsWhatIsKept, kept_as}
 use Rattle.walk_steps.proofs.Packets.{In}
 use Rattle.law_names.proofs.Chains.{HasFit, IsServed, WasDrawn, fit-chains}
 use Rattle.law_names.proofs.Claims.{AskedFor, GaveUp, Ground, HostFits, IsForgotten, ListFits, Outlasts, ToldTo}

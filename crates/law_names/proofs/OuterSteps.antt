@@ -30,14 +30,14 @@ use Rattle.nq_name_cache.specs.Asking.{Asks, heard, lists_dir}
 use Rattle.nq_name_cache.specs.Names.{Names, before_call}
 use Rattle.nq_name_server.specs.Served.{Served, leaf_behind}
 use Rattle.nq_name_server.specs.Serving.{Serves, ToHost, holds_up, puts_off, reads_dir, vacates}
-use Rattle.nq_names_run.proofs.Inner.{inner-ran}
-use Rattle.nq_names_run.specs.declared.event.NameEvent.{NameEvent}
-use Rattle.nq_names_run.specs.Outer.{Outer, Outside}
-use Rattle.nq_names_run.specs.Outside.{Changes, asks_as, at_side, beside, changes_as, delivers, heard_by, held_or, inner, is_changing, lists, new_side, outside_step, passes, reads, reads_in, renewed, sends, sends_all, sends_from, sends_these, served_as, served_read, served_vacated, serves, takes, to_host, to_server}
-use Rattle.nq_names_run.specs.Theorem.{BringsPrefix}
+use Rattle.nq_name_server.proofs.Inner.{inner-ran}
+use Rattle.nq_name_server.specs.declared.run.event.NameEvent.{NameEvent}
+use Rattle.nq_name_server.specs.Outer.{Outer, Outside}
+use Rattle.nq_name_server.specs.Outside.{Changes, asks_as, at_side, beside, changes_as, delivers, heard_by, held_or, inner, is_changing, lists, new_side, outside_step, passes, reads, reads_in, renewed, sends, sends_all, sends_from, sends_these, served_as, served_read, served_vacated, serves, takes, to_host, to_server}
+use Rattle.nq_name_server.specs.Theorem.{BringsPrefix}
 use Rattle.walk_steps.proofs.ClientMoves.{none-some, some-same}
 use Rattle.walk_steps.proofs.Packets.{In, in-get}
-use Rattle.nq_promises.specs.StepsAreOfOneHost.{receiver_of}
+use Rattle.nq_model.specs.StepsAreOfOneHost.{receiver_of}
 use Rattle.walk_steps.proofs.Rows.{decided, same-number}
 use Rattle.law_names.proofs.Chains.{Chained}
 use Rattle.law_names.proofs.Codec.{IsChange, IsCodec}

@@ -16,7 +16,7 @@ use Rattle.nq_model.specs.Kept.{File, find_name}
 use Rattle.nq_model.specs.Profile.{same_bytes}
 use Rattle.nq_name_cache.specs.Asking.{last_id}
 use Rattle.nq_name_server.specs.Served.{is_behind, names_of, names_behind}
-use Rattle.nq_names_run.specs.Lasting.{id_of}
+use Rattle.nq_name_server.specs.Lasting.{id_of}
 
 -- ---- a name is put
 

@@ -15,7 +15,7 @@ use Rattle.nq_model.specs.World.{World}
 use Rattle.nq_name_cache.specs.Asking.{is_reading}
 use Rattle.nq_name_cache.specs.Names.{Names, Request}
 use Rattle.nq_name_server.specs.Served.{Served}
-use Rattle.nq_names_run.specs.Outer.{Outer}
+use Rattle.nq_name_server.specs.Outer.{Outer}
 use Rattle.walk_steps.proofs.ClientMoves.{none-some}
 use Rattle.walk_steps.proofs.Packets.{In, in-append}
 use Rattle.law_names.proofs.Chains.{HasFit, Leads, WasDrawn}

@@ -28,8 +28,8 @@ use Rattle.nq_name_cache.specs.Asking.{is_reading}
 use Rattle.nq_name_cache.specs.Names.{Names, Request}
 use Rattle.nq_name_server.specs.Served.{Leaf, Served, is_behind, leaf_behind, names_behind, names_of, number_of}
 use Rattle.nq_name_server.specs.Serving.{Serves, ToHost, gives_up, holds_as, holds_up, puts_off, reads_dir, vacates}
-use Rattle.nq_names_run.specs.Outer.{Outer}
-use Rattle.nq_names_run.specs.Outside.{beside}
+use Rattle.nq_name_server.specs.Outer.{Outer}
+use Rattle.nq_name_server.specs.Outside.{beside}
 use Rattle.walk_steps.proofs.ClientMoves.{none-some}
 use Rattle.walk_steps.proofs.Clocks.{moment-past}
 use Rattle.walk_steps.proofs.Packets.{In}

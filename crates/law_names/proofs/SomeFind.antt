@@ -16,12 +16,12 @@ use Rattle.nq_model.specs.Skew.{IsWithinSkew}
 use Rattle.nq_model.specs.World.{Head}
 use Rattle.nq_name_cache.specs.declared.Found.{Found}
 use Rattle.nq_name_cache.specs.Names.{DirList, Names}
-use Rattle.nq_names_run.specs.declared.event.NameEvent.{NameEvent}
-use Rattle.nq_names_run.specs.Lasting.{IsLive}
-use Rattle.nq_names_run.specs.Outer.{Outside, outside_start}
-use Rattle.nq_names_run.specs.Outside.{asks_as, found, outside_run, sends, served_as}
-use Rattle.nq_names_run.specs.Theorem.{IsNamesSchedule}
-use Rattle.nq_promises.specs.Bounds.{BootsWithin}
+use Rattle.nq_name_server.specs.declared.run.event.NameEvent.{NameEvent}
+use Rattle.nq_name_server.specs.Lasting.{IsLive}
+use Rattle.nq_name_server.specs.Outer.{Outside, outside_start}
+use Rattle.nq_name_server.specs.Outside.{asks_as, found, outside_run, sends, served_as}
+use Rattle.nq_name_server.specs.Theorem.{IsNamesSchedule}
+use Rattle.nq_model.specs.Bounds.{BootsWithin}
 use Rattle.nq_rpc.specs.Message.{auth, numbers, outcome, spelling}
 use Rattle.nq_rpc.specs.Reading.{behind_auth, call_at, ended, bounds_at, accepted_as, accepted_at, denied_as, denied_at, outcome_at, reply_at, message_at}
 use Rattle.nq_wire.specs.Parts.{head, tag_bytes, want_bytes, grant_bytes, optional}

@@ -17,7 +17,7 @@ use Rattle.nq_model.specs.World.{Head, World, step}
 use Rattle.nq_name_cache.specs.Names.{Names}
 use Rattle.nq_name_server.specs.Served.{Served, names_of, number_of}
 use Rattle.nq_name_server.specs.Serving.{ticks}
-use Rattle.nq_names_run.specs.Outer.{Outer}
+use Rattle.nq_name_server.specs.Outer.{Outer}
 use Rattle.walk_steps.proofs.ClientMoves.{none-some}
 use Rattle.walk_steps.proofs.Clocks.{runs-below, same-cover}
 use Rattle.walk_steps.proofs.Packets.{In}

@@ -4,10 +4,10 @@ use Rattle.nq_model.specs.Client.{Client, Lease}
 use Rattle.nq_model.specs.World.{Head}
 use Rattle.nq_name_cache.specs.declared.Found.{Found}
 use Rattle.nq_name_cache.specs.Names.{DirList, Names}
-use Rattle.nq_names_run.specs.declared.event.NameEvent.{NameEvent}
-use Rattle.nq_names_run.specs.Lasting.{IsLive}
-use Rattle.nq_names_run.specs.Outside.{found, outside_run}
-use Rattle.nq_names_run.specs.Theorem.{IsNamesSchedule}
+use Rattle.nq_name_server.specs.declared.run.event.NameEvent.{NameEvent}
+use Rattle.nq_name_server.specs.Lasting.{IsLive}
+use Rattle.nq_name_server.specs.Outside.{found, outside_run}
+use Rattle.nq_name_server.specs.Theorem.{IsNamesSchedule}
 
 -- after some schedule with lists a host has a whole list under a lease that runs: it knows the file of one name, and of another that
 -- no file has it

@@ -1,8 +1,8 @@
 //! What hosts find.
 
 ghost use Rattle.law_names.specs.Met.{FindsAreMet};
-ghost use Rattle.nq_names_run.specs.Lasting.{EachListLasts};
-ghost use Rattle.nq_names_run.specs.Theorem.{EachFindIsKept};
+ghost use Rattle.nq_name_server.specs.Lasting.{EachListLasts};
+ghost use Rattle.nq_name_server.specs.Theorem.{EachFindIsKept};
 
 /// A host that knows of a name knows what the server keeps under it at that moment, whatever packets were lost, repeated or
 /// reordered, however the clocks are skewed, and whoever started again (Gray and Cheriton 1989; Macklem 1994). So it is after every

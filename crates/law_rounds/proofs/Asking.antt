@@ -18,8 +18,8 @@ use Rattle.nq_model.specs.ServerStep.{receive}
 use Rattle.nq_model.specs.Skew.{IsWithinSkew}
 use Rattle.nq_model.specs.Stepped.{most_events, most_sent}
 use Rattle.nq_model.specs.World.{Head, run}
-use Rattle.nq_promises.specs.Bounds.{KeepsBounds}
-use Rattle.nq_promises.specs.RepliesAreOwed.{has_reply, is_out_of_bounds, owes, CanBe}
+use Rattle.nq_model.specs.Bounds.{KeepsBounds}
+use Rattle.nq_model.specs.RepliesAreOwed.{has_reply, is_out_of_bounds, owes, CanBe}
 use Rattle.law_bounds.proofs.WorldNumbers.{drawn-up-to}
 use Rattle.law_bounds.proofs.LeaseIntervals.{run-runs}
 use Rattle.law_rounds.proofs.Owing.{replies-are-owed}

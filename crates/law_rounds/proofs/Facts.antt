@@ -19,7 +19,7 @@ use Rattle.nq_model.specs.Server.{to_host}
 use Rattle.nq_model.specs.ServerStep.{receive}
 use Rattle.nq_model.specs.Table.{Table, caches, find_row}
 use Rattle.nq_model.specs.World.{World, from_host, sending_host, step}
-use Rattle.nq_promises.specs.RowsStandApart.{AreOfKeptIncarnations, WritesAlone}
+use Rattle.nq_model.specs.RowsStandApart.{AreOfKeptIncarnations, WritesAlone}
 use Rattle.walk_steps.proofs.Packets.{In}
 use Rattle.walk_steps.proofs.Worlds.{Holds}
 

@@ -20,8 +20,8 @@ use Rattle.nq_model.specs.Server.{Server, ServerStep, after_notices, keeping, ke
 use Rattle.nq_model.specs.ServerStep.{access_of, to_read, end_reading, attaches, vacates, vacated_rows, tells_later, serves, leases, receive, tick, boot, crash}
 use Rattle.nq_model.specs.Table.{Table, empty_table, after_draw, find_row, is_row_of, put_row, drop_row, same_tag, with_rows}
 use Rattle.nq_model.specs.World.{Head, World, from_host, after_server, after_client, sending_host, first_kept, start, run}
-use Rattle.nq_promises.specs.RowsStandApart.{HasOneRowEach, StandApart}
-use Rattle.nq_promises.specs.ServerAlone.{Coming, datagram, step_for, server_after, first_boot}
+use Rattle.nq_model.specs.RowsStandApart.{HasOneRowEach, StandApart}
+use Rattle.nq_model.specs.ServerAlone.{Coming, datagram, step_for, server_after, first_boot}
 use Rattle.law_bounds.proofs.NoticeCounts.{HostedBelow}
 use Rattle.law_bounds.proofs.ServerAlone.{rows-stand-apart}
 use Rattle.walk_steps.proofs.Members.{in-map}

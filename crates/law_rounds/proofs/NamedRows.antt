@@ -18,8 +18,8 @@ use Rattle.nq_model.specs.Server.{Server, ServerStep, Phase, serving, standing, 
 use Rattle.nq_model.specs.ServerStep.{access_of, to_read, vacated_rows, at_time as at_server_time, opens, ends_writing, receive, tick, boot, crash}
 use Rattle.nq_model.specs.Table.{Table, empty_table, next_tag, find_row, is_row_of, drop_row, put_row, same_tag, with_rows, after_draw}
 use Rattle.nq_model.specs.World.{Head, World, from_host, after_server, after_client, sending_host, start, run}
-use Rattle.nq_promises.specs.Bounds.{KeepsBounds}
-use Rattle.nq_promises.specs.RowsStandApart.{HasOneRowEach}
+use Rattle.nq_model.specs.Bounds.{KeepsBounds}
+use Rattle.nq_model.specs.RowsStandApart.{HasOneRowEach}
 use Rattle.nq_model.specs.Skew.{IsWithinSkew}
 use Rattle.law_bounds.proofs.LeaseIntervals.{run-runs}
 use Rattle.law_bounds.proofs.NoticeCounts.{HostedBelow}

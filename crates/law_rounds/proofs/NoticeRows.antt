@@ -17,7 +17,7 @@ use Rattle.nq_model.specs.Profile.{xid_end}
 use Rattle.nq_model.specs.Server.{Server, notices, to_host, after_notices, keeping, keeping_with, with_table, quiet, drops, says}
 use Rattle.nq_model.specs.ServerStep.{access_of, attaches, vacates, tells_later, serves, leases, receive}
 use Rattle.nq_model.specs.Table.{find_row, is_row_of, put_row, with_rows, after_draw}
-use Rattle.nq_promises.specs.RowsStandApart.{HasOneRowEach}
+use Rattle.nq_model.specs.RowsStandApart.{HasOneRowEach}
 use Rattle.walk_steps.proofs.Members.{in-filter, filter-in}
 use Rattle.walk_steps.proofs.Packets.{In, in-append, in-get}
 use Rattle.walk_steps.proofs.RowChanges.{mark, own-key, find-put, find-marked, mark-is, is-clash}

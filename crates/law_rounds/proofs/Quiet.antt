@@ -9,7 +9,7 @@ use Rattle.nq_model.specs.World.{Head, World, run}
 use Rattle.law_rounds.specs.CallsGoOn.{GoesOn}
 use Rattle.law_rounds.proofs.ClientCount.{client-count}
 use Rattle.law_rounds.proofs.GoingOn.{calls-go-on}
-use Rattle.law_files.proofs.ChainWorlds.{chain-fits}
+use Rattle.law_runs.proofs.ChainWorlds.{chain-fits}
 use Rattle.law_rounds.specs.DeliveryEnds.{calmed, enough_deliveries}
 use Rattle.law_rounds.specs.CalmRound.{calm_rounds}
 use Rattle.law_rounds.specs.CalmRoundsAreLawful.{IsLawful}

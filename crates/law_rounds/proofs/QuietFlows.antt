@@ -21,7 +21,7 @@ use Rattle.nq_model.specs.Decide.{in_the_way}
 use Rattle.nq_model.specs.Profile.{most_hosts, xid_end}
 use Rattle.nq_model.specs.Server.{notices}
 use Rattle.nq_model.specs.Table.{find_row}
-use Rattle.nq_promises.specs.RowsStandApart.{HasOneRowEach}
+use Rattle.nq_model.specs.RowsStandApart.{HasOneRowEach}
 use Rattle.law_bounds.proofs.NoticeCounts.{HostedBelow, fewer-than-hosts}
 use Rattle.walk_steps.proofs.ClientFacts.{Alone}
 use Rattle.walk_steps.proofs.ClientMoves.{none-some}
@@ -31,7 +31,7 @@ use Rattle.law_rounds.proofs.ClientCount.{client-count}
 use Rattle.law_rounds.proofs.HostsBelow.{IsLocal, run-local, one-row-each}
 use Rattle.law_rounds.proofs.ServerWeights.{packets_weight, Dear}
 use Rattle.law_rounds.proofs.SparedSteps.{found-all, delivered-spared}
-use Rattle.nq_promises.specs.Bounds.{KeepsBounds}
+use Rattle.nq_model.specs.Bounds.{KeepsBounds}
 use Rattle.nq_model.specs.Skew.{IsWithinSkew}
 use Rattle.law_rounds.specs.CalmRound.{calm_round, calm_rounds}
 use Rattle.law_rounds.specs.CalmDeliveriesEnd.{most_deliveries}

@@ -22,7 +22,7 @@ use Rattle.nq_model.specs.Server.{Phase, recovering, Server, ServerStep, last_ta
 use Rattle.nq_model.specs.ServerStep.{receive, tick, attaches, tells_later, serves, leases, vacates}
 use Rattle.nq_model.specs.Table.{Table, is_writing, find_row}
 use Rattle.nq_model.specs.World.{Head, World, after_client, after_server, sending_host, step, run}
-use Rattle.law_files.proofs.ChainWorlds.{chain-fits}
+use Rattle.law_runs.proofs.ChainWorlds.{chain-fits}
 use Rattle.law_bounds.proofs.LeaseIntervals.{run-runs}
 use Rattle.law_bounds.proofs.WorldSequences.{run-draws}
 use Rattle.law_rounds.specs.CalmRoundsAreLawful.{IsLawful}

@@ -17,7 +17,7 @@ use Rattle.nq_model.specs.Server.{Phase, serving, recovering, Server, ServerStep
 use Rattle.nq_model.specs.ServerStep.{access_of, to_read, vacated_rows, end_reading, fence, receive, tick, boot_phase, booted, boot, crash}
 use Rattle.nq_model.specs.Table.{Table, empty_table, is_row_of, is_writing, row_before, insert_row, drop_row, put_row, same_tag, with_rows, after_draw}
 use Rattle.nq_model.specs.World.{Head, World, after_server, after_client, sending_host, first_kept, start, run}
-use Rattle.nq_promises.specs.Bounds.{KeepsBounds}
+use Rattle.nq_model.specs.Bounds.{KeepsBounds}
 use Rattle.nq_model.specs.Skew.{IsWithinSkew}
 use Rattle.law_bounds.proofs.LeaseIntervals.{run-runs}
 use Rattle.walk_steps.proofs.Members.{in-filtered, in-map, find-in}

@@ -5,7 +5,7 @@ use Rattle.std.proofs.lemmas.Bool.{and_parts}
 use Rattle.nq_base.specs.Block.{filled, zeros}
 use Rattle.nq_base.specs.declared.Call.{Call}
 use Rattle.nq_base.specs.declared.Event.{Event}
-use Rattle.nq_promises.specs.Bounds.{KeepsBounds, BootsWithin}
+use Rattle.nq_model.specs.Bounds.{KeepsBounds, BootsWithin}
 use Rattle.nq_model.specs.Lines.{Play, play_flow, flow_first, play_rounds}
 use Rattle.nq_model.specs.Skew.{is_within_skew}
 use Rattle.nq_model.specs.World.{Head}

@@ -1,7 +1,7 @@
 -- Every call is answered, and every client is attached, once the network is calm for long enough: in every run, whatever was lost in it.
 use Rattle.std.specs.Prelude.{◌≡◌, ◌≤◌, ℕ, ◌+◌, ◌*◌, true, List, None, All, length}
 use Rattle.nq_base.specs.declared.Event.{Event}
-use Rattle.nq_promises.specs.Bounds.{KeepsBounds}
+use Rattle.nq_model.specs.Bounds.{KeepsBounds}
 use Rattle.nq_model.specs.Client.{Client}
 use Rattle.nq_model.specs.Profile.{skew, write_slack, patience}
 use Rattle.nq_model.specs.Skew.{IsWithinSkew}

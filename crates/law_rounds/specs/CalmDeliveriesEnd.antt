@@ -1,6 +1,6 @@
 -- Delivery ends: what is under way leads to no more packets than a formula tells, in every run and in each calm round behind it.
 use Rattle.std.specs.Prelude.{◌≡◌, ℕ, ◌+◌, ◌*◌, List, [], length}
-use Rattle.nq_promises.specs.Bounds.{InEveryRun}
+use Rattle.nq_model.specs.Bounds.{InEveryRun}
 use Rattle.nq_model.specs.Lines.{Play, play_flow}
 use Rattle.nq_model.specs.World.{run}
 use Rattle.law_rounds.specs.CalmRound.{calm_rounds}

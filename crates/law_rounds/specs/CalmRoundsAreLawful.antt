@@ -1,7 +1,7 @@
 -- Calm rounds are events like any others: a schedule goes on by them within its bounds and within skew, so each promise holds of it.
 use Rattle.std.specs.Prelude.{◌≡◌, ℕ, List}
 use Rattle.nq_base.specs.declared.Event.{Event}
-use Rattle.nq_promises.specs.Bounds.{KeepsBounds}
+use Rattle.nq_model.specs.Bounds.{KeepsBounds}
 use Rattle.nq_model.specs.Lines.{Play}
 use Rattle.nq_model.specs.Skew.{IsWithinSkew}
 use Rattle.nq_model.specs.World.{Head, run}

@@ -1,6 +1,6 @@
 -- Each calm round is one tick of each clock.
 use Rattle.std.specs.Prelude.{◌≡◌, ℕ, ◌+◌, Some, List, slice_get}
-use Rattle.nq_promises.specs.Bounds.{InEveryRun}
+use Rattle.nq_model.specs.Bounds.{InEveryRun}
 use Rattle.nq_model.specs.Client.{Client}
 use Rattle.nq_model.specs.World.{World, run}
 use Rattle.law_rounds.specs.CalmRound.{calm_rounds}

@@ -1,7 +1,7 @@
 -- Delivery ends: what is under way leads to no more packets than a formula tells, in every run.
 use Rattle.std.specs.Prelude.{◌≡◌, ◌<◌, ℕ, ◌+◌, ◌*◌, List, [], ◌∷◌, All, length, sum_by, zero, suc}
 use Rattle.nq_base.specs.declared.Event.{Event}
-use Rattle.nq_promises.specs.Bounds.{InEveryRun}
+use Rattle.nq_model.specs.Bounds.{InEveryRun}
 use Rattle.nq_model.specs.Client.{Client}
 use Rattle.nq_model.specs.Lines.{Play, play_flow}
 use Rattle.nq_model.specs.Settle.{pending}

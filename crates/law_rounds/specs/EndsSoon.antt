@@ -2,7 +2,7 @@
 use Rattle.std.specs.Prelude.{◌≡◌, ◌≤◌, ℕ, ◌+◌, List, Option, Some}
 use Rattle.nq_base.specs.declared.Event.{Event}
 use Rattle.nq_base.specs.declared.Row.{Row}
-use Rattle.nq_promises.specs.Bounds.{InEveryRun}
+use Rattle.nq_model.specs.Bounds.{InEveryRun}
 use Rattle.nq_model.specs.Profile.{skew, write_slack}
 use Rattle.nq_model.specs.Server.{Server, recovering}
 use Rattle.nq_model.specs.Table.{Table, find_row}

@@ -4,7 +4,7 @@ use Rattle.nq_base.specs.declared.Request.{Request}
 use Rattle.nq_base.specs.declared.Row.{Row}
 use Rattle.nq_base.specs.declared.Tag.{Tag}
 use Rattle.nq_base.specs.declared.Who.{Who}
-use Rattle.nq_promises.specs.Bounds.{InEveryRun}
+use Rattle.nq_model.specs.Bounds.{InEveryRun}
 use Rattle.nq_model.specs.Message.{Packet, call}
 use Rattle.nq_model.specs.Server.{to_host}
 use Rattle.nq_model.specs.Table.{find_row}

@@ -8,7 +8,7 @@ use Rattle.nq_model.specs.Message.{Datagram, call}
 use Rattle.nq_model.specs.Server.{Server, to_host}
 use Rattle.nq_model.specs.ServerStep.{receive}
 use Rattle.nq_model.specs.Table.{find_row}
-use Rattle.nq_promises.specs.RowsStandApart.{HasOneRowEach}
+use Rattle.nq_model.specs.RowsStandApart.{HasOneRowEach}
 
 -- the row of this holder with this tag is there, and is to go
 pub record IsToGo (rows : List Row) (who : Who) (file : ℕ) (tag : Tag) : Type 0 where

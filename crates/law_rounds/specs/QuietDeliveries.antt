@@ -1,6 +1,6 @@
 -- Deliveries of which it is proved that they end: those of a recovery, and those in which no call waits for a lease.
 use Rattle.std.specs.Prelude.{◌≡◌, ℕ, Bool, true, false, List, All, length}
-use Rattle.nq_promises.specs.Bounds.{InEveryRun}
+use Rattle.nq_model.specs.Bounds.{InEveryRun}
 use Rattle.nq_model.specs.Server.{Phase, serving, recovering}
 use Rattle.nq_model.specs.World.{run}
 use Rattle.law_rounds.specs.Spared.{IsSpared}

@@ -1,7 +1,7 @@
 -- A recovery ends soon once the network is calm, whatever is stored in it.
 use Rattle.std.specs.Prelude.{◌≡◌, ℕ, ◌+◌, false, List, length}
 use Rattle.nq_base.specs.declared.Event.{Event}
-use Rattle.nq_promises.specs.Bounds.{KeepsBounds}
+use Rattle.nq_model.specs.Bounds.{KeepsBounds}
 use Rattle.nq_model.specs.Profile.{skew, write_slack}
 use Rattle.nq_model.specs.Skew.{IsWithinSkew}
 use Rattle.nq_model.specs.World.{Head, run}

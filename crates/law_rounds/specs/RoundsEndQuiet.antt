@@ -1,7 +1,7 @@
 -- Once the network is calm, each delivery ends quietly: nobody waits for a reply, and nobody has anything to send.
 use Rattle.std.specs.Prelude.{◌≡◌, ◌≤◌, ◌<◌, ℕ, ◌+◌, Bool, true, false, List, Some, None, All, length}
 use Rattle.nq_base.specs.declared.Call.{Call}
-use Rattle.nq_promises.specs.Bounds.{InEveryRun}
+use Rattle.nq_model.specs.Bounds.{InEveryRun}
 use Rattle.nq_model.specs.Client.{Client, Lease, UnderWay, lease_on, notice_on, is_clean}
 use Rattle.nq_model.specs.Lines.{Play, play_flow}
 use Rattle.nq_model.specs.Profile.{patience, renewal}

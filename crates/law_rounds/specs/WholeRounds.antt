@@ -2,7 +2,7 @@
 use Rattle.std.specs.Prelude.{◌≡◌, ◌≤◌, ℕ, ◌+◌, ◌==◌, ◌&&◌, ◌||◌, not, Bool, true, false, List, [], ◌∷◌, Option, Some, All, length, slice_get}
 use Rattle.nq_base.specs.declared.Event.{Event}
 use Rattle.nq_base.specs.declared.Party.{Party}
-use Rattle.nq_promises.specs.Bounds.{InEveryRun, KeepsBounds}
+use Rattle.nq_model.specs.Bounds.{InEveryRun, KeepsBounds}
 use Rattle.nq_model.specs.Lines.{Play, play, play_rounds}
 use Rattle.nq_model.specs.Message.{Packet}
 use Rattle.nq_model.specs.Profile.{skew, write_slack}

@@ -3,7 +3,7 @@ use Rattle.std.proofs.Common.{◌≡◌, ℕ, Bool, true, false, ◌==◌, ◌&&
 use Rattle.std.specs.List.{filter}
 use Rattle.std.proofs.lemmas.Bool.Decides.{nat_tests}
 use Rattle.nq_base.specs.declared.Push.{Push}
-use Rattle.law_calls.proofs.EachOf.{each-at, each-filter}
+use Rattle.law_runs.proofs.EachOf.{each-at, each-filter}
 use Rattle.nq_model.proofs.Lists.{each-append}
 use Rattle.nq_model.specs.Client.{is_push_at, dirty_at}
 use Rattle.nq_model.specs.Journal.{Each}

@@ -11,18 +11,18 @@ use Rattle.nq_model.specs.Server.{Server}
 use Rattle.nq_model.specs.ServerStep.{receive, fence, tick, booted, boot, crash}
 use Rattle.nq_model.specs.Table.{empty_table, with_rows, after_draw}
 use Rattle.nq_model.specs.World.{Head, World, after_server, after_client, at_client, after_hearing, first_kept, deliver_to_client, deliver_to, deliver, start, step}
-use Rattle.nq_pool.specs.Answering.{Answer, write, unstaged, own_stage, own_commit, answered, answered_as, body_for}
-use Rattle.nq_pool.specs.Bodies.{Bodies, body_of}
-use Rattle.nq_pool.specs.Laws.{after, pool_after}
-use Rattle.nq_pool.proofs.Newest.{answers-with-its-boot}
+use Rattle.nq_stage.specs.Answering.{Answer, write, unstaged, own_stage, own_commit, answered, answered_as, body_for}
+use Rattle.nq_stage.specs.Bodies.{Bodies, body_of}
+use Rattle.nq_stage.specs.PoolLaws.{after, pool_after}
+use Rattle.nq_stage.proofs.Newest.{answers-with-its-boot}
 use Rattle.nq_stage.specs.declared.Commit.{Commit}
 use Rattle.nq_stage.specs.Messages.{written_of}
 use Rattle.nq_stage.specs.Reading.{Stage}
-use Rattle.nq_staged_run.specs.declared.StagedEvent.{StagedEvent}
-use Rattle.nq_staged_run.specs.Outer.{Outer, Side, Outside, outside_start}
-use Rattle.nq_staged_run.specs.Outside.{sends, inner, inner_delivery, takes_stage, takes_commit, served_commit, served_stage, to_server, told_side, heard_by, to_host, takes, delivers, outside_step, outside_run}
-use Rattle.nq_staged_run.proofs.Inner.{Core, inner-ran, delivery-cases, core-offering}
-use Rattle.nq_stager.specs.Hearing.{Told, acknowledged, again, other, told_by}
+use Rattle.nq_stage.specs.declared.run.event.StagedEvent.{StagedEvent}
+use Rattle.nq_stage.specs.Outer.{Outer, Side, Outside, outside_start}
+use Rattle.nq_stage.specs.Outside.{sends, inner, inner_delivery, takes_stage, takes_commit, served_commit, served_stage, to_server, told_side, heard_by, to_host, takes, delivers, outside_step, outside_run}
+use Rattle.nq_stage.proofs.Inner.{Core, inner-ran, delivery-cases, core-offering}
+use Rattle.nq_stage.specs.Hearing.{Told, acknowledged, again, other, told_by}
 use Rattle.law_staged.specs.Boots.{crashes, boot_of, BootsAreCounted, brought, brought_by, since_boot, PoolIsOfItsBoot, AnswersAreOfTheBoot, CrashesLoseAll}
 use Rattle.walk_steps.proofs.ServerMoves.{ServerMoves, server-moves, tick-moves}
 

@@ -10,7 +10,7 @@ use Rattle.nq_base.specs.declared.Reply.{Reply}
 use Rattle.nq_base.specs.declared.Request.{Request}
 use Rattle.nq_base.specs.declared.Tag.{Tag}
 use Rattle.nq_base.specs.declared.Who.{Who}
-use Rattle.law_calls.proofs.EachOf.{each-find, each-filter}
+use Rattle.law_runs.proofs.EachOf.{each-find, each-filter}
 use Rattle.law_staged.proofs.Apart.{AreApart, apart-filter, write-apart}
 use Rattle.nq_model.proofs.Lists.{each-append, each-map}
 use Rattle.nq_model.specs.Client.{Client, ClientStep, Job, Notice, Ticket, UnderWay, begun, dirty_at, is_push_at, is_push_of, first_dirty, notice_on}
@@ -22,8 +22,8 @@ use Rattle.nq_model.specs.Send.{sends_request, after_seq, after_number, takes_pu
 use Rattle.nq_model.specs.Settle.{answers, names_losses, reads_cached, after_read, overwritten, overwritten_at, with_write, delays, after_write, marks_written}
 use Rattle.nq_stage.specs.declared.Written.{Written}
 use Rattle.nq_stage.specs.Messages.{IsWritten}
-use Rattle.nq_staged_run.specs.Theorem.{BringsBlock}
-use Rattle.nq_stager.specs.Offering.{written_by}
+use Rattle.nq_stage.specs.Theorem.{BringsBlock}
+use Rattle.nq_stage.specs.Offering.{written_by}
 use Rattle.walk_steps.proofs.ClientFacts.{fits_job}
 use Rattle.walk_steps.proofs.ClientMoves.{some-same, none-some, keeps-or-cancels}
 use Rattle.walk_steps.proofs.PartCases.{answers-call-cases, vacates-noticed-cases, reports-cases, if-broken-cases, takes-optional-cases, lease-done-cases, then-caches-cases, caches-write-cases, caches-push-cases, vacates-if-clean-cases}

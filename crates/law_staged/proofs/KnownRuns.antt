@@ -19,7 +19,7 @@ use Rattle.nq_model.specs.Server.{ServerStep}
 use Rattle.nq_model.specs.Profile.{most_hosts}
 use Rattle.nq_model.specs.World.{Head, World, from_host, after_server, after_client, at_client, after_hearing, sending_host, deliver_to_client, deliver_to, deliver, first_clients, start, step}
 use Rattle.nq_stage.specs.declared.Written.{Written}
-use Rattle.nq_staged_run.specs.Theorem.{BringsBlock, EventBrings}
+use Rattle.nq_stage.specs.Theorem.{BringsBlock, EventBrings}
 use Rattle.walk_steps.proofs.ClientMoves.{none-some}
 use Rattle.walk_steps.proofs.Packets.{In}
 use Rattle.walk_steps.proofs.RunCases.{clients-after}

@@ -11,7 +11,7 @@ use Rattle.nq_model.specs.Hear.{replied, cancels, evicted, hear}
 use Rattle.nq_model.specs.Message.{Message}
 use Rattle.nq_model.specs.Send.{sends_request, after_seq, gives_up, send_next}
 use Rattle.nq_model.specs.Settle.{names_losses, delays, settle}
-use Rattle.nq_staged_run.specs.Theorem.{BringsBlock}
+use Rattle.nq_stage.specs.Theorem.{BringsBlock}
 use Rattle.walk_steps.proofs.ClientFacts.{Alone}
 use Rattle.walk_steps.proofs.ClientMoves.{some-same, none-some}
 use Rattle.walk_steps.proofs.SendCases.{send-cases}

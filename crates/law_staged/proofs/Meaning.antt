@@ -7,7 +7,7 @@ use Rattle.nq_base.specs.declared.Party.{Party}
 use Rattle.nq_base.specs.declared.Request.{Request}
 use Rattle.nq_base.specs.declared.Who.{Who}
 use Rattle.nq_datagrams.specs.Messages.{bytes_of}
-use Rattle.law_calls.proofs.EachOf.{each-get}
+use Rattle.law_runs.proofs.EachOf.{each-get}
 use Rattle.law_staged.proofs.Datagrams.{IsPushOf, reads-push}
 use Rattle.law_staged.proofs.KnownClient.{Bodies, Asks, Says, More}
 use Rattle.law_staged.proofs.KnownRuns.{PacketKnown, Knowing, SameWho, later-knowing}
@@ -21,13 +21,13 @@ use Rattle.nq_stage.specs.declared.Pushed.{Pushed}
 use Rattle.nq_stage.specs.declared.Written.{Written}
 use Rattle.nq_stage.specs.Messages.{stage_bytes, commit_bytes, write_bytes, written_of, IsPushed}
 use Rattle.nq_stage.specs.Reading.{push_in}
-use Rattle.nq_staged_run.specs.Outer.{Outer, Side, Outside}
-use Rattle.nq_staged_run.specs.Outside.{sends, standing, sends_whole, side_of, sends_short, sends_as, sends_by, sends_from, sends_all, new_side}
-use Rattle.nq_staged_run.proofs.Inner.{sent-from}
-use Rattle.nq_stager.specs.declared.stager.Shortened.{Shortened}
-use Rattle.nq_stager.specs.Acknowledged.{verifier_of}
-use Rattle.nq_stager.specs.Shortening.{with_verifier, acknowledged_push, shortening, shortened}
-use Rattle.nq_stager.specs.Staged.{Staged, new_stager}
+use Rattle.nq_stage.specs.Outer.{Outer, Side, Outside}
+use Rattle.nq_stage.specs.Outside.{sends, standing, sends_whole, side_of, sends_short, sends_as, sends_by, sends_from, sends_all, new_side}
+use Rattle.nq_stage.proofs.Inner.{sent-from}
+use Rattle.nq_stage.specs.declared.stager.stager.Shortened.{Shortened}
+use Rattle.nq_stage.specs.Acknowledged.{verifier_of}
+use Rattle.nq_stage.specs.Shortening.{with_verifier, acknowledged_push, shortening, shortened}
+use Rattle.nq_stage.specs.Staged.{Staged, new_stager}
 use Rattle.walk_steps.proofs.ClientMoves.{some-same, none-some}
 use Rattle.walk_steps.proofs.Packets.{In, in-get}
 use Rattle.walk_steps.proofs.Steps.{Changes, nothing, by_client, by_server}

@@ -6,7 +6,7 @@ use Rattle.nq_base.specs.declared.Party.{Party}
 use Rattle.nq_base.specs.declared.Push.{Push}
 use Rattle.nq_base.specs.declared.Who.{Who}
 use Rattle.nq_datagrams.specs.Messages.{bytes_of}
-use Rattle.law_calls.proofs.EachOf.{each-at, each-get, each-filter, each-take}
+use Rattle.law_runs.proofs.EachOf.{each-at, each-get, each-filter, each-take}
 use Rattle.law_staged.proofs.Datagrams.{request-no-stage, commit-no-stage}
 use Rattle.law_staged.proofs.KnownClient.{Bodies, Carries}
 use Rattle.law_staged.proofs.Apart.{AreApart, there-at}
@@ -19,22 +19,22 @@ use Rattle.nq_model.specs.Profile.{most_hosts}
 use Rattle.nq_model.specs.Settle.{dirty_body, pushed_body, held_body}
 use Rattle.nq_model.specs.Stepped.{most_events}
 use Rattle.nq_model.specs.World.{Head, World, start, step}
-use Rattle.nq_pool.specs.Answering.{Answer, write, unstaged, own_stage, own_commit, stage_if_own, staged, answered}
-use Rattle.nq_pool.specs.Bodies.{others, with_body}
+use Rattle.nq_stage.specs.Answering.{Answer, write, unstaged, own_stage, own_commit, stage_if_own, staged, answered}
+use Rattle.nq_stage.specs.Bodies.{others, with_body}
 use Rattle.nq_stage.specs.declared.Commit.{Commit}
 use Rattle.nq_stage.specs.declared.Written.{Written}
 use Rattle.nq_stage.specs.Reading.{Stage, stage_in, is_unstaged_in}
 use Rattle.nq_stage.proofs.Again.{stages-are-read}
-use Rattle.nq_staged_run.specs.declared.StagedEvent.{StagedEvent}
-use Rattle.nq_staged_run.specs.Outer.{Outer, Side, Outside, outside_start}
-use Rattle.nq_staged_run.specs.Outside.{beside, renewed, inner, inner_delivery, takes_stage, takes_commit, served_commit, served_stage, to_server, told_side, heard_by, to_host as to_host_outside, takes, delivers, sends_stage, offers_body, offers, outside_step, outside_run}
-use Rattle.nq_staged_run.specs.Theorem.{EventBrings, StagedBrings}
-use Rattle.nq_staged_run.proofs.Inner.{ran}
-use Rattle.nq_stager.specs.declared.stager.Shortened.{Shortened}
-use Rattle.nq_stager.specs.Acknowledged.{verifier_of}
-use Rattle.nq_stager.specs.Hearing.{Told, acknowledged, again, other, told_by, told_as, acknowledging, again_from, kept_by}
-use Rattle.nq_stager.specs.Offering.{written_by, first_unknown, with_body as with_body_there, body_among, offer_of, offered}
-use Rattle.nq_stager.specs.Staged.{Staged, new_stager}
+use Rattle.nq_stage.specs.declared.run.event.StagedEvent.{StagedEvent}
+use Rattle.nq_stage.specs.Outer.{Outer, Side, Outside, outside_start}
+use Rattle.nq_stage.specs.Outside.{beside, renewed, inner, inner_delivery, takes_stage, takes_commit, served_commit, served_stage, to_server, told_side, heard_by, to_host as to_host_outside, takes, delivers, sends_stage, offers_body, offers, outside_step, outside_run}
+use Rattle.nq_stage.specs.Theorem.{EventBrings, StagedBrings}
+use Rattle.nq_stage.proofs.Inner.{ran}
+use Rattle.nq_stage.specs.declared.stager.stager.Shortened.{Shortened}
+use Rattle.nq_stage.specs.Acknowledged.{verifier_of}
+use Rattle.nq_stage.specs.Hearing.{Told, acknowledged, again, other, told_by, told_as, acknowledging, again_from, kept_by}
+use Rattle.nq_stage.specs.Offering.{written_by, first_unknown, with_body as with_body_there, body_among, offer_of, offered}
+use Rattle.nq_stage.specs.Staged.{Staged, new_stager}
 use Rattle.walk_steps.proofs.ClientMoves.{some-same, none-some}
 use Rattle.walk_steps.proofs.Packets.{In}
 use Rattle.walk_steps.proofs.Steps.{step-changes}

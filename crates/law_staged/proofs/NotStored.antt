@@ -2,7 +2,7 @@
 use Rattle.std.proofs.Common.{◌≡◌, ℕ, ◌==◌, ◌&&◌, Bool, true, false, List, Option, Some, None, Result, Ok, Err, if◌then◌else◌, refl, sym, subst, ap, ◌∙◌}
 use Rattle.std.specs.Prelude.{slice_get}
 use Rattle.nq_base.specs.declared.Party.{Party}
-use Rattle.nq_pool.specs.Answering.{Answer, write, unstaged, own_stage, own_commit, stage_if_own, commit_if_own, answered}
+use Rattle.nq_stage.specs.Answering.{Answer, write, unstaged, own_stage, own_commit, stage_if_own, commit_if_own, answered}
 use Rattle.nq_rpc.specs.declared.CallMessage.{CallMessage}
 use Rattle.nq_rpc.specs.declared.Message.{Message as Said}
 use Rattle.nq_rpc.specs.declared.Message.TheVariants as said
@@ -11,9 +11,9 @@ use Rattle.nq_rpc.specs.Reading.{message_at}
 use Rattle.nq_stage.specs.declared.Commit.{Commit}
 use Rattle.nq_stage.specs.Messages.{commit, stage}
 use Rattle.nq_stage.specs.Reading.{Stage, call_as, call_by, call_in, stage_by, stage_in, commit_by, commit_in}
-use Rattle.nq_staged_run.specs.Outer.{Outer, Side, Outside}
-use Rattle.nq_staged_run.specs.Outside.{sends, inner_delivery, takes_stage, takes_commit, served_commit, served_stage, to_server, told_side, heard_by, to_host, takes, delivers}
-use Rattle.nq_stager.specs.Hearing.{Told, acknowledged, again, other, told_by}
+use Rattle.nq_stage.specs.Outer.{Outer, Side, Outside}
+use Rattle.nq_stage.specs.Outside.{sends, inner_delivery, takes_stage, takes_commit, served_commit, served_stage, to_server, told_side, heard_by, to_host, takes, delivers}
+use Rattle.nq_stage.specs.Hearing.{Told, acknowledged, again, other, told_by}
 use Rattle.law_staged.specs.NotStored.{BesideStoresNothing, UnstagedStoresNothing}
 use Rattle.walk_steps.proofs.ClientMoves.{none-some}
 use Rattle.walk_steps.proofs.Rows.{same-number}

@@ -4,14 +4,14 @@ use Rattle.std.specs.Prelude.{slice_get}
 use Rattle.nq_base.specs.declared.Event.{Event}
 use Rattle.nq_base.specs.declared.Party.{Party}
 use Rattle.nq_datagrams.specs.Messages.{bytes_of}
-use Rattle.law_calls.proofs.EachOf.{each-get}
+use Rattle.law_runs.proofs.EachOf.{each-get}
 use Rattle.law_staged.proofs.Datagrams.{request-no-stage, request-no-commit, stage-no-commit, commit-no-stage, reads-commit}
 use Rattle.law_staged.proofs.KnownClient.{Bodies}
 use Rattle.law_staged.proofs.KnownRuns.{PacketKnown, Knowing}
 use Rattle.nq_model.specs.Journal.{Each}
 use Rattle.nq_model.specs.World.{World, step}
-use Rattle.nq_pool.specs.Answering.{Answer, write, unstaged, own_stage, own_commit, commit_if_own, stage_if_own, answered, answered_as}
-use Rattle.nq_pool.specs.Bodies.{Bodies as Pool, body_of}
+use Rattle.nq_stage.specs.Answering.{Answer, write, unstaged, own_stage, own_commit, commit_if_own, stage_if_own, answered, answered_as}
+use Rattle.nq_stage.specs.Bodies.{Bodies as Pool, body_of}
 use Rattle.nq_stage.specs.declared.Commit.{Commit}
 use Rattle.nq_stage.specs.declared.Pushed.{Pushed}
 use Rattle.nq_stage.specs.declared.Written.{Written}
@@ -19,10 +19,10 @@ use Rattle.nq_stage.specs.Messages.{write_bytes, written_of}
 use Rattle.nq_stage.specs.Reading.{stage_in, commit_in}
 use Rattle.nq_stage.specs.Writes.{is_same}
 use Rattle.nq_stage.proofs.Writes.{same_write}
-use Rattle.nq_staged_run.specs.Outer.{Outer, Outside}
-use Rattle.nq_staged_run.specs.Outside.{inner_delivery, takes_commit, served_commit, served_stage, to_server, to_host as to_host_outside, takes, delivers, outside_run}
-use Rattle.nq_staged_run.specs.Theorem.{StandsFor, EachStandsForItsPacket, IsUnstaged, EachIsDeliveredAsItsPacket, IsInnerPacket, RebuildsWhatWasMeant}
-use Rattle.nq_staged_run.proofs.Inner.{inner-ran}
+use Rattle.nq_stage.specs.Outer.{Outer, Outside}
+use Rattle.nq_stage.specs.Outside.{inner_delivery, takes_commit, served_commit, served_stage, to_server, to_host as to_host_outside, takes, delivers, outside_run}
+use Rattle.nq_stage.specs.Theorem.{StandsFor, EachStandsForItsPacket, IsUnstaged, EachIsDeliveredAsItsPacket, IsInnerPacket, RebuildsWhatWasMeant}
+use Rattle.nq_stage.proofs.Inner.{inner-ran}
 use Rattle.walk_steps.proofs.ClientMoves.{some-same, none-some}
 use Rattle.walk_steps.proofs.Packets.{In}
 use Rattle.law_staged.proofs.Meaning.{IsMeant, whole, short, ahead, replied, says-request}

@@ -6,15 +6,15 @@ use Rattle.std.proofs.lemmas.List.Elements.{All-nil, All-cons, All-head, All-tai
 use Rattle.nq_base.specs.declared.Event.{Event}
 use Rattle.nq_model.specs.Skew.{IsWithinSkew, server_ticks, ticks_of, is_server_tick, is_tick_of}
 use Rattle.nq_model.specs.World.{Head, World}
-use Rattle.nq_pool.specs.Bodies.{Bodies}
-use Rattle.nq_promises.specs.Bounds.{BootsWithin}
-use Rattle.nq_promises.specs.Headline.{HeadlineHolds}
-use Rattle.nq_promises.specs.WritesAreAccounted.{WaitingAreUnsaved}
-use Rattle.nq_staged_run.specs.declared.StagedEvent.{StagedEvent}
-use Rattle.nq_staged_run.specs.Outer.{Outside, outside_start}
-use Rattle.nq_staged_run.specs.Outside.{inner, outside_run}
-use Rattle.nq_staged_run.proofs.Inner.{Core, inner-ran, delivery-cases, core-offering, runs-inside}
-use Rattle.law_calls.proofs.FateLaws.{waiting}
+use Rattle.nq_stage.specs.Bodies.{Bodies}
+use Rattle.nq_model.specs.Bounds.{BootsWithin}
+use Rattle.nq_model.specs.Headline.{HeadlineHolds}
+use Rattle.nq_model.specs.WritesAreAccounted.{WaitingAreUnsaved}
+use Rattle.nq_stage.specs.declared.run.event.StagedEvent.{StagedEvent}
+use Rattle.nq_stage.specs.Outer.{Outside, outside_start}
+use Rattle.nq_stage.specs.Outside.{inner, outside_run}
+use Rattle.nq_stage.proofs.Inner.{Core, inner-ran, delivery-cases, core-offering, runs-inside}
+use Rattle.law_runs.proofs.FateLaws.{waiting}
 use Rattle.law_staged.specs.Lawful.{plain_events, InnerRunsAreLawful, HeadlineHoldsOutside}
 use Rattle.law_staged.specs.NotStored.{StagedAreUnsaved}
 

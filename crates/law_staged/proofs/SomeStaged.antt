@@ -27,10 +27,10 @@ use Rattle.nq_model.specs.ServerStep.{attaches, tells_later, serves, leases, vac
 use Rattle.nq_model.specs.Settle.{answers, after_read, reads_cached, after_write, marks_written}
 use Rattle.nq_model.specs.Table.{empty_table, with_rows, after_draw}
 use Rattle.nq_model.specs.World.{Head, World, after_server, after_client, start}
-use Rattle.nq_pool.specs.Answering.{Answer, write, answered, own_commit, commit_if_own}
-use Rattle.nq_pool.specs.Bodies.{Bodies, with_body}
-use Rattle.nq_promises.specs.Bounds.{BootsWithin}
-use Rattle.nq_promises.specs.WritesAreAccounted.{WaitingAreUnsaved, IsDelayedBy, StillHas}
+use Rattle.nq_stage.specs.Answering.{Answer, write, answered, own_commit, commit_if_own}
+use Rattle.nq_stage.specs.Bodies.{Bodies, with_body}
+use Rattle.nq_model.specs.Bounds.{BootsWithin}
+use Rattle.nq_model.specs.WritesAreAccounted.{WaitingAreUnsaved, IsDelayedBy, StillHas}
 use Rattle.nq_rpc.specs.Message.{auth, numbers, outcome, spelling}
 use Rattle.nq_rpc.specs.Reading.{behind_auth, call_at, ended, bounds_at, accepted_as, accepted_at, denied_as, denied_at, outcome_at, reply_at, message_at}
 use Rattle.nq_stage.specs.declared.Commit.{Commit}
@@ -39,10 +39,10 @@ use Rattle.nq_stage.specs.declared.Written.{Written}
 use Rattle.nq_stage.specs.Messages.{written_bytes, stage_bytes, staged_bytes, pushed_bytes, commit_bytes, unstaged_bytes, write_bytes, IsPushed}
 use Rattle.nq_stage.specs.Reading.{call_as, call_in, results_of, results_in, end_at, written_at, body_at, base_at, front_at, stage_at, commit_at, push_at, staged_at, unstaged_at, stage_in, commit_in, push_in, verifier_in, is_unstaged_in}
 use Rattle.nq_stage.proofs.Again.{commits-are-read}
-use Rattle.nq_staged_run.specs.declared.StagedEvent.{StagedEvent}
-use Rattle.nq_staged_run.specs.Outer.{Outer, Outside, outside_start}
-use Rattle.nq_staged_run.specs.Outside.{sends, takes_stage, sends_stage, outside_step, outside_run}
-use Rattle.nq_staged_run.specs.Theorem.{IsStagedSchedule, Travels, IsInnerPacket}
+use Rattle.nq_stage.specs.declared.run.event.StagedEvent.{StagedEvent}
+use Rattle.nq_stage.specs.Outer.{Outer, Outside, outside_start}
+use Rattle.nq_stage.specs.Outside.{sends, takes_stage, sends_stage, outside_step, outside_run}
+use Rattle.nq_stage.specs.Theorem.{IsStagedSchedule, Travels, IsInnerPacket}
 use Rattle.nq_wire.specs.Parts.{head, tag_bytes, want_bytes, grant_bytes, base_bytes, optional}
 use Rattle.nq_wire.specs.Reply.{ok, results}
 use Rattle.nq_wire.specs.Request.{arguments}

@@ -3,13 +3,13 @@ use Rattle.std.specs.Prelude.{◌≡◌, ℕ, ◌+◌, List, [], ◌∷◌, Opti
 use Rattle.nq_base.specs.declared.Event.{Event}
 use Rattle.nq_base.specs.declared.Party.{Party}
 use Rattle.nq_model.specs.World.{Head}
-use Rattle.nq_pool.specs.Answering.{answered, write, unstaged}
-use Rattle.nq_pool.specs.Laws.{pool_after, IsOfBoot}
+use Rattle.nq_stage.specs.Answering.{answered, write, unstaged}
+use Rattle.nq_stage.specs.PoolLaws.{pool_after, IsOfBoot}
 use Rattle.nq_stage.specs.declared.Commit.{Commit}
 use Rattle.nq_stage.specs.Messages.{unstaged_bytes}
-use Rattle.nq_staged_run.specs.declared.StagedEvent.{StagedEvent}
-use Rattle.nq_staged_run.specs.Outer.{Outer, Outside}
-use Rattle.nq_staged_run.specs.Outside.{outside_run}
+use Rattle.nq_stage.specs.declared.run.event.StagedEvent.{StagedEvent}
+use Rattle.nq_stage.specs.Outer.{Outer, Outside}
+use Rattle.nq_stage.specs.Outside.{outside_run}
 
 -- how often the server crashed in a staged schedule
 abbrev pub crashes : List StagedEvent → ℕ

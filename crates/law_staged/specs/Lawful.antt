@@ -3,10 +3,10 @@ use Rattle.std.specs.Prelude.{ℕ, List, [], ◌∷◌}
 use Rattle.nq_base.specs.declared.Event.{Event}
 use Rattle.nq_model.specs.Skew.{IsWithinSkew}
 use Rattle.nq_model.specs.World.{Head}
-use Rattle.nq_promises.specs.Bounds.{KeepsBounds}
-use Rattle.nq_promises.specs.Headline.{HeadlineHolds, AtEveryMoment}
-use Rattle.nq_staged_run.specs.declared.StagedEvent.{StagedEvent}
-use Rattle.nq_staged_run.specs.Outside.{outside_run}
+use Rattle.nq_model.specs.Bounds.{KeepsBounds}
+use Rattle.nq_model.specs.Headline.{HeadlineHolds, AtEveryMoment}
+use Rattle.nq_stage.specs.declared.run.event.StagedEvent.{StagedEvent}
+use Rattle.nq_stage.specs.Outside.{outside_run}
 
 -- the events of a staged schedule but for its offers
 abbrev pub plain_events : List StagedEvent → List Event

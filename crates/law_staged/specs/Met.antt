@@ -7,17 +7,17 @@ use Rattle.nq_base.specs.declared.Party.{Party}
 use Rattle.nq_model.specs.Client.{Client}
 use Rattle.nq_model.specs.Journal.{Exists}
 use Rattle.nq_model.specs.World.{Head}
-use Rattle.nq_pool.specs.Answering.{answered, write, unstaged}
-use Rattle.nq_pool.specs.Bodies.{Bodies}
-use Rattle.nq_pool.specs.Laws.{pool_after}
-use Rattle.nq_promises.specs.WritesAreAccounted.{WaitingAreUnsaved}
+use Rattle.nq_stage.specs.Answering.{answered, write, unstaged}
+use Rattle.nq_stage.specs.Bodies.{Bodies}
+use Rattle.nq_stage.specs.PoolLaws.{pool_after}
+use Rattle.nq_model.specs.WritesAreAccounted.{WaitingAreUnsaved}
 use Rattle.nq_stage.specs.declared.Commit.{Commit}
 use Rattle.nq_stage.specs.declared.Written.{Written}
 use Rattle.nq_stage.specs.Messages.{write_bytes}
-use Rattle.nq_staged_run.specs.declared.StagedEvent.{StagedEvent}
-use Rattle.nq_staged_run.specs.Outer.{Outer, Outside}
-use Rattle.nq_staged_run.specs.Outside.{outside_run}
-use Rattle.nq_staged_run.specs.Theorem.{IsStagedSchedule, Travels, IsInnerPacket}
+use Rattle.nq_stage.specs.declared.run.event.StagedEvent.{StagedEvent}
+use Rattle.nq_stage.specs.Outer.{Outer, Outside}
+use Rattle.nq_stage.specs.Outside.{outside_run}
+use Rattle.nq_stage.specs.Theorem.{IsStagedSchedule, Travels, IsInnerPacket}
 use Rattle.law_staged.specs.Boots.{since_boot}
 use Rattle.law_staged.specs.Lawful.{plain_events, IsLawful}
 

@@ -3,13 +3,13 @@ use Rattle.std.specs.Prelude.{◌≡◌, ℕ, List, Some, None, slice_get}
 use Rattle.nq_base.specs.declared.Event.{Event}
 use Rattle.nq_base.specs.declared.Party.{Party}
 use Rattle.nq_model.specs.World.{Head}
-use Rattle.nq_pool.specs.Answering.{answered, unstaged}
-use Rattle.nq_promises.specs.WritesAreAccounted.{WaitingAreUnsaved}
+use Rattle.nq_stage.specs.Answering.{answered, unstaged}
+use Rattle.nq_model.specs.WritesAreAccounted.{WaitingAreUnsaved}
 use Rattle.nq_stage.specs.declared.Commit.{Commit}
-use Rattle.nq_staged_run.specs.declared.StagedEvent.{StagedEvent}
-use Rattle.nq_staged_run.specs.Outer.{Outer, Outside}
-use Rattle.nq_staged_run.specs.Outside.{outside_step, outside_run}
-use Rattle.nq_staged_run.specs.Theorem.{Travels}
+use Rattle.nq_stage.specs.declared.run.event.StagedEvent.{StagedEvent}
+use Rattle.nq_stage.specs.Outer.{Outer, Outside}
+use Rattle.nq_stage.specs.Outside.{outside_step, outside_run}
+use Rattle.nq_stage.specs.Theorem.{Travels}
 use Rattle.law_staged.specs.Lawful.{IsLawful, plain_events}
 
 -- The delivery of a packet that stands for none leaves the inner world as it is: that of a STAGE, of its reply and of an UNSTAGED.

@@ -6,7 +6,7 @@ ghost use Rattle.law_staged.specs.Boots.{AnswersAreOfTheBoot, BootsAreCounted, C
 ghost use Rattle.law_staged.specs.Lawful.{HeadlineHoldsOutside, InnerRunsAreLawful};
 ghost use Rattle.law_staged.specs.Met.{StagingIsMet};
 ghost use Rattle.law_staged.specs.NotStored.{BesideStoresNothing, StagedAreUnsaved, UnstagedStoresNothing};
-ghost use Rattle.nq_staged_run.specs.Theorem.{EachIsDeliveredAsItsPacket, EachStandsForItsPacket, RebuildsWhatWasMeant};
+ghost use Rattle.nq_stage.specs.Theorem.{EachIsDeliveredAsItsPacket, EachStandsForItsPacket, RebuildsWhatWasMeant};
 
 /// Each WRITE that the pool rebuilds is byte for byte the inner packet for which its COMMIT stands. So it is in every run of at most
 /// 64 hosts and 100,000 events whose calls bring blocks.

@@ -4,7 +4,7 @@ use Rattle.std.specs.Prelude.{All, slice_get}
 use Rattle.nq_base.specs.Block.{filled, zeros}
 use Rattle.nq_base.specs.declared.Call.{Call}
 use Rattle.nq_base.specs.declared.Event.{Event}
-use Rattle.nq_promises.specs.Bounds.{BootsWithin, KeepsBounds}
+use Rattle.nq_model.specs.Bounds.{BootsWithin, KeepsBounds}
 use Rattle.nq_model.specs.Lines.{Play}
 use Rattle.nq_model.specs.Skew.{is_within_skew}
 use Rattle.nq_model.specs.Stepped.{most_events, most_sent}

@@ -13,7 +13,7 @@ use Rattle.nq_base.specs.declared.Row.{Row}
 use Rattle.nq_base.specs.declared.Tag.{Tag}
 use Rattle.nq_base.specs.declared.Want.{Want}
 use Rattle.nq_base.specs.declared.Who.{Who}
-use Rattle.nq_promises.specs.RowsStandApart.{WritesAlone}
+use Rattle.nq_model.specs.RowsStandApart.{WritesAlone}
 use Rattle.nq_model.specs.Ask.{mode_conflicts}
 use Rattle.nq_model.specs.Client.{Client, ClientStep, Job, attaching, for_call, renewing, pushing, Notice, Ticket, UnderWay, begun, lease_on, notice_on}
 use Rattle.nq_model.specs.Hear.{hear, holds_later, cancels, evicted, goes_on}

@@ -1,4 +1,5 @@
+mod Repeating
+pub mod Ends
 pub mod Filling
 pub mod NameTests
 pub mod Options
-mod Repeating

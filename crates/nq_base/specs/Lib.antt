@@ -7,4 +7,5 @@ pub mod Name
 pub mod Order
 pub mod Plain
 pub mod Seen
+pub mod Status
 pub mod Steps

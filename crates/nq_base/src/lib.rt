@@ -9,6 +9,7 @@ mod calls;
 mod changes;
 mod clocks;
 mod decisions;
+pub mod ending;
 mod entries;
 mod journal;
 mod kept;

@@ -5,7 +5,7 @@ use Rattle.nq_base.specs.declared.Grant.{Grant}
 use Rattle.nq_client.specs.Losing.{IsReadyFor}
 use Rattle.nq_client.specs.declared.state.State.{State}
 use Rattle.nq_client.specs.declared.taking.Taking.{Taking}
-use Rattle.nq_client_leases.specs.Leases.{lease_of}
+use Rattle.nq_client_parts.specs.HoldingLeases.{lease_of}
 use Rattle.nq_model.specs.Client.{is_clean_in, lease_on}
 use Rattle.nq_model.specs.Hear.{breaks, granted_lease}
 

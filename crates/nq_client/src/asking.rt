@@ -4,7 +4,7 @@ ghost use Rattle.std.specs.Prelude.{◌≡◌, ◌+◌, ◌<◌, ◌^◌, Some, 
 ghost use Rattle.nq_base.specs.declared.Request.{Request};
 ghost use Rattle.nq_model.specs.Client.{for_call, lease_on};
 ghost use Rattle.nq_model.specs.Send.{asks, next_change, next_put, read_want, sends_request, sends_write, shares_live, then_calls, want_of, after_seq, gives_up};
-ghost use Rattle.nq_client_leases.specs.Leases.{lease_of};
+ghost use Rattle.nq_client_parts.specs.HoldingLeases.{lease_of};
 ghost use Rattle.nq_wire.specs.Parts.{IsWanted};
 ghost use Rattle.nq_wire.specs.Request.{HasSpelling};
 ghost use Rattle.nq_client.specs.Asking.{writes_or_asks};
@@ -16,8 +16,8 @@ use crate::settling::called_body;
 use crate::state::State;
 use crate::step::Step;
 use nq_base::{BlockNo, Call, FileId, Mode, Name, Number, Request, Seq, Spare, Ticks, Want};
-use nq_client_leases::Held;
 use nq_client_parts::Job;
+use nq_client_parts::holding::Held;
 
 /// Whether a live non-caching lease is held.
 fn shares(held: &Held, now: Ticks) -> bool

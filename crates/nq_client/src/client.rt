@@ -4,7 +4,7 @@ ghost use Rattle.std.specs.Prelude.{◌≡◌, ◌≤◌, ◌<◌, ◌+◌, ◌^
 ghost use Rattle.nq_base.specs.Plain.{plain_answer};
 ghost use Rattle.nq_datagrams.specs.Incoming.{hears_in};
 ghost use Rattle.nq_datagrams.specs.Messages.{FitsMessage};
-ghost use Rattle.nq_client_leases.specs.Leases.{lease_of};
+ghost use Rattle.nq_client_parts.specs.HoldingLeases.{lease_of};
 ghost use Rattle.nq_model.specs.CachedAtOnce.{has_cached};
 ghost use Rattle.nq_model.specs.Client.{lease_on};
 ghost use Rattle.nq_model.specs.ClientStep.{attached_client, client_call, client_tick, starts};
@@ -25,7 +25,7 @@ use crate::stepping::{hear, make_call, make_tick, reserve, room_for_call};
 use nq_base::{
     Answer, Block, BlockNo, Call, FileId, Host, Inc, Journal, NoMemory, Spare, Ticks, Who,
 };
-use nq_client_leases::Held;
+use nq_client_parts::holding::Held;
 use nq_dirty::Dirty;
 use nq_wire::Outbox;
 use std::alloc::Global;

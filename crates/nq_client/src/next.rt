@@ -2,7 +2,7 @@
 
 ghost use Rattle.std.specs.Prelude.{◌≡◌, Some, None, true, false, is_some, IsTrue};
 ghost use Rattle.nq_base.specs.declared.Request.{Request};
-ghost use Rattle.nq_client_leases.specs.Leases.{lease_of};
+ghost use Rattle.nq_client_parts.specs.HoldingLeases.{lease_of};
 ghost use Rattle.nq_model.specs.Client.{renewing};
 ghost use Rattle.nq_model.specs.Hear.{holds_caching};
 ghost use Rattle.nq_model.specs.Send.{pushes_due, renews_lease, send_next, sends_request, then_renews, want_of};
@@ -12,8 +12,8 @@ ghost use Rattle.nq_client.specs.Step.{HasNumbers, step_of};
 
 use crate::step::Step;
 use nq_base::{FileId, Mode, Request, Spare};
-use nq_client_leases::Held;
 use nq_client_parts::Job;
+use nq_client_parts::holding::Held;
 
 impl Step {
     /// Pushes the first delayed writes of a file, if there is a file; whether it sent some.

@@ -5,14 +5,14 @@ ghost use Rattle.nq_base.specs.declared.Request.{Request};
 ghost use Rattle.nq_model.specs.Client.{pushing, revision_of, revision_or_zero};
 ghost use Rattle.nq_model.specs.Send.{after_seq, base_in, boot_of, pushes, sends_request};
 ghost use Rattle.nq_wire.specs.Request.{HasSpelling};
-ghost use Rattle.nq_client_leases.specs.Leases.{lease_of};
+ghost use Rattle.nq_client_parts.specs.HoldingLeases.{lease_of};
 ghost use Rattle.nq_client_parts.specs.Asked.{job_of};
 ghost use Rattle.nq_client.specs.Step.{HasNumbers, step_of};
 
 use crate::step::Step;
 use nq_base::{FileId, Push, PushBase, Request, Rev, Seq, Spare};
 use nq_cache::Cache;
-use nq_client_leases::Held;
+use nq_client_parts::holding::Held;
 use nq_client_parts::{Asked, Job, Leases};
 
 /// The boot of the lease under which writes are delayed.

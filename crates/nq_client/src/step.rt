@@ -5,8 +5,8 @@ ghost use Rattle.nq_client.specs.Step.{IsBegun};
 
 use crate::state::State;
 use nq_base::Answer;
-use nq_client_leases::Vacancy;
 use nq_client_parts::Entries;
+use nq_client_parts::holding::Vacancy;
 
 /// A vacated message with its number.
 #[derive(Drop)]

@@ -1,7 +1,7 @@
 //! Replies to writes.
 
 ghost use Rattle.std.specs.Prelude.{◌≡◌, ◌==◌, ◌≤◌, ◌<◌, ◌+◌, ◌^◌, ◌&&◌, None, false, is_some, IsTrue, OnOk, OnErr, if◌then◌else◌};
-ghost use Rattle.nq_client_leases.specs.Leases.{lease_of};
+ghost use Rattle.nq_client_parts.specs.HoldingLeases.{lease_of};
 ghost use Rattle.nq_model.specs.Client.{dirty_at, is_push_of, is_revision_before, lease_on, purge, push_passes, put_clean, revision_of};
 ghost use Rattle.nq_model.specs.Hear.{answer_of, answers_call, holds_caching, is_put_off, pauses, push_done, write_done};
 ghost use Rattle.nq_client.specs.Prepared.{Leaves};
@@ -10,7 +10,7 @@ ghost use Rattle.nq_client.specs.Step.{step_of};
 use crate::step::Step;
 use nq_base::{Block, BlockNo, FileId, NoMemory, Refusal, Rev};
 use nq_cache::Cache;
-use nq_client_leases::Held;
+use nq_client_parts::holding::Held;
 use nq_client_parts::{Leases, is_put_off};
 use nq_dirty::Dirty;
 use std::alloc::Global;

@@ -8,7 +8,7 @@ ghost use Rattle.nq_client.specs.Step.{step_of};
 
 use crate::step::{Step, Vacated};
 use nq_base::{FileId, Tag};
-use nq_client_leases::{Notice, Vacancy};
+use nq_client_parts::holding::{Notice, Vacancy};
 use nq_dirty::Dirty;
 
 /// The answer to a notice for a clean file.

@@ -1,7 +1,7 @@
 -- The leases that a client holds, as rows.
 use Rattle.std.specs.Prelude.{ℕ, List}
 use Rattle.nq_client_parts.specs.declared.leases.Row.{Row}
-use Rattle.nq_client_leases.specs.Leases.{of_kind}
+use Rattle.nq_client_parts.specs.HoldingLeases.{of_kind}
 use Rattle.nq_model.specs.Client.{Lease}
 
 -- the lease of a row

@@ -2,6 +2,9 @@ pub mod Asked
 pub mod ByFile
 pub mod Entries
 pub mod Granting
+pub mod HoldingLeases
 pub mod Leases
 pub mod Lost
 pub mod Notices
+pub mod Sent
+pub mod Takes

@@ -5,8 +5,8 @@ ghost use Rattle.nq_client_parts.specs.Asked.{job_of};
 ghost use Rattle.nq_model.specs.Profile.{patience};
 ghost use Rattle.nq_wire.specs.Request.{HasSpelling};
 
+use crate::pending::Ticket;
 use nq_base::{Request, Ticks};
-use nq_pending::Ticket;
 use std::alloc::Global;
 use std::marker::Model;
 

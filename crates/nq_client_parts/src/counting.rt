@@ -1,14 +1,14 @@
 //! Which datagrams count for a client.
 
 ghost use Rattle.std.specs.Prelude.{◌≡◌, is_some};
-ghost use Rattle.nq_client_leases.specs.Leases.{lease_of};
+ghost use Rattle.nq_client_parts.specs.HoldingLeases.{lease_of};
 ghost use Rattle.nq_model.specs.Hear.{counts_for_block, counts_for_call, counts_for_change, counts_for_lease, counts_for_name, holds_later, inc_of, is_of_procedure, is_put_off, refusal_counts, reply_counts, wants_of};
 ghost use Rattle.nq_wire.specs.Lent.{lent_reply};
 ghost use Rattle.nq_client_parts.specs.Asked.{job_of};
 
 use crate::asked::{Asked, Job};
+use crate::holding::Held;
 use nq_base::{FileId, Inc, Refusal, Reply, Request, Tag};
-use nq_client_leases::Held;
 use nq_wire::LentReply;
 
 /// Whether a refusal says that the request is put off.

@@ -5,10 +5,10 @@ ghost use Rattle.nq_client_parts.specs.ByFile.{Ascends};
 ghost use Rattle.nq_client_parts.specs.Leases.{lease_in, file_of_row};
 ghost use Rattle.nq_model.specs.Send.{ending_in, is_to_push_in, is_to_renew_in, renewed_in};
 
+use crate::holding::Held;
 use crate::leases::Row;
 use crate::notices::Notices;
 use nq_base::{FileId, Mode, Ticks};
-use nq_client_leases::Held;
 use nq_dirty::Dirty;
 
 /// From so many ticks before a writing lease ends its delayed writes are pushed (Macklem 1994).

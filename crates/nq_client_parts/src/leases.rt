@@ -2,7 +2,7 @@
 
 ghost use Rattle.std.specs.Prelude.{◌≡◌, ◌≤◌, ◌<◌, ◌+◌, ◌-◌, ◌^◌, [], map, length, slice_get, slice_set, option_map, vec_len, vec_capacity, Some, IsSome, IsOk, OnOk, OnErr, IfSome, true};
 ghost use Rattle.std.specs.List.{insert, remove};
-ghost use Rattle.nq_client_leases.specs.Leases.{lease_of, of_kind};
+ghost use Rattle.nq_client_parts.specs.HoldingLeases.{lease_of, of_kind};
 ghost use Rattle.nq_model.specs.Client.{lease_on, drop_lease, put_lease, used_lease};
 ghost use Rattle.nq_model.specs.Hear.{holds_caching};
 ghost use Rattle.nq_model.specs.Send.{ending_in, renewed_in};
@@ -10,9 +10,9 @@ ghost use Rattle.nq_client_parts.specs.ByFile.{Ascends, IsPlace, of_file};
 ghost use Rattle.nq_client_parts.specs.Leases.{lease_in, file_of_row};
 
 use crate::due;
+use crate::holding::{Held, Lease};
 use crate::notices::Notices;
 use nq_base::{FileId, Mode, NoMemory, Ticks};
-use nq_client_leases::{Held, Lease};
 use nq_dirty::Dirty;
 use std::alloc::Global;
 use std::marker::Model;

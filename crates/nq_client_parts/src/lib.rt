@@ -9,9 +9,11 @@ mod counting;
 mod due;
 mod entries;
 mod granting;
+pub mod holding;
 mod leases;
 mod losses;
 mod notices;
+pub mod pending;
 
 pub use asked::{Asked, Job};
 pub use counting::{holds_later, inc_of, is_put_off, reply_counts, wants};

@@ -8,8 +8,8 @@ ghost use Rattle.nq_model.specs.Hear.{noticed_tag, with_notice};
 ghost use Rattle.nq_model.specs.Send.{noticed_in};
 ghost use Rattle.nq_client_parts.specs.ByFile.{Ascends, IsPlace};
 
+use crate::holding::Notice;
 use nq_base::{FileId, NoMemory};
-use nq_client_leases::Notice;
 use std::alloc::Global;
 use std::marker::Model;
 

@@ -4,6 +4,7 @@
 #![tactic(auto)]
 
 mod commands;
+pub mod prompt;
 mod words;
 
 pub use commands::Command;

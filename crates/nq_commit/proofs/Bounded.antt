@@ -9,20 +9,20 @@ use Rattle.nq_datagrams.specs.Messages.{bytes_of}
 use Rattle.nq_model.specs.Client.{Client}
 use Rattle.nq_model.specs.Message.{Packet}
 use Rattle.nq_model.specs.World.{Head, World, first_clients, run, start, step}
-use Rattle.nq_pool.specs.Answering.{Answer, write, unstaged, own_stage, own_commit, staged, answered}
-use Rattle.nq_pool.specs.Bodies.{Bodies}
+use Rattle.nq_stage.specs.Answering.{Answer, write, unstaged, own_stage, own_commit, staged, answered}
+use Rattle.nq_stage.specs.Bodies.{Bodies}
 use Rattle.nq_stage.specs.declared.Commit.{Commit}
 use Rattle.nq_stage.specs.declared.Pushed.{Pushed}
 use Rattle.nq_stage.specs.declared.Written.{Written}
 use Rattle.nq_stage.specs.Reading.{Stage}
-use Rattle.nq_stager.specs.Hearing.{Told, acknowledged, again, other, told_by, kept_by}
-use Rattle.nq_stager.specs.Offering.{offer_of, offered}
-use Rattle.nq_stager.specs.Shortening.{shortened, shortening}
-use Rattle.nq_stager.specs.Staged.{Staged, new_stager}
-use Rattle.nq_staged_run.specs.declared.StagedEvent.{StagedEvent}
-use Rattle.nq_staged_run.specs.Outer.{Outer, Side, Outside, outside_start}
-use Rattle.nq_staged_run.specs.Outside.{sends, standing, side_of, sends_as, sends_by, sends_from, sends_all, renewed, new_side, inner, inner_delivery, takes_stage, takes_commit, served_commit, served_stage, to_server, told_side, sends_again, heard_by, to_host, takes, delivers, sends_stage, offers_body, offers, outside_step, outside_run}
-use Rattle.nq_staged_run.proofs.Inner.{Inner, sent-all, ran}
+use Rattle.nq_stage.specs.Hearing.{Told, acknowledged, again, other, told_by, kept_by}
+use Rattle.nq_stage.specs.Offering.{offer_of, offered}
+use Rattle.nq_stage.specs.Shortening.{shortened, shortening}
+use Rattle.nq_stage.specs.Staged.{Staged, new_stager}
+use Rattle.nq_stage.specs.declared.run.event.StagedEvent.{StagedEvent}
+use Rattle.nq_stage.specs.Outer.{Outer, Side, Outside, outside_start}
+use Rattle.nq_stage.specs.Outside.{sends, standing, side_of, sends_as, sends_by, sends_from, sends_all, renewed, new_side, inner, inner_delivery, takes_stage, takes_commit, served_commit, served_stage, to_server, told_side, sends_again, heard_by, to_host, takes, delivers, sends_stage, offers_body, offers, outside_step, outside_run}
+use Rattle.nq_stage.proofs.Inner.{Inner, sent-all, ran}
 use Rattle.nq_commit.proofs.Growing.{grows}
 
 -- ---- lists

@@ -11,10 +11,10 @@ use Rattle.nq_model.specs.Client.{Client}
 use Rattle.nq_model.specs.Kept.{Kept}
 use Rattle.nq_model.specs.Stepped.{done, no_packet, most_events, stepped, tested_room}
 use Rattle.nq_model.specs.World.{Head, World, run}
-use Rattle.nq_staged_run.specs.declared.StagedEvent.{StagedEvent}
-use Rattle.nq_staged_run.specs.Outer.{Outer, Outside, Side}
-use Rattle.nq_staged_run.specs.Outside.{delivers, inner, offers, outside_run, outside_step, takes}
-use Rattle.nq_staged_run.specs.Theorem.{EventBrings}
+use Rattle.nq_stage.specs.declared.run.event.StagedEvent.{StagedEvent}
+use Rattle.nq_stage.specs.Outer.{Outer, Outside, Side}
+use Rattle.nq_stage.specs.Outside.{delivers, inner, offers, outside_run, outside_step, takes}
+use Rattle.nq_stage.specs.Theorem.{EventBrings}
 use Rattle.nq_world.specs.Answering.{IsOfTests}
 use Rattle.nq_world.specs.Playing.{Plays, WorldOver}
 use Rattle.nq_world.specs.declared.Stepped.{Stepped}

@@ -15,13 +15,13 @@ use Rattle.nq_model.specs.Message.{Packet}
 use Rattle.nq_model.specs.Stepped.{Stepped as Answer, done, most_events, stepped}
 use Rattle.nq_model.specs.World.{Head, World, run, start, step}
 use Rattle.nq_stage.specs.declared.Pushed.{Pushed}
-use Rattle.nq_stager.specs.Shortening.{shortening}
-use Rattle.nq_stager.specs.Staged.{new_stager}
-use Rattle.nq_staged_run.specs.declared.StagedEvent.{StagedEvent}
-use Rattle.nq_staged_run.specs.Outer.{Outer, Outside, Side, outside_start}
-use Rattle.nq_staged_run.specs.Outside.{inner, outside_run, outside_step, renewed, sends, sends_all, sends_as, sends_by, sends_from}
-use Rattle.nq_staged_run.specs.Theorem.{IsStagedSchedule, StagedBrings}
-use Rattle.nq_staged_run.proofs.Inner.{Inner, runs-inside, sent-all}
+use Rattle.nq_stage.specs.Shortening.{shortening}
+use Rattle.nq_stage.specs.Staged.{new_stager}
+use Rattle.nq_stage.specs.declared.run.event.StagedEvent.{StagedEvent}
+use Rattle.nq_stage.specs.Outer.{Outer, Outside, Side, outside_start}
+use Rattle.nq_stage.specs.Outside.{inner, outside_run, outside_step, renewed, sends, sends_all, sends_as, sends_by, sends_from}
+use Rattle.nq_stage.specs.Theorem.{IsStagedSchedule, StagedBrings}
+use Rattle.nq_stage.proofs.Inner.{Inner, runs-inside, sent-all}
 use Rattle.law_staged.proofs.Rebuilt.{each-is-delivered, each-stands, rebuilds-what-was-meant}
 use Rattle.law_staged.specs.Lawful.{IsLawful}
 use Rattle.nq_world.proofs.Going.{runs-are-lawful}

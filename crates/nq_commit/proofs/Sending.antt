@@ -11,10 +11,10 @@ use Rattle.nq_model.specs.Message.{Packet}
 use Rattle.nq_model.specs.World.{World}
 use Rattle.nq_net.specs.Packets.{Datagram}
 use Rattle.nq_stage.specs.declared.Pushed.{Pushed}
-use Rattle.nq_stager.specs.Shortening.{shortening, shortened}
-use Rattle.nq_stager.specs.Staged.{Staged}
-use Rattle.nq_staged_run.specs.Outer.{Outer, Side, Outside}
-use Rattle.nq_staged_run.specs.Outside.{sends, sends_all, sends_as, sends_by, sends_from, side_of, standing}
+use Rattle.nq_stage.specs.Shortening.{shortening, shortened}
+use Rattle.nq_stage.specs.Staged.{Staged}
+use Rattle.nq_stage.specs.Outer.{Outer, Side, Outside}
+use Rattle.nq_stage.specs.Outside.{sends, sends_all, sends_as, sends_by, sends_from, side_of, standing}
 use Rattle.nq_world.specs.Shown.{datagram}
 use Rattle.nq_commit.specs.Around.{AroundOver, IsSettled, due_as, flushed, flushed_as, once_sent, over, passed, passed_as, passed_at, prepared, prepared_from, shown, with_due}
 

@@ -8,17 +8,17 @@ use Rattle.nq_base.specs.declared.Party.{Party}
 use Rattle.nq_base.specs.declared.Push.{Push}
 use Rattle.nq_model.specs.Client.{Client}
 use Rattle.nq_model.specs.World.{World}
-use Rattle.nq_pool.specs.Answering.{Answer, write, unstaged, answered, own_commit, own_stage, staged}
-use Rattle.nq_pool.specs.Bodies.{Bodies}
+use Rattle.nq_stage.specs.Answering.{Answer, write, unstaged, answered, own_commit, own_stage, staged}
+use Rattle.nq_stage.specs.Bodies.{Bodies}
 use Rattle.nq_stage.specs.declared.Commit.{Commit}
 use Rattle.nq_stage.specs.declared.Written.{Written}
 use Rattle.nq_stage.specs.Reading.{Stage}
-use Rattle.nq_stager.specs.declared.HeardStage.{HeardStage}
-use Rattle.nq_stager.specs.Hearing.{Told, acknowledged, again, other, Tells, told_by, kept_by}
-use Rattle.nq_stager.specs.Offering.{body_among, first_unknown, offer_of, offered}
-use Rattle.nq_stager.specs.Staged.{Staged}
-use Rattle.nq_staged_run.specs.Outer.{Outer, Side, Outside}
-use Rattle.nq_staged_run.specs.Outside.{beside, heard_by, inner, inner_delivery, offers, offers_body, sends, sends_stage, served_commit, served_stage, takes_commit, takes_stage, told_side}
+use Rattle.nq_stage.specs.declared.stager.stager.HeardStage.{HeardStage}
+use Rattle.nq_stage.specs.Hearing.{Told, acknowledged, again, other, Tells, told_by, kept_by}
+use Rattle.nq_stage.specs.Offering.{body_among, first_unknown, offer_of, offered}
+use Rattle.nq_stage.specs.Staged.{Staged}
+use Rattle.nq_stage.specs.Outer.{Outer, Side, Outside}
+use Rattle.nq_stage.specs.Outside.{beside, heard_by, inner, inner_delivery, offers, offers_body, sends, sends_stage, served_commit, served_stage, takes_commit, takes_stage, told_side}
 use Rattle.nq_commit.specs.Around.{AroundOver, counted, offers_at, once_sent, over, side_offers, side_offers_as}
 use Rattle.nq_commit.specs.Taking.{IsTakenIn, Leading, running, taken_by}
 use Rattle.nq_commit.specs.declared.taking.Taken.{Taken}

@@ -3,7 +3,7 @@ use Rattle.std.proofs.Common.{◌≡◌, ℕ, zero, suc, ◌+◌, List, [], ◌�
 use Rattle.std.specs.Prelude.{slice_get}
 use Rattle.nq_base.specs.declared.Party.{Party}
 use Rattle.nq_net.specs.Packets.{Datagram}
-use Rattle.nq_staged_run.specs.Outer.{Outer}
+use Rattle.nq_stage.specs.Outer.{Outer}
 use Rattle.nq_commit.specs.Around.{datagram_of, outer_of, travelling}
 
 pub length_travelling : (ds : List Datagram) (stands : List (Option ℕ)) → length ds ≡ length stands → length (travelling ds stands) ≡ length ds

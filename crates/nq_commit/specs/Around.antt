@@ -5,14 +5,14 @@ use Rattle.nq_base.specs.declared.Party.{Party}
 use Rattle.nq_base.specs.declared.Push.{Push}
 use Rattle.nq_model.specs.World.{World}
 use Rattle.nq_net.specs.Packets.{Datagram}
-use Rattle.nq_pool.specs.Bodies.{Bodies}
+use Rattle.nq_stage.specs.Bodies.{Bodies}
 use Rattle.nq_stage.specs.declared.Pushed.{Pushed}
 use Rattle.nq_stage.specs.declared.Written.{Written}
-use Rattle.nq_stager.specs.Offering.{offer_of, offered}
-use Rattle.nq_stager.specs.Shortening.{shortening, shortened}
-use Rattle.nq_staged_run.specs.declared.StagedCounts.{StagedCounts}
-use Rattle.nq_staged_run.specs.Outer.{Outer, Counts, Side, Outside, new_pool}
-use Rattle.nq_staged_run.specs.Outside.{sends, sends_all, standing, side_of, new_side}
+use Rattle.nq_stage.specs.Offering.{offer_of, offered}
+use Rattle.nq_stage.specs.Shortening.{shortening, shortened}
+use Rattle.nq_stage.specs.declared.run.event.StagedCounts.{StagedCounts}
+use Rattle.nq_stage.specs.Outer.{Outer, Counts, Side, Outside, new_pool}
+use Rattle.nq_stage.specs.Outside.{sends, sends_all, standing, side_of, new_side}
 
 -- the pool, the sides by host, what travels with the oldest first, the packet that goes out next, how many packets of the inner world
 -- have gone out, and the counts

@@ -7,10 +7,10 @@ use Rattle.nq_model.specs.Kept.{Kept}
 use Rattle.nq_model.specs.SkewBroken.{skew_broken}
 use Rattle.nq_model.specs.Stepped.{Stepped as Answer, done, no_packet, out_of_skew, too_many_events, most_events, stepped, tested_room, tested_skew}
 use Rattle.nq_model.specs.World.{Head, run, step}
-use Rattle.nq_staged_run.specs.declared.StagedEvent.{StagedEvent}
-use Rattle.nq_staged_run.specs.Outer.{Outside}
-use Rattle.nq_staged_run.specs.Outside.{outside_run}
-use Rattle.nq_staged_run.specs.Theorem.{IsStagedSchedule, RebuildsMeant, EachStands, EachIsDelivered}
+use Rattle.nq_stage.specs.declared.run.event.StagedEvent.{StagedEvent}
+use Rattle.nq_stage.specs.Outer.{Outside}
+use Rattle.nq_stage.specs.Outside.{outside_run}
+use Rattle.nq_stage.specs.Theorem.{IsStagedSchedule, RebuildsMeant, EachStands, EachIsDelivered}
 use Rattle.law_staged.specs.Lawful.{IsLawful}
 use Rattle.nq_world.specs.Answering.{told as answer_of}
 use Rattle.nq_world.specs.Playing.{WorldOver, Plays, CanCome}

@@ -2,8 +2,8 @@
 use Rattle.std.specs.Prelude.{◌≡◌, ℕ, Bool, false, List, Option, Some, None}
 use Rattle.nq_base.specs.declared.Event.{Event}
 use Rattle.nq_model.specs.World.{World}
-use Rattle.nq_staged_run.specs.Outer.{Outside}
-use Rattle.nq_staged_run.specs.Outside.{inner}
+use Rattle.nq_stage.specs.Outer.{Outside}
+use Rattle.nq_stage.specs.Outside.{inner}
 use Rattle.nq_commit.specs.Around.{AroundOver, counted, once_sent, over}
 use Rattle.nq_commit.specs.declared.taking.Taken.{Taken}
 

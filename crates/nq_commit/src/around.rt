@@ -10,9 +10,9 @@ ghost use Rattle.nq_world.specs.Shown.{datagram};
 
 use nq_base::{Host, NoMemory, Party};
 use nq_net::Packets;
-use nq_pool::Pool;
-use nq_staged_run::StagedCounts;
-use nq_stager::Stager;
+use nq_stage::pool::Pool;
+use nq_stage::run::StagedCounts;
+use nq_stage::stager::Stager;
 use std::alloc::Global;
 use std::marker::Model;
 
@@ -25,7 +25,7 @@ pub(crate) struct HostSide {
 }
 
 impl Model for HostSide {
-    ghost use Rattle.nq_staged_run.specs.Outer.{Side};
+    ghost use Rattle.nq_stage.specs.Outer.{Side};
 
     ghost Value = { Side };
 
@@ -43,7 +43,7 @@ pub(crate) struct Outgoing {
 }
 
 impl Model for Outgoing {
-    ghost use Rattle.nq_staged_run.specs.Outer.{Outer};
+    ghost use Rattle.nq_stage.specs.Outer.{Outer};
 
     ghost Value = { Outer };
 

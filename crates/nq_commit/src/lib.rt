@@ -1,7 +1,7 @@
 //! A world with staged writes: around a world of the protocol, which it changes in nothing, it lets clients send bodies of
 //! delayed writes ahead, and short COMMITs stand for pushes (RFC 1813 sections 3.3.7 and 3.3.21).
 //!
-//! What it does is in the definitions of `nq_staged_run`: see `specs/Playing.antt`, which says that a [`StagedWorld`] plays a
+//! What it does is in the definitions of `nq_stage::run`: see `specs/Playing.antt`, which says that a [`StagedWorld`] plays a
 //! staged run.
 #![tactic(auto)]
 

@@ -8,9 +8,9 @@ ghost use Rattle.nq_model.specs.Kept.{Kept};
 ghost use Rattle.nq_model.specs.SkewBroken.{skew_broken};
 ghost use Rattle.nq_model.specs.Stepped.{most_events, no_packet, tested_room, tested_skew};
 ghost use Rattle.nq_model.specs.World.{Head, World as Model};
-ghost use Rattle.nq_staged_run.specs.declared.StagedEvent.{StagedEvent};
-ghost use Rattle.nq_staged_run.specs.Outside.{outside_run};
-ghost use Rattle.nq_staged_run.specs.Theorem.{EventBrings};
+ghost use Rattle.nq_stage.specs.declared.run.event.StagedEvent.{StagedEvent};
+ghost use Rattle.nq_stage.specs.Outside.{outside_run};
+ghost use Rattle.nq_stage.specs.Theorem.{EventBrings};
 ghost use Rattle.nq_world.specs.Answering.{IsOfTests, told};
 ghost use Rattle.nq_world.specs.Moving.{clients_in};
 ghost use Rattle.nq_world.specs.Playing.{CanCome, GoesOn, Plays};
@@ -21,7 +21,7 @@ use crate::taking::Taken;
 use crate::world::StagedWorld;
 use nq_base::{Event, Host, NoMemory};
 use nq_keeper::Keeper;
-use nq_staged_run::{StagedEvent, event_brings};
+use nq_stage::run::{StagedEvent, event_brings};
 use nq_world::{Limit, MOST_EVENTS, MOST_SENT, Stepped};
 
 impl<K: Keeper> StagedWorld<K> {

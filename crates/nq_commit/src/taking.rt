@@ -8,15 +8,15 @@ ghost use Rattle.nq_commit.specs.Around.{offers_at, once_sent, over, side_offers
 ghost use Rattle.nq_commit.specs.Taking.{IsTakenIn, running, taken_by};
 ghost use Rattle.nq_model.specs.Client.{Client};
 ghost use Rattle.nq_model.specs.World.{World};
-ghost use Rattle.nq_pool.specs.Answering.{own_commit, own_stage};
-ghost use Rattle.nq_staged_run.specs.Outside.{beside, heard_by, inner_delivery, offers, served_commit, served_stage, takes};
-ghost use Rattle.nq_stager.specs.Staged.{new_stager};
+ghost use Rattle.nq_stage.specs.Answering.{own_commit, own_stage};
+ghost use Rattle.nq_stage.specs.Outside.{beside, heard_by, inner_delivery, offers, served_commit, served_stage, takes};
+ghost use Rattle.nq_stage.specs.Staged.{new_stager};
 
 use crate::around::{Around, HostSide, Outgoing};
 use nq_base::{Host, NoMemory, Party, Who};
 use nq_dirty::Dirty;
-use nq_pool::{Rebuilt, Staging};
-use nq_stager::{HeardStage, Stager};
+use nq_stage::pool::{Rebuilt, Staging};
+use nq_stage::stager::{HeardStage, Stager};
 use std::alloc::Global;
 
 /// What comes of a packet that is taken in.

@@ -1,3 +1,4 @@
+pub mod Batch
 pub mod Bytes
 pub mod BytesLaws
 pub mod Calling
@@ -6,3 +7,8 @@ pub mod FileLaws
 pub mod History
 pub mod MemDisk
 pub mod MemLaws
+pub mod Opens
+pub mod Ranges
+pub mod Record
+pub mod Saying
+pub mod Whole

@@ -9,6 +9,7 @@ mod disk;
 mod file_disk;
 mod history;
 mod mem_disk;
+pub mod redo;
 
 pub use disk::{Disk, DiskFault};
 pub use file_disk::FileDisk;

@@ -1,16 +1,16 @@
 -- Why serving ends as it does.
 use Rattle.std.proofs.Common.{◌≡◌, ◌∙◌, ◌+◌, ◌*◌, ◌<◌, ◌≤◌, ℕ, zero, suc, List, Result, Ok, Err, Option, Some, inl, inr, refl, sym, ap, subst, arith}
-use Rattle.nq_ending.specs.declared.Ending.{Ending}
-use Rattle.nq_ending.specs.declared.Halt.{Halt}
+use Rattle.nq_base.specs.declared.ending.ending.Ending.{Ending}
+use Rattle.nq_base.specs.declared.ending.halt.Halt.{Halt}
 use Rattle.nq_hosts.specs.Serving.{Between, EndsBy, Goes, GoesOn, HaltsBy, RanBooted, Runs, StopsEarly, Tells, TellsTurns, Turns, between, turns_line}
 use Rattle.nq_io.specs.Faults.{Rose}
 use Rattle.nq_model.specs.Kept.{Kept}
 use Rattle.nq_model.specs.Profile.{most_taken_by_server}
-use Rattle.nq_node.specs.Clocks.{ClockTold}
-use Rattle.nq_node.specs.Links.{LinkTold}
-use Rattle.nq_node.specs.ServerTurn.{TurnKeep, TurnLink}
-use Rattle.nq_node.specs.declared.Turn.{Turn}
-use Rattle.nq_node.proofs.ServerCounts.{turn_few, turn_keep, turn_link, turn_spent}
+use Rattle.nq_hosts.specs.Clocks.{ClockTold}
+use Rattle.nq_hosts.specs.Links.{LinkTold}
+use Rattle.nq_hosts.specs.ServerTurn.{TurnKeep, TurnLink}
+use Rattle.nq_hosts.specs.declared.node.turns.Turn.{Turn}
+use Rattle.nq_hosts.proofs.ServerCounts.{turn_few, turn_keep, turn_link, turn_spent}
 
 -- ---- telling
 

@@ -1,9 +1,9 @@
 -- What a stop leaves of two parts of serving, of which one stands behind the other.
 use Rattle.std.proofs.Common.{◌≡◌, ◌⊎◌, ℕ, Option, Some, inl, inr}
-use Rattle.nq_hosts.specs.Leaving.{IsBeforeEnd, IsLeftByBoot}
+use Rattle.nq_hosts.specs.ServerLeaving.{IsBeforeEnd, IsLeftByBoot}
 use Rattle.nq_model.specs.Kept.{Kept}
 use Rattle.nq_model.specs.ServerStep.{booted}
-use Rattle.nq_node.specs.Leaving.{LeavesOnly}
+use Rattle.nq_hosts.specs.Leaving.{LeavesOnly}
 
 -- behind a boot
 pub by_boot : {K : Type 0} (leaves : K → K → Option Kept → Type 0) (longest : ℕ) (kept : Kept) (found : Option Kept) (keeper middle : K) (Later : Type 0)

@@ -1,182 +1,176 @@
--- What a stop within the boot and the turns of a server leaves.
-use Rattle.std.proofs.Common.{◌≡◌, ◌⊎◌, ◌<◌, ℕ, zero, suc, Option, Some, None, Result, Ok, Err, inl, inr, refl, sym, subst}
-use Rattle.std.specs.Option.{ForSome}
-use Rattle.nq_boot.specs.Booting.{LeavesThen}
-use Rattle.nq_ending.specs.declared.Halt.{Halt}
-use Rattle.nq_hosts.specs.Leaving.{AreInOrder, IsLeftGoing, IsLeftInGoes, IsLeftInTurns, IsLeftStopping, LeavesTaking, LeavesTurns, LeavesRunning, LeavesRuns, ended_of}
-use Rattle.nq_hosts.specs.Serving.{Between, Booted, Goes, GoesOn, NoBoot, between, halt_of}
+-- What a stop within the stages of a server's turn leaves.
+use Rattle.std.proofs.Common.{◌≡◌, ◌<◌, if◌then◌else◌, arith, ◌⊎◌, ◌∙◌, ℕ, Bool, true, Option, Some, None, Result, Ok, Err, nat_lt, inl, inr, refl, sym, subst}
+use Rattle.std.proofs.lemmas.Bool.Decides.{nat_tests}
+use Rattle.nq_base.specs.Entries.{EntryList}
 use Rattle.nq_model.specs.Kept.{Kept}
-use Rattle.nq_model.specs.ServerStep.{boot, booted}
-use Rattle.nq_node.proofs.Leaves.{Tells, turn_tells}
-use Rattle.nq_node.specs.Clocks.{ClockTold}
-use Rattle.nq_node.specs.Leaving.{LeavesOnly, LeavesTurn}
-use Rattle.nq_node.specs.Links.{LinkTold}
-use Rattle.nq_node.specs.declared.Turn.{Turn}
-use Rattle.nq_server.specs.Holding.{Boots, Holding, keeper_in}
-use Rattle.nq_server.specs.declared.server.BootFault.{BootFault}
-use Rattle.nq_hosts.proofs.Joining.{besides, by_boot, further, gone, join}
-use Rattle.nq_hosts.proofs.Runs.{none}
+use Rattle.nq_hosts.specs.Clocks.{ClockTold, ReadsOnce}
+use Rattle.nq_hosts.specs.Leaving.{IsLeftAt, IsLeftBehind, LeavesOnly, LeavesReceiving, LeavesBehind, LeavesStages}
+use Rattle.nq_hosts.specs.Links.{Letter, LinkTold}
+use Rattle.nq_hosts.specs.ServerTurn.{Given, ticks, datagram, GoesOn, Moment, Receives, Sends, ServesTurn, Stages, Takes, TakesFrom, given_by, given_of, goes_on, step_on, taken, tick_due, turn_of}
+use Rattle.nq_hosts.specs.declared.node.turns.Halt.{Halt}
+use Rattle.nq_hosts.specs.declared.node.turns.Turn.{Turn}
+use Rattle.nq_hosts.proofs.ServerTurns.{not_link}
+use Rattle.nq_server.specs.Holding.{Holding, IsTaken}
+use Rattle.nq_server.specs.Stepping.{LeavesStep}
+use Rattle.nq_server.specs.declared.Received.{Received}
+
+-- a keeper that tells what it keeps
+abbrev pub Tells : Option Kept → Type 0
+Tells told = (kept : Kept) × (told ≡ Some kept)
 
 module _ {K : Type 0} (content : K → Option Kept) (faults : K → ℕ) where
-  goes-tells : (at after : Between K) → GoesOn content faults at after → (kept : Kept) → content at.server.keeper ≡ Some kept
+  step-tells : (given : Given) (how : Received) (at after : Moment K) → goes_on how ≡ Ok tt
+      → IsTaken (step_on given at) how (content at.server.keeper) (content after.server.keeper) (faults at.server.keeper)
+      (faults after.server.keeper) at.server after.server at.out after.out at.log after.log
+      → (kept : Kept) → content at.server.keeper ≡ Some kept → Tells (content after.server.keeper)
+  step-tells given Received.Done at after so t kept told = ((step_on given at kept).server.kept, (t.0 kept told).makes.keeps)
+  step-tells given (Received.Dropped reason) at after so t kept told = ((step_on given at kept).server.kept, (t.0 kept told).makes.keeps)
+  step-tells given Received.Fault at after so t kept told = absurd (cc)
+  step-tells given Received.Memory at after so t kept told = absurd (cc)
+  step-tells given Received.Spent at after so t kept told = absurd (cc)
+
+  -- a keeper tells after a step that did not stop the turn
+  taken-tells : (given : Option Given) (at after : Moment K) → Takes content faults given (Ok tt) at after
+      → (kept : Kept) → content at.server.keeper ≡ Some kept → Tells (content after.server.keeper)
+  taken-tells None at after t kept told = subst (λ m. Tells (content m.server.keeper)) (sym t.1) (kept, told)
+  taken-tells (Some given) at after t kept told = step-tells given t.how at after (sym t.so) t.takes kept told
+
+  received-tells : (received : Result Bool Halt) (moved : Bool) (ticked : Bool) (link link' last : LinkTold) (at after : Moment K)
+      → Receives content faults received link link' at after → Sends received (Ok moved) ticked link' last after
+      → (kept : Kept) → content at.server.keeper ≡ Some kept → Tells (content after.server.keeper)
+  received-tells (Ok some) moved ticked link link' last at after r s kept told = taken-tells (given_of r.0) at after r.2.takes kept told
+  received-tells (Err why) moved ticked link link' last at after r s kept told = let same = s.0 in absurd (cc)
+
+  behind-tells : (goes : Result Unit Halt) (moved : Bool) (ticked : Bool) (link link' : LinkTold) (at after : Moment K)
+      → GoesOn content faults goes (Ok moved) ticked link link' at after → (given : Option Given) (first : Moment K) → Takes content faults given goes first at
+      → (kept : Kept) → content first.server.keeper ≡ Some kept → Tells (content after.server.keeper)
+  behind-tells (Ok tt) moved ticked link link' at after rest given first t kept told =
+      let between = taken-tells given first at t kept told in
+      received-tells rest.0 moved ticked link rest.1 link' at after rest.2 rest.3 between.0 between.1
+  behind-tells (Err why) moved ticked link link' at after rest given first t kept told = let same = rest.0 in absurd (cc)
+
+  stages-tell : (ended : Result Bool Halt) (moved : Bool) → ended ≡ Ok moved → (clock clock' : ClockTold) (link link' : LinkTold) (at after : Moment K)
+      → Stages content faults ended clock clock' link link' at after → (kept : Kept) → content at.server.keeper ≡ Some kept
       → Tells (content after.server.keeper)
-  goes-tells at after (inl t) kept told =
-      turn_tells content faults Turn.Took
-      (inl refl) at.next after.next at.clock after.clock at.link after.link at.server after.server at.log after.log t kept told
-  goes-tells at after (inr t) kept told =
-      turn_tells content faults Turn.Quiet
-      (inr refl) at.next after.next at.clock after.clock at.link after.link at.server after.server at.log after.log t kept told
+  stages-tell (Ok moved) is same clock clock' link link' at after s kept told =
+      behind-tells s.goes moved (nat_lt at.server.beside.time s.reading) link link' s.between after s.rest
+      (tick_due at.server.beside.time s.reading) at s.ticks kept told
+  stages-tell (Err why) is same clock clock' link link' at after s kept told = absurd (cc)
 
--- so many turns that did not stop, what a stop within them leaves, and that the keeper tells after them what it keeps
-pub record GoneOn {K : Type 0} (content : K → Option Kept) (faults : K → ℕ) (follows : K → K → Type 0) (leaves : K → K → Option Kept
-    → Type 0) (count : ℕ) (at after : Between K) : Type 0 where
-  pub goes : Goes content faults count at after
-  pub only : LeavesOnly content follows leaves at.server.keeper after.server.keeper (IsLeftInGoes content faults count at after goes)
-  pub order : ForSome (content at.server.keeper) (λ kept. AreInOrder content faults follows leaves after.server.keeper (λ found. ⊥) count at after goes)
-  pub tells : ForSome (content at.server.keeper) (λ kept. Tells (content after.server.keeper))
+  neither : (turn other : Turn) → turn ≡ other → (turn ≡ Turn.Took) ⊎ (turn ≡ Turn.Quiet) → (other ≡ Turn.Took → ⊥) → (other ≡ Turn.Quiet → ⊥) → ⊥
+  neither turn other same (inl took) not_took not_quiet = not_took (sym same ∙ took)
+  neither turn other same (inr quiet) not_took not_quiet = not_quiet (sym same ∙ quiet)
 
-module _ {K : Type 0} (content : K → Option Kept) (faults : K → ℕ) (follows : K → K → Type 0) (leaves : K → K → Option Kept → Type 0) where
-  -- one turn
-  pub taking : (turn : Turn) (at after : Between K)
-      → LeavesTurn content faults follows leaves turn at.next after.next at.clock after.clock at.link after.link at.server after.server at.log after.log
-      → LeavesTaking content faults follows leaves (ended_of turn) at after
-  taking Turn.Took at after t = record { taken = inl t.taken; only = t.left }
-  taking Turn.Quiet at after t = record { taken = inr t.taken; only = t.left }
-  taking Turn.Link at after t = record { taken = t.taken; only = t.left }
-  taking Turn.Keep at after t = record { taken = t.taken; only = t.left }
-  taking Turn.Memory at after t = record { taken = t.taken; only = t.left }
-  taking Turn.Spent at after t = record { taken = t.taken; only = t.left }
+  moved-of : (turn : Turn) → (turn ≡ Turn.Took) ⊎ (turn ≡ Turn.Quiet) → (ended : Result Bool Halt) → turn ≡ turn_of ended → (moved : Bool) × (ended ≡ Ok moved)
+  moved-of turn one (Ok moved) same = (moved, refl)
+  moved-of turn one (Err Halt.Link) same = absurd (neither turn Turn.Link same one (λ e. cc) (λ e. cc))
+  moved-of turn one (Err Halt.Keep) same = absurd (neither turn Turn.Keep same one (λ e. cc) (λ e. cc))
+  moved-of turn one (Err Halt.Memory) same = absurd (neither turn Turn.Memory same one (λ e. cc) (λ e. cc))
+  moved-of turn one (Err Halt.Spent) same = absurd (neither turn Turn.Spent same one (λ e. cc) (λ e. cc))
 
-  pub gone_none : (at : Between K) → follows at.server.keeper at.server.keeper → GoneOn content faults follows leaves zero at at
-  gone_none at itself = record {
-    goes = refl;
-    only = λ kept told first found before l. inl l;
-    order = λ kept told. record { same = itself; later = λ first found before l. inl l };
-    tells = λ kept told. (kept, told);
-  }
-
-  pub gone_all : (count turns : ℕ) (at after : Between K) → count ≡ turns → GoneOn content faults follows leaves count at after
-      → LeavesTurns content faults follows leaves turns (Ok tt) at after
-  gone_all count turns at after same g =
-      subst (λ n. LeavesTurns content faults follows leaves n (Ok tt) at after) same (record { taken = g.goes; only = g.only; order = g.order })
-
-  -- ---- the boot
-
-  -- where a server booted
-  pub leaves_booted : (longest turns time : ℕ) (keeper : K) (ended : Result Unit Halt) (left : K) (clock clock' : ClockTold) (link link' : LinkTold)
-      (server : Holding K)
-      → Booted content faults follows longest time keeper server
-      → LeavesThen (λ kept. booted kept longest) (content keeper) (leaves keeper server.keeper)
-      → LeavesRunning content faults follows leaves turns server ended left clock clock' link link'
-      → LeavesRuns content faults follows leaves longest turns time keeper ended left clock clock' link link'
-  leaves_booted longest turns time keeper (Ok done) left clock clock' link link' server b boots r = record {
-    runs = record { server = server; booted = b; ran = r.ran };
-    only =
-        λ kept told found l.
-        by_boot leaves longest kept found keeper server.keeper (IsLeftInTurns content faults turns (Ok done)
-        (between server r.ran.log 0 clock link) r.ran.last r.ran.taken found)
-        (boots kept told) (r.only (boot kept longest time None).kept (b.0 kept told).1.keeps keeper found b.2 l);
-    order = λ kept told. r.order (boot kept longest time None).kept (b.0 kept told).1.keeps;
-  }
-  leaves_booted longest turns time keeper (Err why) left clock clock' link link' server b boots r = record {
-    runs = inl (record { server = server; booted = b; ran = r.ran });
-    only =
-        λ kept told found l.
-        by_boot leaves longest kept found keeper server.keeper (IsLeftInTurns content faults turns (Err why)
-        (between server r.ran.log 0 clock link) r.ran.last r.ran.taken found)
-        (boots kept told) (r.only (boot kept longest time None).kept (b.0 kept told).1.keeps keeper found b.2 l);
-    order = λ kept told. r.order (boot kept longest time None).kept (b.0 kept told).1.keeps;
-  }
-
-  pub ran_booted : (longest turns time : ℕ) (keeper : K) (ended : Result Unit Halt) (left : K) (clock clock' : ClockTold) (link link' : LinkTold)
-      (server : Holding K)
-      (result : Result (Holding K) (BootFault K)) → result ≡ Ok server
-      → Boots longest time result (content keeper) (content (keeper_in result)) (faults keeper) (faults (keeper_in result)) → follows keeper (keeper_in result)
-      → LeavesThen (λ kept. booted kept longest) (content keeper) (leaves keeper (keeper_in result))
-      → LeavesRunning content faults follows leaves turns server ended left clock clock' link link'
-      → LeavesRuns content faults follows leaves longest turns time keeper ended left clock clock' link link'
-  ran_booted longest turns time keeper ended left clock clock' link link' server result is boots same stops took =
-      let b = subst (λ r. Boots longest time r (content keeper) (content (keeper_in r)) (faults keeper) (faults (keeper_in r))) is boots in
-      leaves_booted longest turns time keeper ended left clock clock' link link' server (b.0, b.1, subst (λ r. follows keeper (keeper_in r)) is same)
-      (subst (λ r. LeavesThen (λ kept. booted kept longest) (content keeper) (leaves keeper (keeper_in r))) is stops) took
-
-  -- where none booted, the keeper is left, and no turn was taken
-  not-booted : (longest turns time : ℕ) (keeper : K) (why : Halt) (left : K) (clock : ClockTold) (link : LinkTold)
-      → NoBoot content faults keeper left why → follows keeper left
-      → LeavesThen (λ kept. booted kept longest) (content keeper) (leaves keeper left)
-      → LeavesRuns content faults follows leaves longest turns time keeper (Err why) left clock clock link link
-  not-booted longest turns time keeper why left clock link lacks same stops = record {
-    runs = inr (record { none = lacks; same = same; clocks = refl; links = refl });
-    only = λ kept told found l. stops kept told found l;
-    order = λ kept told. tt;
-  }
-
-  pub ran_none : (longest turns time : ℕ) (keeper : K) (ended : Result Unit Halt) (left : K) (clock : ClockTold) (link : LinkTold) (why : BootFault K)
-      (result : Result (Holding K) (BootFault K)) → result ≡ Err why
-      → Boots longest time result (content keeper) (content (keeper_in result)) (faults keeper) (faults (keeper_in result)) → follows keeper (keeper_in result)
-      → LeavesThen (λ kept. booted kept longest) (content keeper) (leaves keeper (keeper_in result))
-      → ended ≡ Err (halt_of why) → left ≡ keeper_in (Err why)
-      → LeavesRuns content faults follows leaves longest turns time keeper ended left clock clock link link
-  ran_none longest turns time keeper ended left clock link why result is boots same stops halts is_left =
-      let b = subst (λ r. Boots longest time r (content keeper) (content (keeper_in r)) (faults keeper) (faults (keeper_in r))) is boots in
-      subst (λ e. LeavesRuns content faults follows leaves longest turns time keeper e left clock clock link link) (sym halts)
-      (subst (λ k. LeavesRuns content faults follows leaves longest turns time keeper (Err (halt_of why)) k clock clock link link) (sym is_left)
-      (not-booted longest turns time keeper (halt_of why) (keeper_in (Err why)) clock link (none content faults longest time keeper why b)
-      (subst (λ r. follows keeper (keeper_in r)) is same)
-      (subst (λ r. LeavesThen (λ kept. booted kept longest) (content keeper) (leaves keeper (keeper_in r))) is stops)))
+  -- a keeper that told before a turn that went on tells after it
+  pub turn_tells : (turn : Turn) → (turn ≡ Turn.Took) ⊎ (turn ≡ Turn.Quiet) → (next next' : ℕ) (clock clock' : ClockTold) (link link' : LinkTold)
+      (server server' : Holding K) (log log' : EntryList) → ServesTurn content faults turn next next' clock clock' link link' server server' log log'
+      → (kept : Kept) → content server.keeper ≡ Some kept → Tells (content server'.keeper)
+  turn_tells turn one next next' clock clock' link link' server server' log log' t kept told =
+      let so = moved-of turn one t.ended t.answer in
+      stages-tell t.ended so.0 so.1 clock clock' link link' (record { server = server; out = t.out; log = log })
+      (record { server = server'; out = t.out'; log = log' }) t.stages
+      kept told
 
 module _ {K : Type 0} (content : K → Option Kept) (faults : K → ℕ) (follows : K → K → Type 0) (leaves : K → K → Option Kept → Type 0)
-    (itself : (keeper : K) → follows keeper keeper)
-    (on : (first second third : K) → follows first second → follows second third → follows first third) where
-  all-further : (count : ℕ) (at after : Between K) (goes : Goes content faults count at after) (last next : K) (Later New Then : Option Kept → Type 0)
-      → follows last next → ((first : K) (found : Option Kept) → follows first last → leaves first next found → leaves first last found ⊎ New found)
-      → ((found : Option Kept) → New found ⊎ Later found → Then found) → AreInOrder content faults follows leaves last Later count at after goes
-      → AreInOrder content faults follows leaves next Then count at after goes
-  all-further zero at after goes last next Later New Then same new or m = further follows leaves on after.server.keeper last next Later New Then same new or m
-  all-further (suc count) at after goes last next Later New Then same new or m = (
-    further follows leaves on after.server.keeper last next Later New Then same new or m.0,
-    all-further count at goes.0 goes.1 last next (λ found. IsLeftGoing content faults goes.0 after goes.2 found ⊎ Later found) New
-        (λ found. IsLeftGoing content faults goes.0 after goes.2 found ⊎ Then found) same new
-        (besides (IsLeftGoing content faults goes.0 after goes.2) Later New Then or) m.1,
-  )
+    (on : (first second third : K) → follows first second → follows second third → follows first third)
+    (parts : (first middle last : K)
+    (found : Option Kept) → follows first middle → follows middle last → leaves first last found → leaves first middle found ⊎ leaves middle last found) where
+  -- one step leaves what was kept before it or after it
+  pub step_leaves : (given : Given) (at after : Moment K) → follows at.server.keeper after.server.keeper
+      → LeavesStep (step_on given at) (content at.server.keeper) (leaves at.server.keeper after.server.keeper)
+      → LeavesOnly content follows leaves at.server.keeper after.server.keeper (IsLeftAt content (Some given) at)
+  step_leaves given at after same step kept told first found before left = split (parts first at.server.keeper after.server.keeper found before same left)
+    where
+      one : (found ≡ Some kept) ⊎ (found ≡ Some (step_on given at kept).server.kept) → IsLeftAt content (Some given) at found
+      one (inl e) = inl (e ∙ sym told)
+      one (inr e) = inr (kept, told, e)
 
-  pub gone_on : (count : ℕ) (at middle after : Between K) → follows at.server.keeper middle.server.keeper → follows middle.server.keeper after.server.keeper
-      → GoneOn content faults follows leaves count at middle → LeavesTaking content faults follows leaves (Ok tt) middle after
-      → GoneOn content faults follows leaves (suc count) at after
-  gone_on count at middle after same next g t = record {
-    goes = (middle, g.goes, t.taken);
-    only =
-        λ kept told first found before l.
-        let tells = g.tells kept told in
-        join content follows leaves at.server.keeper middle.server.keeper (IsLeftInGoes content faults count at middle g.goes)
-        (IsLeftGoing content faults middle after t.taken) g.only kept told first
-        found before (t.only tells.0 tells.1 first found (on first at.server.keeper middle.server.keeper before same) l);
-    order =
-        λ kept told.
-        let tells = g.tells kept told in (
-          record { same = itself after.server.keeper; later = λ first found before l. inl l },
-          all-further count at middle g.goes middle.server.keeper after.server.keeper (λ found. ⊥) (IsLeftGoing content faults middle after t.taken)
-              (λ found. IsLeftGoing content faults middle after t.taken found ⊎ ⊥) next (t.only tells.0 tells.1) (λ found or. or) (g.order kept told),
-        );
-    tells = λ kept told. let tells = g.tells kept told in goes-tells content faults middle after t.taken tells.0 tells.1;
-  }
+      split : leaves first at.server.keeper found ⊎ leaves at.server.keeper after.server.keeper found
+          → leaves first at.server.keeper found ⊎ IsLeftAt content (Some given) at found
+      split (inl earlier) = inl earlier
+      split (inr here) = inr (one (step kept told found here))
 
-  pub gone_stopped : (count turns : ℕ) (why : Halt) (at middle after : Between K) → count < turns → follows at.server.keeper middle.server.keeper
-      → follows middle.server.keeper after.server.keeper
-      → GoneOn content faults follows leaves count at middle → LeavesTaking content faults follows leaves (Err why) middle after
-      → LeavesTurns content faults follows leaves turns (Err why) at after
-  gone_stopped count turns why at middle after fewer same next g t = record {
-    taken = record { count = count; fewer = fewer; between = middle; before = g.goes; last = t.taken };
-    only =
-        λ kept told first found before l.
-        let tells = g.tells kept told in
-        join content follows leaves at.server.keeper middle.server.keeper (IsLeftInGoes content faults count at middle g.goes)
-        (IsLeftStopping content faults why middle after t.taken) g.only kept told
-        first found before (t.only tells.0 tells.1 first found (on first at.server.keeper middle.server.keeper before same) l);
-    order =
-        λ kept told.
-        let tells = g.tells kept told in
-        all-further count at middle g.goes middle.server.keeper after.server.keeper (λ found. ⊥) (IsLeftStopping content faults why middle after t.taken)
-        (IsLeftStopping content faults why middle after t.taken) next (t.only tells.0 tells.1)
-        (gone (IsLeftStopping content faults why middle after t.taken)) (g.order kept told);
+  due : (time reading : ℕ) → time < reading → nat_lt time reading ≡ true
+  due time reading above = grind (arith, nat_tests)
+
+  -- the same of a tick that is due
+  pub tick_leaves : (reading : ℕ) (at after : Moment K) → at.server.beside.time < reading → follows at.server.keeper after.server.keeper
+      → LeavesStep (step_on (ticks reading) at) (content at.server.keeper) (leaves at.server.keeper after.server.keeper)
+      → LeavesOnly content follows leaves at.server.keeper after.server.keeper (IsLeftAt content (tick_due at.server.beside.time reading) at)
+  tick_leaves reading at after above same step =
+      subst (λ b. LeavesOnly content follows leaves at.server.keeper after.server.keeper (IsLeftAt content (if b then Some (ticks reading) else None) at))
+      (sym (due at.server.beside.time reading above)) (step_leaves (ticks reading) at after same step)
+
+  -- where nothing was taken in, nothing else is left
+  pub still_leaves : (received : Result Bool Halt) (link link' : LinkTold) (at : Moment K) → Receives content faults received link link' at at
+      → LeavesReceiving content faults follows leaves received link link' at at
+  still_leaves received link link' at r = record { receives = r; left = λ kept told first found before left. inl left }
+
+  -- a datagram came, and was taken in or refused
+  pub came_leaves : (made : Result Unit Halt) (letter : Letter) (link link' : LinkTold) (at after : Moment K)
+      → TakesFrom content faults (Some letter) made link link' at after
+      → LeavesOnly content follows leaves at.server.keeper after.server.keeper (IsLeftAt content (given_by letter) at)
+      → LeavesReceiving content faults follows leaves (taken made) link link' at after
+  came_leaves (Ok tt) letter link link' at after from left = record { receives = (Some letter, refl, from); left = left }
+  came_leaves (Err Halt.Link) letter link link' at after from left = absurd (not_link content faults (given_by letter) at after from.takes)
+  came_leaves (Err Halt.Keep) letter link link' at after from left = record { receives = (Some letter, from); left = left }
+  came_leaves (Err Halt.Memory) letter link link' at after from left = record { receives = (Some letter, from); left = left }
+  came_leaves (Err Halt.Spent) letter link link' at after from left = record { receives = (Some letter, from); left = left }
+
+  -- the turn stopped at its tick
+  pub stopped_leaves : (why : Halt) (reading : ℕ) (clock clock' : ClockTold) (link : LinkTold) (at after : Moment K)
+      → ReadsOnce reading clock clock' → Takes content faults (tick_due at.server.beside.time reading) (Err why) at after
+      → LeavesOnly content follows leaves at.server.keeper after.server.keeper (IsLeftAt content (tick_due at.server.beside.time reading) at)
+      → LeavesStages content faults follows leaves (Err why) clock clock' link link at after
+  stopped_leaves why reading clock clock' link at after read takes left = record {
+    stages = record { reading = reading; read = read; goes = Err why; between = after; ticks = takes; rest = (refl, refl, refl) };
+    left = λ kept told first found before l. only (leaves first at.server.keeper found) (IsLeftAt content
+        (tick_due at.server.beside.time reading) at found) (left kept told first found before l);
   }
+    where
+      only : (L I : Type 0) → L ⊎ I → L ⊎ (I ⊎ ⊥)
+      only L I (inl earlier) = inl earlier
+      only L I (inr here) = inr (inl here)
+
+  -- the turn went on after its tick
+  pub went_on_leaves : (ended : Result Bool Halt) (ticked : Bool) (reading : ℕ) (clock clock' : ClockTold) (link link' : LinkTold)
+      (at between after : Moment K)
+      → ReadsOnce reading clock clock' → Takes content faults (tick_due at.server.beside.time reading) (Ok tt) at between
+      → ticked ≡ nat_lt at.server.beside.time reading
+      → LeavesOnly content follows leaves at.server.keeper between.server.keeper (IsLeftAt content (tick_due at.server.beside.time reading) at)
+      → follows at.server.keeper between.server.keeper
+      → LeavesBehind content faults follows leaves (Ok tt) ended ticked link link' between after
+      → LeavesStages content faults follows leaves ended clock clock' link link' at after
+  went_on_leaves ended ticked reading clock clock' link link' at between after read takes is tick same rest =
+      joined (subst (λ t. LeavesBehind content faults follows leaves (Ok tt) ended t link link' between after) is rest)
+    where
+      earlier : (first : K) (found : Option Kept) (Behind : Type 0)
+          → leaves first at.server.keeper found ⊎ IsLeftAt content (tick_due at.server.beside.time reading) at found
+          → leaves first at.server.keeper found ⊎ (IsLeftAt content (tick_due at.server.beside.time reading) at found ⊎ Behind)
+      earlier first found Behind (inl l) = inl l
+      earlier first found Behind (inr here) = inr (inl here)
+
+      split : (kept : Kept) → content at.server.keeper ≡ Some kept → (first : K) (found : Option Kept) (Behind : Type 0) → follows first at.server.keeper
+          → leaves first between.server.keeper found ⊎ Behind
+          → leaves first at.server.keeper found ⊎ (IsLeftAt content (tick_due at.server.beside.time reading) at found ⊎ Behind)
+      split kept told first found Behind before (inl l) = earlier first found Behind (tick kept told first found before l)
+      split kept told first found Behind before (inr behind) = inr (inr behind)
+
+      joined : LeavesBehind content faults follows leaves (Ok tt) ended (nat_lt at.server.beside.time reading) link link' between after
+          → LeavesStages content faults follows leaves ended clock clock' link link' at after
+      joined b = record {
+        stages = record { reading = reading; read = read; goes = Ok tt; between = between; ticks = takes; rest = b.rest };
+        left =
+            λ kept told first found before l.
+            let tells = taken-tells content faults (tick_due at.server.beside.time reading) at between takes kept told in
+            split kept told first found (IsLeftBehind content faults (Ok tt) ended
+            (nat_lt at.server.beside.time reading) link link' between after b.rest found) before
+            (b.left tells.0 tells.1 first found (on first at.server.keeper between.server.keeper before same) l);
+      }

@@ -4,8 +4,8 @@ use Rattle.std.specs.Fmt.{decimal}
 use Rattle.std.specs.Option.{ForSome}
 use Rattle.std.specs.Prelude.{◌≡◌, ◌⊎◌, ⊤, ◌<◌, ℕ, zero, suc, List, [], ◌++◌, Option, None, Result, Ok, Err, codes}
 use Rattle.nq_boot.specs.Booting.{last_boot}
-use Rattle.nq_ending.specs.declared.Ending.{Ending}
-use Rattle.nq_ending.specs.declared.Halt.{Halt}
+use Rattle.nq_base.specs.declared.ending.ending.Ending.{Ending}
+use Rattle.nq_base.specs.declared.ending.halt.Halt.{Halt}
 use Rattle.nq_io.specs.Faults.{Rose}
 use Rattle.nq_io.specs.Sink.{AppendsFront}
 use Rattle.nq_io.specs.Told.{with_end}
@@ -13,10 +13,10 @@ use Rattle.nq_base.specs.Entries.{EntryList}
 use Rattle.nq_keeper.specs.Keeping.{StaysOrEnds}
 use Rattle.nq_model.specs.Kept.{Kept}
 use Rattle.nq_model.specs.ServerStep.{boot}
-use Rattle.nq_node.specs.Clocks.{ClockTold, ReadsOnce}
-use Rattle.nq_node.specs.Links.{LinkTold}
-use Rattle.nq_node.specs.ServerTurn.{ServesTurn}
-use Rattle.nq_node.specs.declared.Turn.{Turn}
+use Rattle.nq_hosts.specs.Clocks.{ClockTold, ReadsOnce}
+use Rattle.nq_hosts.specs.Links.{LinkTold}
+use Rattle.nq_hosts.specs.ServerTurn.{ServesTurn}
+use Rattle.nq_hosts.specs.declared.node.turns.Turn.{Turn}
 use Rattle.nq_server.specs.Holding.{Holding, IsServer}
 use Rattle.nq_server.specs.declared.server.BootFault.{BootFault}
 use Rattle.nq_server.specs.declared.server.BootFault.TheVariants as fault

@@ -3,7 +3,7 @@
 use Rattle.std.proofs.Common.{◌≡◌, Bool, true, false, Option, Some, None, is_some, refl, ap}
 use Rattle.walk_steps.proofs.ClientFacts.{Alone}
 use Rattle.walk_steps.proofs.Worlds.{run-holds}
-use Rattle.nq_promises.specs.CachedReadsAreAtOnce.{CachedAtOnceInEveryRun}
+use Rattle.nq_model.specs.CachedReadsAreAtOnce.{CachedAtOnceInEveryRun}
 use Rattle.nq_model.proofs.CachedReads.{cached-at-once}
 use Rattle.nq_model.specs.Client.{Client, Job, attaching, for_call, renewing, pushing, Ticket}
 use Rattle.nq_model.specs.Settle.{is_for_call, ticket_is_for_call}

@@ -5,27 +5,27 @@ use Rattle.std.specs.Prelude.{slice_get}
 use Rattle.nq_base.specs.declared.Entry.{Entry}
 use Rattle.nq_base.specs.declared.Event.{Event}
 use Rattle.nq_base.specs.declared.Party.{Party}
-use Rattle.law_calls.proofs.OrderedCalls.{ordered-in-every-run, of-their-call-in-every-run}
-use Rattle.law_files.proofs.ChainWorlds.{chain-fits}
-use Rattle.law_files.proofs.ExcusesInRuns.{losses-excused}
-use Rattle.law_calls.proofs.FateLaws.{accounted, waiting, fates}
-use Rattle.law_legal.proofs.HeldLaws.{held-in-every-run}
-use Rattle.law_legal.proofs.ZeroRuns.{untouched}
+use Rattle.law_runs.proofs.OrderedCalls.{ordered-in-every-run, of-their-call-in-every-run}
+use Rattle.law_runs.proofs.ChainWorlds.{chain-fits}
+use Rattle.law_runs.proofs.ExcusesInRuns.{losses-excused}
+use Rattle.law_runs.proofs.FateLaws.{accounted, waiting, fates}
+use Rattle.law_runs.proofs.HeldLaws.{held-in-every-run}
+use Rattle.law_runs.proofs.ZeroRuns.{untouched}
 use Rattle.nq_laws.proofs.CachedReads.{cached-in-every-run}
-use Rattle.nq_promises.specs.Headline.{HeadlineHolds, AtEveryMoment}
+use Rattle.nq_model.specs.Headline.{HeadlineHolds, AtEveryMoment}
 use Rattle.walk_steps.proofs.NoCrash.{bounds-before}
-use Rattle.nq_promises.specs.Bounds.{KeepsBounds}
-use Rattle.law_legal.proofs.LegalLaws.{legal-in-every-run}
+use Rattle.nq_model.specs.Bounds.{KeepsBounds}
+use Rattle.law_runs.proofs.LegalLaws.{legal-in-every-run}
 use Rattle.nq_model.specs.Client.{Client, ClientStep}
 use Rattle.nq_model.specs.Hear.{hear}
 use Rattle.nq_model.specs.Message.{Message, Packet}
 use Rattle.nq_model.specs.Server.{ServerStep}
 use Rattle.nq_model.specs.Skew.{IsWithinSkew}
 use Rattle.nq_model.specs.World.{Head, World, after_server, after_client, at_client, after_hearing, deliver_to_client, deliver_to, deliver, step, run}
-use Rattle.law_legal.proofs.ReportedRuns.{reported-in-every-run}
+use Rattle.law_runs.proofs.ReportedRuns.{reported-in-every-run}
 use Rattle.walk_steps.proofs.Clocks.{within-before}
-use Rattle.law_legal.proofs.OkDeeds.{deeds-in-every-run}
-use Rattle.law_legal.proofs.Standings.{synchronized-in-every-run, answers-in-every-run, busy-in-every-run}
+use Rattle.law_runs.proofs.OkDeeds.{deeds-in-every-run}
+use Rattle.law_runs.proofs.Standings.{synchronized-in-every-run, answers-in-every-run, busy-in-every-run}
 
 headline : (most : ℕ) (head : Head) (events : List Event) → KeepsBounds most head events → IsWithinSkew head.hosts most events → HeadlineHolds (run head events)
 headline most head events bounds within =

@@ -1,2 +1,5 @@
-pub mod LawsAreMet
 pub mod CachedReadsMet
+pub mod LawsAreMet
+pub mod TornHeadline
+pub mod TornMet
+pub mod TornRuns

@@ -1,18 +1,18 @@
 //! The headline.
 
-ghost use Rattle.nq_promises.specs.AnswersAreOfTheirCalls.{AnswersAreOfTheirCallsInEveryRun};
-ghost use Rattle.nq_promises.specs.BusyIsSaidAtOnce.{BusyIsSaidAtOnceInEveryRun};
-ghost use Rattle.nq_promises.specs.OksHaveTheirDeeds.{OksHaveTheirDeedsInEveryRun};
-ghost use Rattle.nq_promises.specs.CallsAreOrdered.{OrderedInEveryRun, ReadsAreOfTheirCallInEveryRun};
-ghost use Rattle.nq_promises.specs.LossesAreExcused.{LossesAreExcused};
-ghost use Rattle.nq_promises.specs.WritesAreAccounted.{AccountedInEveryRun, EachHasItsFateInEveryRun, WaitingAreUnsavedInEveryRun};
-ghost use Rattle.nq_promises.specs.BlocksAreHeld.{KeptBlocksAreHeldInEveryRun};
-ghost use Rattle.nq_promises.specs.CachedReadsAreAtOnce.{CachedAtOnceInEveryRun};
-ghost use Rattle.nq_promises.specs.Headline.{AtEveryMoment};
-ghost use Rattle.nq_promises.specs.ReadsAreLegal.{ReadsAreLegalInEveryRun};
-ghost use Rattle.nq_promises.specs.LossesAreReported.{ReportedInEveryRun};
-ghost use Rattle.nq_promises.specs.UntouchedAreZeros.{UntouchedAreZerosInEveryRun};
-ghost use Rattle.nq_promises.specs.OksAreKept.{SynchronizedInEveryRun};
+ghost use Rattle.nq_model.specs.AnswersAreOfTheirCalls.{AnswersAreOfTheirCallsInEveryRun};
+ghost use Rattle.nq_model.specs.BusyIsSaidAtOnce.{BusyIsSaidAtOnceInEveryRun};
+ghost use Rattle.nq_model.specs.OksHaveTheirDeeds.{OksHaveTheirDeedsInEveryRun};
+ghost use Rattle.nq_model.specs.CallsAreOrdered.{OrderedInEveryRun, ReadsAreOfTheirCallInEveryRun};
+ghost use Rattle.nq_model.specs.LossesAreExcused.{LossesAreExcused};
+ghost use Rattle.nq_model.specs.WritesAreAccounted.{AccountedInEveryRun, EachHasItsFateInEveryRun, WaitingAreUnsavedInEveryRun};
+ghost use Rattle.nq_model.specs.BlocksAreHeld.{KeptBlocksAreHeldInEveryRun};
+ghost use Rattle.nq_model.specs.CachedReadsAreAtOnce.{CachedAtOnceInEveryRun};
+ghost use Rattle.nq_model.specs.Headline.{AtEveryMoment};
+ghost use Rattle.nq_model.specs.ReadsAreLegal.{ReadsAreLegalInEveryRun};
+ghost use Rattle.nq_model.specs.LossesAreReported.{ReportedInEveryRun};
+ghost use Rattle.nq_model.specs.UntouchedAreZeros.{UntouchedAreZerosInEveryRun};
+ghost use Rattle.nq_model.specs.OksAreKept.{SynchronizedInEveryRun};
 
 /// For every schedule of calls, losses, repeats, reorderings, ticks within skew, restarts and crashes, the journal keeps each
 /// client's order; each answer is of its call, and the deed of each ok stands before it; every successful read gives the latest standing write before it; missing are only delayed writes of clients

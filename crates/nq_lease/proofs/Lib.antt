@@ -1,6 +1,10 @@
-pub mod Splits
-pub mod Order
-pub mod OfFile
-pub mod Times
+pub mod Fencing
 pub mod Keeping
 pub mod Marking
+pub mod OfFile
+pub mod Order
+pub mod Quiet
+pub mod Splits
+pub mod Telling
+pub mod Times
+pub mod Within

@@ -1,3 +1,5 @@
-pub mod Rows
+pub mod Ending
 pub mod Ends
 pub mod Kept
+pub mod Rows
+pub mod Telling

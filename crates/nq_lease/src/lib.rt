@@ -8,6 +8,9 @@
 
 mod changes;
 mod ends;
+pub mod evict;
+pub mod expire;
+pub mod grant;
 mod rows;
 mod table;
 

@@ -3,9 +3,9 @@ use Rattle.std.proofs.Common.{◌≡◌, ◌⊎◌, ℕ, List, [], map, Option, 
 use Rattle.std.proofs.lemmas.List.{reverse-reverse}
 use Rattle.std.specs.List.{AllByRecursion}
 use Rattle.std.specs.Prelude.{reverse}
-use Rattle.nq_node.specs.Clocks.{ClockTold}
+use Rattle.nq_hosts.specs.Clocks.{ClockTold}
 use Rattle.nq_base.specs.declared.Event.{Event}
-use Rattle.nq_ending.specs.declared.Ending.{Ending}
+use Rattle.nq_base.specs.declared.ending.ending.Ending.{Ending}
 use Rattle.nq_loop.proofs.Playing.{plays-taken}
 use Rattle.nq_loop.proofs.Takings.{now_at}
 use Rattle.nq_loop.specs.Counting.{Counts}
@@ -17,10 +17,10 @@ use Rattle.nq_loop.specs.Whole.{loop_head}
 use Rattle.nq_loop.specs.declared.turns.LoopTurn.{LoopTurn}
 use Rattle.nq_model.specs.Kept.{Kept}
 use Rattle.nq_model.specs.World.{Head as Beginning}
-use Rattle.nq_node.specs.Links.{LinkTold}
-use Rattle.nq_play.proofs.Lawfully.{played-runs-are-lawful}
-use Rattle.nq_play.specs.Delivering.{Marks}
-use Rattle.nq_play.specs.Playing.{beginning}
+use Rattle.nq_hosts.specs.Links.{LinkTold}
+use Rattle.nq_replay.proofs.Lawfully.{played-runs-are-lawful}
+use Rattle.nq_replay.specs.Delivering.{Marks}
+use Rattle.nq_replay.specs.Playing.{beginning}
 use Rattle.nq_replay.proofs.Printings.{bytes_end}
 use Rattle.nq_replay.specs.Ending.{CountsKeeper}
 use Rattle.nq_replay.specs.Schedules.{TellsStop}

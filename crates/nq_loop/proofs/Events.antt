@@ -12,9 +12,9 @@ use Rattle.nq_loop.specs.declared.turns.Halt.{Halt}
 use Rattle.nq_model.specs.Kept.{Kept}
 use Rattle.nq_model.specs.Stepped.{done, stepped}
 use Rattle.nq_model.specs.World.{Head, run}
-use Rattle.nq_node.specs.Links.{LinkTold}
-use Rattle.nq_play.proofs.Limits.{is_reached}
-use Rattle.nq_play.specs.Delivering.{Marks}
+use Rattle.nq_hosts.specs.Links.{LinkTold}
+use Rattle.nq_replay.proofs.Limits.{is_reached}
+use Rattle.nq_replay.specs.Delivering.{Marks}
 use Rattle.nq_world.proofs.Refused.{still-plays}
 use Rattle.nq_world.specs.Playing.{CanCome, CountsFaults, IsAsBefore, Plays, Steps, WorldOver}
 use Rattle.nq_world.specs.declared.stepped.Stepped.{Stepped}

@@ -3,7 +3,7 @@ use Rattle.std.proofs.Common.{◌≡◌, ◌⊎◌, ℕ, zero, suc, Bool, true, 
 use Rattle.std.specs.Prelude.{slice_get, slice_set}
 use Rattle.nq_base.specs.declared.Event.{Event}
 use Rattle.nq_base.specs.declared.Party.{Party}
-use Rattle.nq_ending.specs.declared.Ending.{Ending}
+use Rattle.nq_base.specs.declared.ending.ending.Ending.{Ending}
 use Rattle.nq_io.specs.Faults.{Rose, count_up}
 use Rattle.nq_loop.proofs.Posts.{get-map}
 use Rattle.nq_loop.specs.Looped.{HasRisen, LoopEnds, LoopsUnlessFault, StopsSilently, between}
@@ -16,9 +16,9 @@ use Rattle.nq_loop.specs.declared.turns.Halt.{Halt}
 use Rattle.nq_loop.specs.declared.turns.LoopTurn.{LoopTurn}
 use Rattle.nq_model.specs.World.{Head}
 use Rattle.nq_net.specs.Packets.{Datagram}
-use Rattle.nq_node.specs.Clocks.{ClockTold}
-use Rattle.nq_node.specs.Links.{Letter, LinkTold}
-use Rattle.nq_play.specs.Playing.{beginning}
+use Rattle.nq_hosts.specs.Clocks.{ClockTold}
+use Rattle.nq_hosts.specs.Links.{Letter, LinkTold}
+use Rattle.nq_replay.specs.Playing.{beginning}
 use Rattle.nq_replay.specs.Ending.{CountsKeeper}
 
 -- the counts of faults of links

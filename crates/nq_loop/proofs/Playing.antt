@@ -6,7 +6,7 @@ use Rattle.nq_base.specs.declared.Event.{Event}
 use Rattle.nq_loop.specs.Holding.{AreTaken}
 use Rattle.nq_model.specs.Stepped.{done, most_events, stepped}
 use Rattle.nq_model.specs.World.{Head as Beginning}
-use Rattle.nq_play.specs.Playing.{Ended, answered, at_line, and_then, beginning, play, play_event, play_line, play_lines, repeated, took}
+use Rattle.nq_replay.specs.Playing.{Ended, answered, at_line, and_then, beginning, play, play_event, play_line, play_lines, repeated, took}
 use Rattle.nq_script.specs.Heads.{head_lines}
 use Rattle.nq_script.specs.Lines.{once}
 use Rattle.nq_script.specs.declared.heads.Head.{Head}

@@ -3,7 +3,7 @@
 -- it, and `clock'` and `links'` those after it. The events of a run are told with the newest first.
 use Rattle.std.specs.Prelude.{◌≡◌, ◌⊎◌, ℕ, List, [], Option, Some, map, reverse, slice_get}
 use Rattle.nq_base.specs.declared.Event.{Event}
-use Rattle.nq_ending.specs.declared.Ending.{Ending}
+use Rattle.nq_base.specs.declared.ending.ending.Ending.{Ending}
 use Rattle.nq_io.specs.Faults.{Rose}
 use Rattle.nq_io.specs.Told.{with_end}
 use Rattle.nq_loop.specs.Printed.{PrintsRan, loop_text}
@@ -11,10 +11,10 @@ use Rattle.nq_loop.specs.Turning.{Between, Ran, Stops, TakesTurns}
 use Rattle.nq_loop.specs.Whole.{loop_head}
 use Rattle.nq_loop.specs.declared.turns.LoopTurn.{LoopTurn}
 use Rattle.nq_model.specs.Kept.{Kept}
-use Rattle.nq_node.specs.Clocks.{ClockTold}
-use Rattle.nq_node.specs.Links.{LinkTold}
-use Rattle.nq_play.specs.Lawful.{IsLawful}
-use Rattle.nq_play.specs.Playing.{beginning}
+use Rattle.nq_hosts.specs.Clocks.{ClockTold}
+use Rattle.nq_hosts.specs.Links.{LinkTold}
+use Rattle.nq_replay.specs.Lawful.{IsLawful}
+use Rattle.nq_replay.specs.Playing.{beginning}
 use Rattle.nq_replay.specs.Lines.{PrintsLine, limit_line}
 use Rattle.nq_replay.specs.Replay.{Runs, kept_of}
 use Rattle.nq_replay.specs.Schedules.{bound_of, PrintsBytes}

@@ -2,7 +2,7 @@
 use Rattle.std.specs.Prelude.{◌≡◌, ◌⊎◌, ℕ, ◌<◌, ◌&&◌, Bool, true, false, not, List, Option, Some, None, slice_get}
 use Rattle.nq_base.specs.declared.Event.{Event}
 use Rattle.nq_net.specs.Packets.{Datagram}
-use Rattle.nq_play.specs.Delivering.{was_delivered}
+use Rattle.nq_replay.specs.Delivering.{was_delivered}
 
 -- the least number of which this holds
 pub record IsLeast (P : ℕ → Type 0) (number : ℕ) : Type 0 where

@@ -3,7 +3,7 @@
 use Rattle.std.specs.List.{count_by}
 use Rattle.std.specs.Prelude.{◌≡◌, ◌⊎◌, ℕ, List, ◌++◌, map, reverse, Option}
 use Rattle.nq_base.specs.declared.Event.{Event}
-use Rattle.nq_ending.specs.declared.Ending.{Ending}
+use Rattle.nq_base.specs.declared.ending.ending.Ending.{Ending}
 use Rattle.nq_loop.specs.Counts.{is_answer, is_call, loop_line}
 use Rattle.nq_replay.specs.Replay.{journal_of, journal_printed}
 use Rattle.nq_replay.specs.Schedules.{PrintsBytes}

@@ -4,7 +4,7 @@ ghost use Rattle.std.specs.Prelude.{◌≡◌, ◌↔◌, ◌<◌, ℕ, List, So
 ghost use Rattle.nq_base.specs.declared.Event.{Event};
 ghost use Rattle.nq_loop.specs.Matching.{CountsAs, Equals, is_fresh, least_with};
 ghost use Rattle.nq_net.specs.Packets.{Datagram};
-ghost use Rattle.nq_play.specs.Delivering.{Marks};
+ghost use Rattle.nq_replay.specs.Delivering.{Marks};
 
 use crate::state::LoopState;
 use nq_base::{NoMemory, Party};

@@ -3,14 +3,14 @@
 ghost use Rattle.std.specs.List.{AllByRecursion};
 ghost use Rattle.std.specs.Prelude.{◌≡◌, map, reverse};
 ghost use Rattle.nq_loop.specs.Printed.{PrintsRan};
-ghost use Rattle.nq_play.specs.Playing.{beginning};
+ghost use Rattle.nq_replay.specs.Playing.{beginning};
 ghost use Rattle.nq_script.specs.Heads.{FitsHead};
 ghost use Rattle.nq_script.specs.Lines.{Allows, HasEvent};
 ghost use Rattle.nq_world.specs.Playing.{Plays};
 
 use crate::counts::{answers, calls, count_text};
 use crate::schedules::schedule_text;
-use nq_ending::Ending;
+use nq_base::ending::Ending;
 use nq_io::Sink;
 use nq_keeper::Keeper;
 use nq_replay::print_parts;

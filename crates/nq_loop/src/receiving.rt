@@ -7,7 +7,7 @@ ghost use Rattle.nq_loop.specs.Looping.{Brings, Step, receive_steps};
 ghost use Rattle.nq_loop.specs.Sending.{place_of, told_of};
 ghost use Rattle.nq_loop.specs.Steps.{each_below};
 ghost use Rattle.nq_model.specs.World.{Head};
-ghost use Rattle.nq_node.specs.Links.{most_bytes};
+ghost use Rattle.nq_hosts.specs.Links.{most_bytes};
 
 use crate::giving::give;
 use crate::matching::{Letter, packet_of};
@@ -80,7 +80,7 @@ fn receive_hosts<K: Keeper, L: Link>(
 }
 
 /// Receives once on a party's link, and takes in the datagram that came; answers whether one came.
-#[tactic(auto, unfolding(nq_node::specs::Links::most_bytes))]
+#[tactic(auto, unfolding(nq_hosts::specs::Links::most_bytes))]
 fn receive<K: Keeper, L: Link>(
     alloc: Global,
     world: &mut World<K>,

@@ -2,15 +2,15 @@
 
 ghost use Rattle.std.specs.List.{AllByRecursion};
 ghost use Rattle.std.specs.Prelude.{◌≡◌, ◌≤◌, ◌+◌, [], ℕ, Option, Some, length, map, reverse};
-ghost use Rattle.nq_node.specs.Clocks.{clock_told};
-ghost use Rattle.nq_ending.specs.declared.Ending.{Ending};
+ghost use Rattle.nq_hosts.specs.Clocks.{clock_told};
+ghost use Rattle.nq_base.specs.declared.ending.ending.Ending.{Ending};
 ghost use Rattle.nq_keeper.specs.StoredKeeper.{empty_kept};
 ghost use Rattle.nq_loop.specs.Holding.{IsLooped};
 ghost use Rattle.nq_loop.specs.Looped.{HasEnded, KeepsLoop, LoopEnds, TellsEnd};
 ghost use Rattle.nq_loop.specs.Sending.{told_of};
 ghost use Rattle.nq_loop.specs.Whole.{loop_head};
 ghost use Rattle.nq_loop.specs.declared.turns.LoopTurn.{LoopTurn};
-ghost use Rattle.nq_play.specs.Playing.{beginning};
+ghost use Rattle.nq_replay.specs.Playing.{beginning};
 ghost use Rattle.nq_replay.specs.Ending.{CountsKeeper};
 ghost use Rattle.nq_world.specs.Playing.{HasSettings, Plays};
 
@@ -19,12 +19,12 @@ use crate::schedules::loop_head;
 use crate::state::LoopState;
 use crate::taking::take_turns;
 use crate::turns::LoopTurn;
+use nq_base::ending::Ending;
 use nq_clock::Clock;
-use nq_ending::Ending;
 use nq_io::Sink;
 use nq_keeper::Keeper;
 use nq_link::Link;
-use nq_play::begin;
+use nq_replay::play::begin;
 use nq_replay::{Finished, tell_limit};
 use nq_script::{Head, Schedule};
 use nq_world::{NewFault, World};

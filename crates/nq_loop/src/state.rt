@@ -3,8 +3,8 @@
 ghost use Rattle.std.specs.Prelude.{◌≡◌, ◌<◌, ◌≤◌, ◌+◌, ◌∷◌, [], ℕ, List, length, min, slice_index, slice_index_or, slice_set, true, IfOk, OnOk};
 ghost use Rattle.nq_base.specs.declared.Event.{Event};
 ghost use Rattle.nq_loop.specs.Counting.{Counts, HasCount};
-ghost use Rattle.nq_play.specs.Delivering.{Marks, was_delivered};
-ghost use Rattle.nq_play.specs.Going.{HasFlag};
+ghost use Rattle.nq_replay.specs.Delivering.{Marks, was_delivered};
+ghost use Rattle.nq_replay.specs.Going.{HasFlag};
 
 use nq_base::{Event, Host, NoMemory};
 use std::alloc::Global;

@@ -1,7 +1,7 @@
 //! Turns of a loop.
 
 ghost use Rattle.std.specs.Prelude.{◌≡◌, ◌<◌, ◌≤◌, ◌+◌, ◌-◌, ◌++◌, ℕ, length, min};
-ghost use Rattle.nq_node.specs.Clocks.{clock_told};
+ghost use Rattle.nq_hosts.specs.Clocks.{clock_told};
 ghost use Rattle.nq_loop.specs.Holding.{IsLooping, Keeps, KeepsTurn, Loops, Turns, loop_of};
 ghost use Rattle.nq_loop.specs.Looping.{call_steps, receive_steps, rounds_due, turn_of, turn_steps};
 ghost use Rattle.nq_model.specs.World.{Head};

@@ -2,8 +2,8 @@
 use Rattle.std.proofs.Common.{◌≡◌, ◌-◌, ℕ, Bool, true, false, List, [], ◌∷◌, Option, Some, None, length, refl, sym, ap, ◌∙◌, arith, if◌then◌else◌, suc}
 use Rattle.std.specs.Prelude.{slice_get}
 use Rattle.nq_base.specs.declared.Grant.{Grant}
-use Rattle.nq_client_leases.specs.Takes.{taking, is_broken}
-use Rattle.nq_client_leases.specs.declared.Take.TheVariants.{Same, Broken}
+use Rattle.nq_client_parts.specs.Takes.{taking, is_broken}
+use Rattle.nq_client_parts.specs.declared.holding.taken.Take.TheVariants.{Same, Broken}
 use Rattle.nq_directory.specs.declared.FileName.{FileName}
 use Rattle.nq_model.specs.Client.{Lease}
 use Rattle.nq_model.specs.Hear.{breaks}

@@ -2,8 +2,8 @@
 
 ghost use Rattle.std.specs.Prelude.{◌≡◌, ◌<◌, ◌^◌, ◌&&◌, not, true, Some, option_copied, if◌then◌else◌, IfOk, OnErr};
 ghost use Rattle.nq_directory.specs.Names.{named};
-ghost use Rattle.nq_client_leases.specs.Leases.{passes};
-ghost use Rattle.nq_client_leases.specs.Takes.{is_broken};
+ghost use Rattle.nq_client_parts.specs.HoldingLeases.{passes};
+ghost use Rattle.nq_client_parts.specs.Takes.{is_broken};
 ghost use Rattle.nq_model.specs.Client.{is_live};
 ghost use Rattle.nq_model.specs.Profile.{same_bytes};
 ghost use Rattle.nq_model.specs.Table.{tag_below};
@@ -12,7 +12,7 @@ ghost use Rattle.nq_name_cache.specs.Names.{empty_list, found_as, list_of, other
 
 use crate::found::Found;
 use nq_base::{FileId, Grant, Mode, Name, NoMemory, Tag, Ticks};
-use nq_client_leases::{Held, Take, Taken};
+use nq_client_parts::holding::{Held, Take, Taken};
 use nq_directory::{DirNames, FileName, Prefix};
 use std::alloc::Global;
 use std::marker::Model;
@@ -27,7 +27,7 @@ pub(crate) struct Listed {
 }
 
 impl Model for Listed {
-    ghost use Rattle.nq_client_leases.specs.Leases.{lease_of};
+    ghost use Rattle.nq_client_parts.specs.HoldingLeases.{lease_of};
     ghost use Rattle.nq_name_cache.specs.Names.{DirList};
 
     ghost Value = { DirList };

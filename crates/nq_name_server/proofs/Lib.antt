@@ -1,4 +1,5 @@
+pub mod Holding
+pub mod Inner
+pub mod Replying
 pub mod Running
 pub mod Telling
-pub mod Holding
-pub mod Replying

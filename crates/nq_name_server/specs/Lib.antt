@@ -1,4 +1,8 @@
+pub mod Lasting
+pub mod Outer
+pub mod Outside
+pub mod Sending
 pub mod Served
 pub mod Serving
 pub mod Sound
-pub mod Sending
+pub mod Theorem

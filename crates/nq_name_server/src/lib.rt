@@ -8,6 +8,7 @@
 
 mod notifying;
 mod reading;
+pub mod run;
 mod server;
 
 pub use server::NameServer;

@@ -1,7 +1,7 @@
 //! Requests that change a directory, and notices to those who read it.
 
 ghost use Rattle.std.specs.Prelude.{◌≡◌, ◌<◌, ◌^◌, [], ◌∷◌, ◌++◌, Some, find, is_some, length, IfOk, OnErr, OnOk};
-ghost use Rattle.nq_evict.specs.Telling.{Grows};
+ghost use Rattle.nq_lease.specs.Telling.{Grows};
 ghost use Rattle.nq_listing.specs.Messages.{dir_evicted_bytes};
 ghost use Rattle.nq_base.specs.declared.Access.{Access};
 ghost use Rattle.nq_model.specs.Ask.{ask, conflicts};
@@ -12,7 +12,7 @@ ghost use Rattle.nq_name_server.specs.Serving.{changes_for, holds_up, notice_aft
 use crate::server::NameServer;
 use nq_base::{Access, FileId, Host, NoMemory, Party, Question, Rev, Row, Who};
 use nq_directory::Prefix;
-use nq_grant::conflict;
+use nq_lease::grant::conflict;
 use nq_lease::is_in_the_way;
 use nq_listing::{DirTag, dir_evicted_bytes};
 use nq_wire::Outbox;

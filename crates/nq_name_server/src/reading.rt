@@ -9,7 +9,7 @@ ghost use Rattle.nq_model.specs.Table.{drop_row, find_row};
 ghost use Rattle.nq_wire.specs.Parts.{grant_bytes, optional};
 ghost use Rattle.nq_name_server.specs.Served.{Leaf, most_directories};
 ghost use Rattle.nq_name_server.specs.Serving.{AreReady, entered, for_asker, lists_for, notice_after, notices, number_for, own_again, own_told, reads_dir, replied, warnings};
-ghost use Rattle.nq_evict.specs.Telling.{own_rows};
+ghost use Rattle.nq_lease.specs.Telling.{own_rows};
 
 use crate::notifying::notice_bytes;
 use crate::server::{MOST_DIRECTORIES, NameServer};

@@ -9,10 +9,10 @@ use Rattle.nq_model.specs.Skew.{IsWithinSkew}
 use Rattle.nq_model.specs.SkewBroken.{skew_broken}
 use Rattle.nq_model.specs.Stepped.{Stepped as Answer, done, no_packet, out_of_skew, too_many_events, too_many_packets, most_events, most_sent, stepped, tested, tested_room, tested_skew}
 use Rattle.nq_model.specs.World.{Head, run}
-use Rattle.nq_names_run.specs.declared.NameEvent.{NameEvent}
-use Rattle.nq_names_run.specs.Outer.{Outer, Outside}
-use Rattle.nq_names_run.specs.Outside.{outside_run}
-use Rattle.nq_names_run.proofs.Inner.{runs-inside}
+use Rattle.nq_name_server.specs.declared.run.event.NameEvent.{NameEvent}
+use Rattle.nq_name_server.specs.Outer.{Outer, Outside}
+use Rattle.nq_name_server.specs.Outside.{outside_run}
+use Rattle.nq_name_server.proofs.Inner.{runs-inside}
 use Rattle.nq_world.specs.Answering.{told as answer_of}
 use Rattle.nq_world.specs.declared.Stepped.{Stepped}
 use Rattle.nq_names.proofs.Bounded.{few-run, runs-fine}

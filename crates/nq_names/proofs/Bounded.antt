@@ -17,10 +17,10 @@ use Rattle.nq_name_cache.specs.Asking.{Asks, heard, lists_dir}
 use Rattle.nq_name_cache.specs.Names.{Names}
 use Rattle.nq_name_server.specs.Served.{leaf_behind}
 use Rattle.nq_name_server.specs.Serving.{Serves, ToHost, holds_up, puts_off, reads_dir, vacates}
-use Rattle.nq_names_run.specs.declared.NameEvent.{NameEvent}
-use Rattle.nq_names_run.specs.Outer.{Outer, Outside, outside_start}
-use Rattle.nq_names_run.specs.Outside.{Changes, asks_as, beside, changes_as, delivers, heard_by, held_or, inner, inside, is_changing, lists, outside_run, outside_step, passes, reads_in, renewed, sends, sends_all, sends_from, sends_these, served_as, served_read, served_vacated, serves, takes, to_host, to_server}
-use Rattle.nq_names_run.proofs.Inner.{Core, inner-ran}
+use Rattle.nq_name_server.specs.declared.run.event.NameEvent.{NameEvent}
+use Rattle.nq_name_server.specs.Outer.{Outer, Outside, outside_start}
+use Rattle.nq_name_server.specs.Outside.{Changes, asks_as, beside, changes_as, delivers, heard_by, held_or, inner, inside, is_changing, lists, outside_run, outside_step, passes, reads_in, renewed, sends, sends_all, sends_from, sends_these, served_as, served_read, served_vacated, serves, takes, to_host, to_server}
+use Rattle.nq_name_server.proofs.Inner.{Core, inner-ran}
 use Rattle.nq_names.proofs.Growing.{grows}
 
 at-end : {X : Type 0} (xs : List X) (y : X) (k : ℕ) (x : X) → slice_get (xs ++ y ∷ []) k ≡ Some x → (slice_get xs k ≡ Some x) ⊎ (y ≡ x)

@@ -14,7 +14,7 @@ use Rattle.nq_model.specs.Change.{AreApart, IsFileWithin, IsWithinBounds, file_a
 use Rattle.nq_model.specs.Kept.{File, Kept, find_file}
 use Rattle.nq_model.specs.Profile.{same_bytes}
 use Rattle.nq_name_server.specs.Served.{leaf_behind, name_of, names_behind}
-use Rattle.nq_names_run.specs.Outside.{Changes, changes_of, own_changes}
+use Rattle.nq_name_server.specs.Outside.{Changes, changes_of, own_changes}
 use Rattle.nq_names.specs.Pages.{SoFar, removed_as}
 
 -- ---- the rows that are read

@@ -6,10 +6,10 @@ use Rattle.nq_model.specs.Kept.{Kept, find_name}
 use Rattle.nq_model.specs.World.{Head, World, run}
 use Rattle.nq_name_cache.specs.Names.{Names}
 use Rattle.nq_name_cache.specs.declared.Found.{Found}
-use Rattle.nq_names_run.specs.declared.NameEvent.{NameEvent}
-use Rattle.nq_names_run.specs.Outside.{found, found_by, outside_run}
-use Rattle.nq_names_run.specs.Theorem.{kept_as}
-use Rattle.nq_names_around.proofs.Sending.{there}
+use Rattle.nq_name_server.specs.declared.run.event.NameEvent.{NameEvent}
+use Rattle.nq_name_server.specs.Outside.{found, found_by, outside_run}
+use Rattle.nq_name_server.specs.Theorem.{kept_as}
+use Rattle.nq_names.proofs.Sending.{there}
 use Rattle.nq_names.proofs.Hearing.{client-there}
 use Rattle.nq_names.proofs.Reaching.{reached-sides, reached-world}
 use Rattle.nq_names.specs.Playing.{NamesOver, Reaches}

@@ -7,14 +7,14 @@ use Rattle.nq_directory.specs.Prefix.{IsPrefix}
 use Rattle.nq_model.specs.Kept.{Kept}
 use Rattle.nq_model.specs.Stepped.{done, stepped}
 use Rattle.nq_model.specs.World.{Head, World, run}
-use Rattle.nq_names_run.specs.declared.NameEvent.{NameEvent}
-use Rattle.nq_names_run.specs.Outer.{Outer, Outside}
-use Rattle.nq_names_run.specs.Outside.{delivers, inner, lists, outside_run, outside_step, takes}
+use Rattle.nq_name_server.specs.declared.run.event.NameEvent.{NameEvent}
+use Rattle.nq_name_server.specs.Outer.{Outer, Outside}
+use Rattle.nq_name_server.specs.Outside.{delivers, inner, lists, outside_run, outside_step, takes}
 use Rattle.nq_world.specs.Answering.{IsOfTests}
 use Rattle.nq_world.specs.Playing.{Plays}
 use Rattle.nq_world.specs.declared.Stepped.{Stepped}
-use Rattle.nq_names_around.proofs.Sending.{there}
-use Rattle.nq_names_around.specs.Around.{once_sent, over}
+use Rattle.nq_names.proofs.Sending.{there}
+use Rattle.nq_names.specs.Around.{once_sent, over}
 use Rattle.nq_names.proofs.Agreeing.{NoDelivery, deliver-agrees, deliver-done, deliver-there, inner-agrees, list-done}
 use Rattle.nq_names.proofs.Hearing.{client-there}
 use Rattle.nq_names.proofs.Reaching.{inner-leads, reached-over, reached-ran, reaches-beside, reaches-same}

@@ -14,7 +14,7 @@ use Rattle.nq_model.specs.Message.{Packet}
 use Rattle.nq_model.specs.Skew.{IsWithinSkew}
 use Rattle.nq_model.specs.Stepped.{most_events, stepped}
 use Rattle.nq_model.specs.World.{Head, World, run, start, step}
-use Rattle.nq_promises.specs.Bounds.{KeepsBounds}
+use Rattle.nq_model.specs.Bounds.{KeepsBounds}
 use Rattle.law_bounds.proofs.WorldNumbers.{numbers-stay-within}
 use Rattle.law_bounds.specs.Within.{AreGiven}
 use Rattle.law_names.proofs.Codecs.{codec}
@@ -22,18 +22,18 @@ use Rattle.law_names.proofs.EachFind.{each-find-is-kept}
 use Rattle.law_bounds.proofs.OneRequests.{one-open-in-every-run}
 use Rattle.nq_name_cache.specs.Names.{Names, new_names}
 use Rattle.nq_name_server.specs.Served.{Served, new_served}
-use Rattle.nq_names_run.specs.declared.NameEvent.{NameEvent}
-use Rattle.nq_names_run.specs.Outer.{Outside, of_boot, outside_start}
-use Rattle.nq_names_run.specs.Outside.{beside, inner, inside, outside_run, outside_step, renewed, sends, sends_all}
-use Rattle.nq_names_run.specs.Theorem.{BringsPrefix, IsNamesSchedule}
-use Rattle.nq_names_run.proofs.Inner.{Core, runs-inside}
+use Rattle.nq_name_server.specs.declared.run.event.NameEvent.{NameEvent}
+use Rattle.nq_name_server.specs.Outer.{Outside, of_boot, outside_start}
+use Rattle.nq_name_server.specs.Outside.{beside, inner, inside, outside_run, outside_step, renewed, sends, sends_all}
+use Rattle.nq_name_server.specs.Theorem.{BringsPrefix, IsNamesSchedule}
+use Rattle.nq_name_server.proofs.Inner.{Core, runs-inside}
 use Rattle.nq_world.proofs.Going.{runs-are-lawful}
 use Rattle.nq_world.specs.Answering.{told as answer_of}
 use Rattle.nq_world.specs.Playing.{Plays, WorldOver, seen_of}
 use Rattle.nq_world.specs.Shown.{datagram}
 use Rattle.nq_world.specs.declared.Stepped.{Stepped}
-use Rattle.nq_names_around.proofs.Sending.{none-due, there}
-use Rattle.nq_names_around.specs.Around.{AroundOver, new_around, once_sent, over, shown, with_due}
+use Rattle.nq_names.proofs.Sending.{none-due, there}
+use Rattle.nq_names.specs.Around.{AroundOver, new_around, once_sent, over, shown, with_due}
 use Rattle.nq_names.proofs.Agreeing.{left-first}
 use Rattle.nq_names.proofs.Growing.{grows}
 use Rattle.nq_names.specs.Playing.{IsKept, IsLeft, IsReady, IsSettled, Leads, NamesOver, PlaysOutside, Reaches, RunsInner, renewed_around, stepped_outside, tested_outside}

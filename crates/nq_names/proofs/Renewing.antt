@@ -9,13 +9,13 @@ use Rattle.nq_model.specs.World.{Head, World, after_server, run, step}
 use Rattle.law_bounds.proofs.LeaseIntervals.{run-runs}
 use Rattle.nq_name_server.specs.Served.{Served, new_served}
 use Rattle.nq_name_server.specs.Serving.{ticks}
-use Rattle.nq_names_run.specs.Outer.{of_boot}
+use Rattle.nq_name_server.specs.Outer.{of_boot}
 use Rattle.nq_server.specs.State.{Beside}
 use Rattle.nq_world.proofs.Going.{runs-are-lawful}
 use Rattle.nq_world.specs.Moving.{clients_in}
 use Rattle.nq_world.specs.Playing.{Plays, WorldOver, seen_of}
 use Rattle.nq_world.specs.declared.Stepped.{Stepped}
-use Rattle.nq_names_around.specs.Around.{AroundOver}
+use Rattle.nq_names.specs.Around.{AroundOver}
 use Rattle.nq_names.specs.Playing.{NamesOver, RunsInner, RunsTo, renewed_around}
 use Rattle.walk_steps.proofs.ServerMoves.{tick-keeps}
 use Rattle.walk_steps.proofs.ServerTables.{BootsFit, BootsFitOf}

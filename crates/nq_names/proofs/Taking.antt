@@ -12,15 +12,15 @@ use Rattle.nq_model.specs.World.{Head, run}
 use Rattle.nq_name_server.specs.Served.{leaf_behind}
 use Rattle.nq_name_server.specs.Serving.{Serves, holds_up, puts_off, reads_dir}
 use Rattle.nq_name_server.specs.Served.{Leaf}
-use Rattle.nq_names_run.specs.Outer.{Outside}
-use Rattle.nq_names_run.specs.Outside.{Changes, held_or, inner, passes, reads, reads_in, served_as}
+use Rattle.nq_name_server.specs.Outer.{Outside}
+use Rattle.nq_name_server.specs.Outside.{Changes, held_or, inner, passes, reads, reads_in, served_as}
 use Rattle.nq_server.specs.State.{Beside}
 use Rattle.nq_world.proofs.Refused.{still-plays}
 use Rattle.nq_world.specs.Playing.{CountsFaults, GoesOn, HasSettings, IsAsBefore, Plays, WorldOver}
 use Rattle.nq_world.specs.declared.Stepped.{Stepped}
-use Rattle.nq_names_around.proofs.Sending.{none-due}
-use Rattle.nq_names_around.proofs.Taking.{served_shows}
-use Rattle.nq_names_around.specs.Around.{AroundOver, IsHeldUp, once_sent, over, served_by}
+use Rattle.nq_names.proofs.Sending.{none-due}
+use Rattle.nq_names.proofs.AroundTaking.{served_shows}
+use Rattle.nq_names.specs.Around.{AroundOver, IsHeldUp, once_sent, over, served_by}
 use Rattle.nq_names.specs.Playing.{NamesOver, RunsInner}
 use Rattle.nq_names.specs.Taking.{HoldsUp, IsAsBeforeOutside, IsHeldFor, ReadsKept, TakesBeside, TakesIn, outside_of, stepped_of}
 

@@ -1,3 +1,4 @@
+pub mod Around
+pub mod Pages
 pub mod Playing
 pub mod Taking
-pub mod Pages

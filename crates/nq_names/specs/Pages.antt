@@ -7,7 +7,7 @@ use Rattle.nq_directory.specs.Prefix.{directory}
 use Rattle.nq_directory.specs.declared.FileName.{FileName}
 use Rattle.nq_model.specs.Kept.{Kept}
 use Rattle.nq_name_server.specs.Served.{leaf_behind, names_behind}
-use Rattle.nq_names_run.specs.Outside.{Changes, own_changes}
+use Rattle.nq_name_server.specs.Outside.{Changes, own_changes}
 use Rattle.nq_names.specs.declared.reading.Progress.{Progress}
 
 -- what was read of a directory so far: these names, up to this id

@@ -9,14 +9,14 @@ use Rattle.nq_model.specs.Stepped.{Stepped as Answer, done, no_packet, out_of_sk
 use Rattle.nq_model.specs.World.{Head, World, run, step}
 use Rattle.nq_name_cache.specs.Names.{before_call}
 use Rattle.nq_name_server.specs.Serving.{ticks}
-use Rattle.nq_names_run.specs.declared.NameEvent.{NameEvent}
-use Rattle.nq_names_run.specs.Outer.{Outside, of_boot}
-use Rattle.nq_names_run.specs.Outside.{at_side, new_side, outside_run}
-use Rattle.nq_names_run.specs.Theorem.{FindsWhatIsKept, IsNamesSchedule}
+use Rattle.nq_name_server.specs.declared.run.event.NameEvent.{NameEvent}
+use Rattle.nq_name_server.specs.Outer.{Outside, of_boot}
+use Rattle.nq_name_server.specs.Outside.{at_side, new_side, outside_run}
+use Rattle.nq_name_server.specs.Theorem.{FindsWhatIsKept, IsNamesSchedule}
 use Rattle.nq_world.specs.Answering.{told as answer_of}
 use Rattle.nq_world.specs.Playing.{WorldOver, Plays, CanCome}
 use Rattle.nq_world.specs.declared.Stepped.{Stepped}
-use Rattle.nq_names_around.specs.Around.{AroundOver, shown}
+use Rattle.nq_names.specs.Around.{AroundOver, shown}
 
 -- a world with leased directories: the inner world, what stands around it, the inner events with the oldest first, and how many events
 -- were taken in

@@ -6,12 +6,12 @@ use Rattle.nq_keeper.specs.declared.keeper.KeepFault.{KeepFault}
 use Rattle.nq_keeper.specs.Keeping.{Reads, StaysOrEnds}
 use Rattle.nq_model.specs.Kept.{Kept}
 use Rattle.nq_model.specs.World.{Head, run}
-use Rattle.nq_names_run.specs.Outer.{Outside}
+use Rattle.nq_name_server.specs.Outer.{Outside}
 use Rattle.nq_name_server.specs.Serving.{holds_up}
-use Rattle.nq_names_run.specs.Outside.{Changes, inner, passes}
+use Rattle.nq_name_server.specs.Outside.{Changes, inner, passes}
 use Rattle.nq_world.specs.Playing.{IsAsBefore, Plays}
 use Rattle.nq_world.specs.declared.Stepped.{Stepped}
-use Rattle.nq_names_around.specs.Around.{IsHeldUp, once_sent, over}
+use Rattle.nq_names.specs.Around.{IsHeldUp, once_sent, over}
 use Rattle.nq_names.specs.Playing.{NamesOver, RunsInner}
 
 -- what a fault of the keeper means for an event

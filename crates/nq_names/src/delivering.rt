@@ -10,19 +10,19 @@ ghost use Rattle.nq_name_cache.specs.Asking.{lists_dir};
 ghost use Rattle.nq_name_cache.specs.Names.{Names};
 ghost use Rattle.nq_names.specs.Playing.{IsLeft, IsReady, Leads, Reaches, stepped_outside};
 ghost use Rattle.nq_names.specs.Taking.{IsOfLists, TakesIn, outside_of, stepped_of};
-ghost use Rattle.nq_names_around.specs.Around.{once_sent, over};
-ghost use Rattle.nq_names_run.specs.declared.NameEvent.{NameEvent};
-ghost use Rattle.nq_names_run.specs.Outside.{asks_as, changes_as, heard_by, is_change, is_changing, lists, passes, serves, takes, to_host, to_server};
+ghost use Rattle.nq_names.specs.Around.{once_sent, over};
+ghost use Rattle.nq_name_server.specs.declared.run.event.NameEvent.{NameEvent};
+ghost use Rattle.nq_name_server.specs.Outside.{asks_as, changes_as, heard_by, is_change, is_changing, lists, passes, serves, takes, to_host, to_server};
 ghost use Rattle.nq_directory.specs.Prefix.{IsPrefix};
 ghost use Rattle.nq_world.specs.Moving.{clients_in};
 ghost use Rattle.nq_world.specs.Playing.{GoesOn, Plays};
 
+use crate::around::Travelling;
 use crate::running::TIMES_END;
 use crate::world::NameWorld;
 use nq_base::{Call, Event, Host, NoMemory, Party, Ticks};
 use nq_directory::Prefix;
 use nq_keeper::{KeepFault, Keeper};
-use nq_names_around::Travelling;
 use nq_world::Stepped;
 
 /// What a fault of the keeper means for an event.

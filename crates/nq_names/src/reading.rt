@@ -8,7 +8,7 @@ ghost use Rattle.nq_model.specs.Kept.{find_file, host_row};
 ghost use Rattle.nq_name_server.specs.Served.{leaf_behind};
 ghost use Rattle.nq_names.specs.Pages.{IsRead, SoFar, removed_as};
 ghost use Rattle.nq_names.specs.Taking.{ReadsKept};
-ghost use Rattle.nq_names_run.specs.Outside.{changes_as, changes_by, changes_of, own_changes};
+ghost use Rattle.nq_name_server.specs.Outside.{changes_as, changes_by, changes_of, own_changes};
 
 use crate::world::NameWorld;
 use nq_base::{FileId, FileRow, Host, Inc, Request, Spare, Who};
@@ -58,7 +58,7 @@ pub(crate) struct DirChange {
 }
 
 impl Model for DirChange {
-    ghost use Rattle.nq_names_run.specs.Outside.{Changes};
+    ghost use Rattle.nq_name_server.specs.Outside.{Changes};
 
     ghost Value = { Changes };
 

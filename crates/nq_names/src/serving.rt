@@ -8,8 +8,8 @@ ghost use Rattle.nq_listing.specs.Reading.{dir_vacated_in, read_dir_in};
 ghost use Rattle.nq_model.specs.World.{Head, World as Model, run};
 ghost use Rattle.nq_name_server.specs.Serving.{reads_dir};
 ghost use Rattle.nq_names.specs.Taking.{HoldsUp, IsHeldFor, TakesBeside, outside_of, stepped_of};
-ghost use Rattle.nq_names_around.specs.Around.{once_sent, over, served_by};
-ghost use Rattle.nq_names_run.specs.Outside.{changes_as, reads, reads_in, served_read, served_vacated};
+ghost use Rattle.nq_names.specs.Around.{once_sent, over, served_by};
+ghost use Rattle.nq_name_server.specs.Outside.{changes_as, reads, reads_in, served_read, served_vacated};
 ghost use Rattle.nq_world.specs.Playing.{GoesOn, Plays};
 
 use crate::reading::{DirChange, Leaf};

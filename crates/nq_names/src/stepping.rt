@@ -7,8 +7,8 @@ ghost use Rattle.nq_model.specs.SkewBroken.{skew_broken};
 ghost use Rattle.nq_model.specs.Stepped.{most_events, no_packet, tested_room, tested_skew};
 ghost use Rattle.nq_model.specs.World.{Head};
 ghost use Rattle.nq_names.specs.Playing.{CanComeOutside, IsLeft, IsReady, IsTested, Leads, PlaysOutside, Reaches, StepsOutside, stepped_outside, tested_outside};
-ghost use Rattle.nq_names_run.specs.declared.NameEvent.{NameEvent};
-ghost use Rattle.nq_names_run.specs.Outside.{outside_run};
+ghost use Rattle.nq_name_server.specs.declared.run.event.NameEvent.{NameEvent};
+ghost use Rattle.nq_name_server.specs.Outside.{outside_run};
 ghost use Rattle.nq_world.specs.Answering.{IsOfTests, told};
 ghost use Rattle.nq_world.specs.Playing.{CanCome, GoesOn};
 ghost use Rattle.nq_world.specs.declared.Stepped.{Stepped};
@@ -16,7 +16,7 @@ ghost use Rattle.nq_world.specs.declared.Stepped.{Stepped};
 use crate::world::NameWorld;
 use nq_base::{Event, NoMemory};
 use nq_keeper::Keeper;
-use nq_names_run::NameEvent;
+use nq_name_server::run::NameEvent;
 use nq_world::{Limit, MOST_EVENTS, MOST_SENT, Stepped};
 
 impl<K: Keeper> NameWorld<K> {

@@ -4,10 +4,10 @@ use Rattle.std.specs.List.{AllByRecursion}
 use Rattle.std.specs.Prelude.{slice_get}
 use Rattle.nq_base.specs.declared.Event.{Event}
 use Rattle.nq_model.specs.World.{Head}
-use Rattle.nq_names_run.proofs.Inner.{core-listing, delivery-cases, inner-ran}
-use Rattle.nq_names_run.specs.declared.NameEvent.{NameEvent}
-use Rattle.nq_names_run.specs.Outer.{Outside, outside_start}
-use Rattle.nq_names_run.specs.Outside.{inner, outside_run, outside_step}
+use Rattle.nq_name_server.proofs.Inner.{core-listing, delivery-cases, inner-ran}
+use Rattle.nq_name_server.specs.declared.run.event.NameEvent.{NameEvent}
+use Rattle.nq_name_server.specs.Outer.{Outside, outside_start}
+use Rattle.nq_name_server.specs.Outside.{inner, outside_run, outside_step}
 
 -- ---- what holds of each inner event
 

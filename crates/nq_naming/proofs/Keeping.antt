@@ -3,8 +3,8 @@ use Rattle.std.proofs.Common.{◌≡◌, ◌<◌, ◌≤◌, ℕ, ◌+◌, List,
 use Rattle.std.specs.List.{AllByRecursion}
 use Rattle.nq_names.specs.Playing.{NamesOver, stepped_outside}
 use Rattle.nq_model.specs.Kept.{Kept}
-use Rattle.nq_play.specs.Playing.{beginning}
-use Rattle.nq_play.specs.declared.Played.{Played as Went}
+use Rattle.nq_replay.specs.Playing.{beginning}
+use Rattle.nq_replay.specs.declared.play.played.Played.{Played as Went}
 use Rattle.nq_replay.specs.Texts.{IsTellable}
 use Rattle.nq_script.specs.Heads.{head_lines}
 use Rattle.nq_script.specs.Lines.{SpellsLine}
@@ -12,17 +12,17 @@ use Rattle.nq_script.specs.Schedule.{SpellsLines, SpellsSchedule}
 use Rattle.nq_script.specs.declared.heads.Head.{Head}
 use Rattle.nq_script.specs.declared.lines.Line.{Line}
 use Rattle.nq_naming.proofs.Inside.{IsPlainly, run-all}
-use Rattle.nq_asides.specs.Going.{Comes, RanTo}
+use Rattle.nq_replay.specs.AsidesGoing.{Comes, RanTo}
 use Rattle.nq_naming.specs.Going.{IsAtEnd}
 use Rattle.nq_naming.specs.Running.{IsTold}
-use Rattle.nq_asides.proofs.Keeping.{Ends, Keeps, ends-answered, ends-packet, ends-then, keeps-repeated}
-use Rattle.nq_asides.specs.Text.{beside, mixed, plain}
-use Rattle.nq_name_script.specs.declared.Aside.{Aside}
+use Rattle.nq_replay.proofs.Keeping.{Ends, Keeps, ends-answered, ends-packet, ends-then, keeps-repeated}
+use Rattle.nq_replay.specs.Text.{beside, mixed, plain}
+use Rattle.nq_naming.specs.declared.script.aside.Aside.{Aside}
 use Rattle.nq_base.specs.declared.Event.{Event}
-use Rattle.nq_names_run.specs.declared.NameEvent.{NameEvent}
+use Rattle.nq_name_server.specs.declared.run.event.NameEvent.{NameEvent}
 use Rattle.nq_model.specs.Stepped.{done, most_events}
 use Rattle.nq_model.specs.World.{Head as Beginning}
-use Rattle.nq_asides.specs.Playing.{Ended, Played, took, refused, at_line, ran, stopped}
+use Rattle.nq_replay.specs.AsidesPlaying.{Ended, Played, took, refused, at_line, ran, stopped}
 use Rattle.nq_naming.specs.Playing.{Moment, Sought, first_moment, with_finds, play, play_event, play_flow, play_line, play_lines, play_plain, play_round, play_ticks}
 
 pub keeps-ticks : (P : List NameEvent → Type 0) (head : Beginning) (host count : ℕ) → host + count ≤ head.hosts

@@ -1,8 +1,8 @@
-pub mod Steps
-pub mod Onward
+mod Endings
 pub mod Inside
 pub mod Keeping
 pub mod Moments
+pub mod Onward
 pub mod Outcomes
-mod Endings
 pub mod Printed
+pub mod Steps

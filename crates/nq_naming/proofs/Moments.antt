@@ -5,16 +5,16 @@ use Rattle.nq_model.specs.Kept.{Kept, find_name}
 use Rattle.nq_model.specs.World.{Head}
 use Rattle.nq_name_cache.specs.declared.Found.{Found}
 use Rattle.nq_names.specs.Playing.{NamesOver}
-use Rattle.nq_names_run.specs.declared.NameEvent.{NameEvent}
-use Rattle.nq_names_run.specs.Outside.{found, outside_run}
-use Rattle.nq_names_run.specs.Theorem.{kept_as}
+use Rattle.nq_name_server.specs.declared.run.event.NameEvent.{NameEvent}
+use Rattle.nq_name_server.specs.Outside.{found, outside_run}
+use Rattle.nq_name_server.specs.Theorem.{kept_as}
 use Rattle.nq_naming.proofs.Inside.{GoesOn, run-on}
-use Rattle.nq_asides.proofs.Keeping.{Ends}
+use Rattle.nq_replay.proofs.Keeping.{Ends}
 use Rattle.nq_naming.proofs.Keeping.{keeps-event, keeps-plain}
 use Rattle.nq_naming.specs.Finding.{FindsAreTrue, IsTrueFind, find_line, lines_of}
-use Rattle.nq_asides.specs.Going.{Goes}
+use Rattle.nq_replay.specs.AsidesGoing.{Goes}
 use Rattle.nq_naming.specs.Going.{IsAt, IsAtEnd, IsAtMoment}
-use Rattle.nq_asides.specs.Playing.{Played as Due, refused, took}
+use Rattle.nq_replay.specs.AsidesPlaying.{Played as Due, refused, took}
 use Rattle.nq_naming.specs.Playing.{Moment, Sought, play_event, play_plain, with_find, with_finds}
 use Rattle.nq_script.specs.declared.lines.Line.{Line}
 use Rattle.nq_world.specs.declared.stepped.Stepped.{Stepped}

@@ -1,10 +1,10 @@
 -- What is left to be played, one further.
 use Rattle.std.proofs.Common.{◌≡◌, ℕ, ◌+◌, ◌-◌, ◌<◌, List, Option, Some, None, suc, sym, ap, ◌∙◌, arith}
 use Rattle.nq_base.specs.declared.Event.{Event}
-use Rattle.nq_names_run.specs.declared.NameEvent.{NameEvent}
+use Rattle.nq_name_server.specs.declared.run.event.NameEvent.{NameEvent}
 use Rattle.nq_model.specs.World.{Head}
-use Rattle.nq_asides.proofs.Onward.{then-took}
-use Rattle.nq_asides.specs.Playing.{Played as Due, and_then, took, with_packet}
+use Rattle.nq_replay.proofs.AsidesOnward.{then-took}
+use Rattle.nq_replay.specs.AsidesPlaying.{Played as Due, and_then, took, with_packet}
 use Rattle.nq_naming.specs.Playing.{next_packet, play_event, play_flow, play_plain, play_ticks}
 use Rattle.nq_script.specs.declared.lines.Line.{Line}
 

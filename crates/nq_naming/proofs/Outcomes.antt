@@ -1,18 +1,18 @@
 -- What running a schedule that was read comes to.
 use Rattle.std.proofs.Common.{◌≡◌, inl, inr, ℕ, List, Option, refl, sym, subst}
 use Rattle.nq_base.specs.declared.SkewBroken.{SkewBroken}
-use Rattle.nq_ending.specs.declared.Ending.{Ending}
+use Rattle.nq_base.specs.declared.ending.ending.Ending.{Ending}
 use Rattle.nq_model.specs.Stepped.{Stepped as Answer, done, no_packet, out_of_skew, too_many_events, too_many_packets}
-use Rattle.nq_asides.specs.Going.{Comes, StoppedAt}
-use Rattle.nq_asides.specs.Playing.{Ended, ran, stopped}
+use Rattle.nq_replay.specs.AsidesGoing.{Comes, StoppedAt}
+use Rattle.nq_replay.specs.AsidesPlaying.{Ended, ran, stopped}
 use Rattle.nq_naming.specs.Playing.{Moment, play}
-use Rattle.nq_play.specs.declared.Played.{Played}
+use Rattle.nq_replay.specs.declared.play.played.Played.{Played}
 use Rattle.nq_replay.specs.Ending.{IsUnlessFault}
 use Rattle.nq_naming.specs.Running.{EndsNamesPlayed, EndsNamesText, FaultyNames, PassesNames, RunsNames, StopsNames}
 use Rattle.nq_replay.specs.Schedules.{TellsStop}
 use Rattle.nq_replay.specs.declared.Bound.{Bound}
 use Rattle.nq_script.specs.Faults.{Names}
-use Rattle.nq_name_script.specs.Text.{FirstBadNames, SpellsNames, NamesLine}
+use Rattle.nq_naming.specs.Text.{FirstBadNames, SpellsNames, NamesLine}
 use Rattle.nq_script.specs.declared.faults.ScriptFault.{ScriptFault}
 use Rattle.nq_script.specs.declared.heads.Head.{Head}
 use Rattle.nq_world.specs.Answering.{told as answer_of}

@@ -8,8 +8,8 @@ use Rattle.nq_names.specs.Playing.{PlaysOutside, NamesOver}
 use Rattle.nq_journal.specs.Text.{journal_text}
 use Rattle.nq_model.specs.Kept.{Kept}
 use Rattle.nq_model.specs.World.{Head as Beginning}
-use Rattle.nq_play.specs.Lawful.{IsLawful}
-use Rattle.nq_play.specs.Playing.{beginning}
+use Rattle.nq_replay.specs.Lawful.{IsLawful}
+use Rattle.nq_replay.specs.Playing.{beginning}
 use Rattle.nq_replay.proofs.Journals.{plain_text}
 use Rattle.nq_script.specs.Lines.{once}
 use Rattle.nq_script.specs.Schedule.{SpellsSchedule}
@@ -17,8 +17,8 @@ use Rattle.nq_script.specs.declared.heads.Head.{Head}
 use Rattle.nq_naming.specs.Going.{IsAtEnd}
 use Rattle.nq_naming.specs.Playing.{Moment}
 use Rattle.nq_naming.specs.Running.{IsPrinted, end_of}
-use Rattle.nq_names_run.specs.Outside.{outside_run}
-use Rattle.nq_names_run.specs.declared.NameEvent.{NameEvent}
+use Rattle.nq_name_server.specs.Outside.{outside_run}
+use Rattle.nq_name_server.specs.declared.run.event.NameEvent.{NameEvent}
 
 -- a world that plays a run with lists keeps to the bounds of its inner run, and is within skew
 lawful : {K : Type 0} (head : Beginning) (events : List NameEvent) (w : NamesOver K) (told : Option Kept) → PlaysOutside head events w told

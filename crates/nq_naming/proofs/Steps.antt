@@ -7,13 +7,13 @@ use Rattle.nq_names.specs.Playing.{PlaysOutside, NamesOver, StepsOutside, steppe
 use Rattle.nq_model.specs.Kept.{Kept}
 use Rattle.nq_model.specs.Stepped.{Stepped as Answer, done, no_packet, out_of_skew, too_many_events, too_many_packets, most_events, tested_room}
 use Rattle.nq_model.specs.World.{Head}
-use Rattle.nq_play.specs.Delivering.{Marks, least_undelivered}
-use Rattle.nq_asides.specs.Going.{Goes, WasRefused}
+use Rattle.nq_replay.specs.Delivering.{Marks, least_undelivered}
+use Rattle.nq_replay.specs.AsidesGoing.{Goes, WasRefused}
 use Rattle.nq_naming.specs.Going.{HasFlagOutside, IsAt}
-use Rattle.nq_asides.specs.Playing.{answered}
+use Rattle.nq_replay.specs.AsidesPlaying.{answered}
 use Rattle.nq_naming.specs.Playing.{next_packet, plain_events, play_event}
-use Rattle.nq_names_run.specs.declared.NameEvent.{NameEvent}
-use Rattle.nq_names_run.specs.Outside.{outside_run}
+use Rattle.nq_name_server.specs.declared.run.event.NameEvent.{NameEvent}
+use Rattle.nq_name_server.specs.Outside.{outside_run}
 use Rattle.nq_world.specs.Answering.{told as answer_of}
 use Rattle.nq_world.specs.Playing.{CountsFaults, HasSettings, WorldOver}
 use Rattle.nq_world.specs.declared.Stepped.{Stepped}

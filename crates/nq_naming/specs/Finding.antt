@@ -6,10 +6,10 @@ use Rattle.nq_base.specs.declared.Event.{Event}
 use Rattle.nq_model.specs.Kept.{find_name}
 use Rattle.nq_model.specs.World.{Head as Beginning, run}
 use Rattle.nq_name_cache.specs.declared.Found.{Found}
-use Rattle.nq_names_run.specs.declared.NameEvent.{NameEvent}
-use Rattle.nq_names_run.specs.Outer.{Outside}
-use Rattle.nq_names_run.specs.Outside.{found, outside_run}
-use Rattle.nq_names_run.specs.Theorem.{kept_as}
+use Rattle.nq_name_server.specs.declared.run.event.NameEvent.{NameEvent}
+use Rattle.nq_name_server.specs.Outer.{Outside}
+use Rattle.nq_name_server.specs.Outside.{found, outside_run}
+use Rattle.nq_name_server.specs.Theorem.{kept_as}
 use Rattle.nq_naming.specs.Playing.{Moment, Sought}
 use Rattle.nq_words.specs.Words.{line}
 

@@ -5,10 +5,10 @@ use Rattle.nq_base.specs.declared.Event.{Event}
 use Rattle.nq_names.specs.Playing.{PlaysOutside, NamesOver}
 use Rattle.nq_model.specs.Kept.{Kept}
 use Rattle.nq_model.specs.World.{Head}
-use Rattle.nq_play.specs.Delivering.{Marks}
+use Rattle.nq_replay.specs.Delivering.{Marks}
 use Rattle.nq_naming.specs.Finding.{FindsAreTrue, lines_of}
 use Rattle.nq_naming.specs.Playing.{Moment, plain_events}
-use Rattle.nq_names_run.specs.declared.NameEvent.{NameEvent}
+use Rattle.nq_name_server.specs.declared.run.event.NameEvent.{NameEvent}
 
 -- a world plays the run with lists of these events, and the flags tell which packets were delivered in it
 pub record IsAt {K : Type 0} (head : Head) (events : List NameEvent) (w : NamesOver K) (told : Option Kept) (flags : List Bool) : Type 0 where

@@ -1,4 +1,7 @@
-pub mod Playing
 pub mod Finding
 pub mod Going
+pub mod Line
+pub mod Playing
 pub mod Running
+pub mod Text
+pub mod TextLaws

@@ -1,17 +1,17 @@
 -- How the lines of a schedule with lists are played, event by event. The events of a run are told with the newest first.
 use Rattle.std.specs.Prelude.{ℕ, ◌+◌, List, [], ◌∷◌, length, Option, zero, suc}
-use Rattle.nq_asides.specs.Playing.{Ended, Played, and_then, answered, play_each, refused, repeated, took, with_packet}
-use Rattle.nq_asides.specs.Text.{beside, plain}
+use Rattle.nq_replay.specs.AsidesPlaying.{Ended, Played, and_then, answered, play_each, refused, repeated, took, with_packet}
+use Rattle.nq_replay.specs.Text.{beside, plain}
 use Rattle.nq_base.specs.declared.Event.{Event}
 use Rattle.nq_model.specs.Stepped.{too_many_events, most_events}
 use Rattle.nq_model.specs.World.{Head as Beginning}
-use Rattle.nq_name_script.specs.Text.{NamesLine}
-use Rattle.nq_name_script.specs.declared.Aside.{Aside}
+use Rattle.nq_naming.specs.Text.{NamesLine}
+use Rattle.nq_naming.specs.declared.script.aside.Aside.{Aside}
 use Rattle.nq_names.specs.Playing.{stepped_outside}
-use Rattle.nq_names_run.specs.declared.NameEvent.{NameEvent}
-use Rattle.nq_names_run.specs.Outside.{outside_run}
-use Rattle.nq_play.specs.Delivering.{least_undelivered}
-use Rattle.nq_play.specs.Playing.{beginning}
+use Rattle.nq_name_server.specs.declared.run.event.NameEvent.{NameEvent}
+use Rattle.nq_name_server.specs.Outside.{outside_run}
+use Rattle.nq_replay.specs.Delivering.{least_undelivered}
+use Rattle.nq_replay.specs.Playing.{beginning}
 use Rattle.nq_script.specs.Heads.{head_lines}
 use Rattle.nq_script.specs.declared.heads.Head.{Head}
 use Rattle.nq_script.specs.declared.lines.Line.{Line}

@@ -6,7 +6,7 @@ use Rattle.std.specs.Prelude.{◌≡◌, ◌⊎◌, ℕ, List, ◌++◌, Option,
 use Rattle.nq_replay.specs.Texts.{IsTellable}
 use Rattle.nq_base.specs.declared.SkewBroken.{SkewBroken}
 use Rattle.nq_names.specs.Playing.{PlaysOutside, NamesOver}
-use Rattle.nq_ending.specs.declared.Ending.{Ending}
+use Rattle.nq_base.specs.declared.ending.ending.Ending.{Ending}
 use Rattle.nq_io.specs.Faults.{Rose}
 use Rattle.nq_io.specs.Sink.{AppendsFront}
 use Rattle.nq_io.specs.Told.{with_end}
@@ -14,8 +14,8 @@ use Rattle.nq_io.specs.Whole.{TakesSome}
 use Rattle.nq_journal.specs.Text.{journal_text}
 use Rattle.nq_model.specs.Kept.{Kept}
 use Rattle.nq_model.specs.Stepped.{Stepped, no_packet, out_of_skew, too_many_events, too_many_packets}
-use Rattle.nq_play.specs.Lawful.{IsLawful}
-use Rattle.nq_play.specs.Playing.{beginning}
+use Rattle.nq_replay.specs.Lawful.{IsLawful}
+use Rattle.nq_replay.specs.Playing.{beginning}
 use Rattle.nq_replay.specs.Lines.{PrintsLine, limit_line, script_line, skew_line}
 use Rattle.nq_replay.specs.Replay.{OfInput, PrintsLimit, TakesInput}
 use Rattle.nq_replay.specs.declared.Bound.{Bound}
@@ -24,11 +24,11 @@ use Rattle.nq_script.specs.Lines.{once}
 use Rattle.nq_script.specs.Schedule.{SpellsSchedule}
 use Rattle.nq_script.specs.declared.heads.Head.{Head}
 use Rattle.nq_naming.specs.Finding.{FindsAreTrue, lines_of}
-use Rattle.nq_asides.specs.Playing.{Ended, ran, stopped}
+use Rattle.nq_replay.specs.AsidesPlaying.{Ended, ran, stopped}
 use Rattle.nq_naming.specs.Playing.{Moment, play}
-use Rattle.nq_name_script.specs.Text.{FirstBadNames, SpellsNames, NamesLine}
-use Rattle.nq_names_run.specs.Outer.{Outside}
-use Rattle.nq_names_run.specs.Outside.{outside_run}
+use Rattle.nq_naming.specs.Text.{FirstBadNames, SpellsNames, NamesLine}
+use Rattle.nq_name_server.specs.Outer.{Outside}
+use Rattle.nq_name_server.specs.Outside.{outside_run}
 use Rattle.nq_world.specs.Answering.{told as answer_of}
 
 -- the text is a schedule with lists with this head, and playing all of its lines comes to this moment

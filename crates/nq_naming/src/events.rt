@@ -4,19 +4,19 @@ ghost use Rattle.std.specs.Prelude.{◌≡◌, ◌≤◌, List, ◌∷◌, lengt
 ghost use Rattle.nq_base.specs.declared.Event.{Event};
 ghost use Rattle.nq_names.specs.Playing.{CanComeOutside};
 ghost use Rattle.nq_model.specs.World.{Head};
-ghost use Rattle.nq_play.specs.Delivering.{Marks};
-ghost use Rattle.nq_asides.specs.Going.{Goes};
+ghost use Rattle.nq_replay.specs.Delivering.{Marks};
+ghost use Rattle.nq_replay.specs.AsidesGoing.{Goes};
 ghost use Rattle.nq_naming.specs.Going.{HasFlagOutside, IsAt};
-ghost use Rattle.nq_asides.specs.Playing.{repeated};
+ghost use Rattle.nq_replay.specs.AsidesPlaying.{repeated};
 ghost use Rattle.nq_naming.specs.Playing.{plain_events, play_event, play_flow, play_round, play_ticks};
-ghost use Rattle.nq_names_run.specs.declared.NameEvent.{NameEvent};
+ghost use Rattle.nq_name_server.specs.declared.run.event.NameEvent.{NameEvent};
 ghost use Rattle.nq_world.specs.Playing.{CountsFaults, HasSettings};
 
 use nq_base::{Event, Host};
 use nq_keeper::Keeper;
+use nq_name_server::run::NameEvent;
 use nq_names::NameWorld;
-use nq_names_run::NameEvent;
-use nq_play::Delivered;
+use nq_replay::play::Delivered;
 use nq_world::{Limit, Stepped};
 
 /// Notes an event that was taken, if it is the delivery of a packet with a flag.
@@ -24,7 +24,7 @@ fn note(delivered: &mut Delivered, event: &NameEvent)
     ensures { HasFlagOutside (length delivered.old) event.now → (events : List NameEvent) → Marks delivered.old (plain_events events) → Marks delivered.new (plain_events (event.now ∷ events)) }
 {
     match event {
-        NameEvent::Plain(event) => nq_play::note(delivered, event),
+        NameEvent::Plain(event) => nq_replay::play::note(delivered, event),
         NameEvent::List(..) => {}
     }
 }

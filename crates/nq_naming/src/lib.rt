@@ -9,5 +9,6 @@ mod events;
 mod lines;
 mod printing;
 mod running;
+pub mod script;
 
 pub use running::run_names;

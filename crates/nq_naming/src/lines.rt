@@ -1,30 +1,30 @@
 //! Lines of a schedule with lists, one after another.
 
 ghost use Rattle.std.specs.Prelude.{◌≡◌, ◌≤◌, ◌+◌, ◌^◌, ◌<◌, ℕ, Bool, List, [], Option, length, slice_get, Some, OnOk};
-ghost use Rattle.nq_asides.specs.Text.{HoldsOfAsides, beside, mixed};
+ghost use Rattle.nq_replay.specs.Text.{HoldsOfAsides, beside, mixed};
 ghost use Rattle.nq_names.specs.Playing.{PlaysOutside};
 ghost use Rattle.nq_model.specs.World.{Head};
-ghost use Rattle.nq_play.specs.Going.{AreForWorld, IsForWorld, said};
-ghost use Rattle.nq_play.specs.declared.Played.{Played};
+ghost use Rattle.nq_replay.specs.Going.{AreForWorld, IsForWorld, said};
+ghost use Rattle.nq_replay.specs.declared.play.played.Played.{Played};
 ghost use Rattle.nq_script.specs.declared.lines.Line.{Line};
 ghost use Rattle.nq_model.specs.Kept.{Kept};
-ghost use Rattle.nq_asides.specs.Going.{Comes, Goes};
+ghost use Rattle.nq_replay.specs.AsidesGoing.{Comes, Goes};
 ghost use Rattle.nq_naming.specs.Going.{IsAt, IsAtEnd, IsAtMoment};
 ghost use Rattle.nq_naming.specs.Playing.{Moment, first_moment, play_event, play_line, play_lines, play_plain, with_find};
-ghost use Rattle.nq_name_script.specs.Text.{IsOfHost, NamesLine};
-ghost use Rattle.nq_names_run.specs.declared.NameEvent.{NameEvent};
+ghost use Rattle.nq_naming.specs.Text.{IsOfHost, NamesLine};
+ghost use Rattle.nq_name_server.specs.declared.run.event.NameEvent.{NameEvent};
 ghost use Rattle.nq_world.specs.Playing.{CountsFaults, HasSettings};
 
 use crate::events::{deliver, flow, rounds, take, take_times};
 use crate::printing::push_find;
-use nq_asides::{MixedScript, aside_at};
+use crate::script::Aside;
 use nq_base::{Host, Name, NoMemory};
 use nq_directory::Prefix;
 use nq_keeper::Keeper;
-use nq_name_script::Aside;
+use nq_name_server::run::NameEvent;
 use nq_names::NameWorld;
-use nq_names_run::NameEvent;
-use nq_play::{Delivered, Played};
+use nq_replay::asides::{MixedScript, aside_at};
+use nq_replay::play::{Delivered, Played};
 use nq_script::{Line, Lines};
 use nq_world::Stepped;
 use std::alloc::Global;

@@ -6,7 +6,7 @@ ghost use Rattle.nq_world.specs.Playing.{CanCome};
 use crate::seeing::Seer;
 use nq_base::{Event, Host};
 use nq_keeper::Keeper;
-use nq_play::Delivered;
+use nq_replay::play::Delivered;
 use nq_script::{Line, Lines};
 use nq_world::{Limit, MOST_EVENTS, Stepped, World};
 

@@ -9,7 +9,7 @@ use Rattle.nq_base.specs.declared.HostChange.{HostChange}
 use Rattle.nq_image.specs.Layout.{block_place}
 use Rattle.nq_image.specs.Standing.{PlacedFile, Standing}
 use Rattle.nq_image.specs.Writing.{heads_bytes, host_bytes, row_bytes, table_of_blocks, zeros_of}
-use Rattle.nq_redo.specs.Ranges.{Range}
+use Rattle.nq_disk.specs.Ranges.{Range}
 use Rattle.nq_plan.specs.declared.placing.Placed.{Placed}
 use Rattle.nq_plan.specs.Finding.{blocks_of, row_of, slot_of}
 

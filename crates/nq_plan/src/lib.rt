@@ -4,6 +4,7 @@
 mod block_table;
 mod bodies;
 mod finding;
+pub mod format;
 mod placing;
 mod planning;
 mod ranges;

@@ -10,8 +10,8 @@ use crate::placing::Placed;
 use crate::ranges::{add_body, add_file, add_heads, add_host, add_removal};
 use crate::tables::Tables;
 use nq_base::{BlockChange, Change, FileId, FileRow};
+use nq_disk::redo::Batch;
 use nq_memory::NoMemory;
-use nq_redo::Batch;
 use std::alloc::Global;
 
 /// What a change writes, and where its file comes to stand.

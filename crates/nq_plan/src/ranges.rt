@@ -7,11 +7,11 @@ ghost use Rattle.nq_plan.specs.Ranges.{body_range, file_ranges as ranges_of_file
 use crate::bodies::spell_block;
 use crate::stored_file::StoredFile;
 use nq_base::{Block, FileRow, Heads, HostChange};
+use nq_disk::redo::Batch;
 use nq_image::{
     HEADS_PLACE, block_place, host_place, id_place, row_place, spell_heads, spell_host, spell_row,
 };
 use nq_memory::NoMemory;
-use nq_redo::Batch;
 use std::alloc::Global;
 
 /// Adds the numbers of the server.

@@ -2,7 +2,7 @@
 use Rattle.std.proofs.Common.{◌≡◌, ℕ, List, Option, Some, Result, Ok, Err, IfOk, inl, inr, refl, subst}
 use Rattle.std.specs.Option.{IfSome}
 use Rattle.std.specs.Prelude.{IfErr}
-use Rattle.nq_ending.specs.declared.Ending.{Ending}
+use Rattle.nq_base.specs.declared.ending.ending.Ending.{Ending}
 use Rattle.nq_io.specs.Whole.{IsAll, IsOver}
 use Rattle.nq_replay.specs.Ending.{IsFault, IsUnlessFault, TellsOver}
 use Rattle.nq_replay.specs.Reading.{IsReadAs, RefusedUnlessFault, Refuses, RefusesText}

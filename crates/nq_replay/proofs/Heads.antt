@@ -4,7 +4,7 @@ use Rattle.std.specs.Prelude.{codes}
 use Rattle.law_bounds.specs.Within.{AreDistinct, IsNew}
 use Rattle.nq_base.specs.declared.Event.{Event}
 use Rattle.nq_model.specs.Profile.{shortest_term}
-use Rattle.nq_play.specs.Going.{AreForWorld, IsForWorld}
+use Rattle.nq_replay.specs.Going.{AreForWorld, IsForWorld}
 use Rattle.nq_replay.specs.Schedules.{IsReady}
 use Rattle.nq_script.specs.Heads.{FitFiles, head_lines, AreDistinct as Differ, IsNew as IsOther}
 use Rattle.nq_script.specs.Lines.{Allows, HasEvent, SpellsLine}

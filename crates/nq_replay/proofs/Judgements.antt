@@ -9,7 +9,7 @@ use Rattle.nq_rules.specs.Rules.{first_rule}
 use Rattle.nq_rules.specs.Verdict.{Fault, IsVerdict, fault_at, least_fault, verdict}
 use Rattle.nq_rules.specs.declared.Judged.{Judged}
 use Rattle.nq_rules.specs.declared.Rule.{Rule}
-use Rattle.nq_ending.specs.declared.Ending.{Ending}
+use Rattle.nq_base.specs.declared.ending.ending.Ending.{Ending}
 use Rattle.nq_io.specs.Faults.{Rose}
 use Rattle.nq_io.specs.Sink.{AppendsFront}
 use Rattle.nq_io.specs.Told.{with_end}

@@ -1,13 +1,33 @@
-mod Endings
-pub mod Printings
 mod Appending
+mod Endings
 mod Joining
+pub mod AsidesOnward
+pub mod Begun
+pub mod Dropping
+pub mod Ending
+pub mod FirstRuns
+pub mod Flags
+pub mod Grammar
 pub mod Heads
 pub mod Journals
 pub mod Judgements
+pub mod Keeping
+pub mod Lawfully
+pub mod Limits
+pub mod Lining
+pub mod Mixing
+pub mod Never
+pub mod Onward
 pub mod Outcomes
 pub mod Overs
-pub mod Whole
-pub mod Never
-pub mod Versions
+pub mod Printings
+pub mod Putting
+pub mod Readied
+pub mod Reversing
+pub mod Seconds
+pub mod Skewing
 pub mod Spelling
+pub mod Steps
+pub mod Tells
+pub mod Versions
+pub mod Whole

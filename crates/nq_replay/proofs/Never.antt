@@ -3,9 +3,9 @@ use Rattle.std.proofs.Common.{◌≡◌, inl, inr, ℕ, List, [], refl, ap, ◌�
 use Rattle.nq_io.specs.Calls.{fresh}
 use Rattle.nq_io.specs.Faults.{Rose}
 use Rattle.nq_keeper.specs.StoredKeeper.{StoredKeeper, GoesOn, empty_kept}
-use Rattle.nq_play.specs.Going.{said}
-use Rattle.nq_play.specs.declared.played.Played.{Played}
-use Rattle.nq_play.specs.Beginning.{NeverFails}
+use Rattle.nq_replay.specs.Going.{said}
+use Rattle.nq_replay.specs.declared.play.played.Played.{Played}
+use Rattle.nq_replay.specs.Beginning.{NeverFails}
 use Rattle.nq_replay.specs.Schedules.{HasReason}
 use Rattle.nq_world.specs.Playing.{CountsFaults}
 use Rattle.nq_world.specs.declared.stepped.Stepped.{Stepped}

@@ -2,11 +2,11 @@
 use Rattle.std.proofs.Common.{◌≡◌, ◌⊎◌, inl, inr, ℕ, List, Option, refl, sym, subst}
 use Rattle.nq_base.specs.declared.Event.{Event}
 use Rattle.nq_base.specs.declared.SkewBroken.{SkewBroken}
-use Rattle.nq_ending.specs.declared.Ending.{Ending}
+use Rattle.nq_base.specs.declared.ending.ending.Ending.{Ending}
 use Rattle.nq_model.specs.Stepped.{Stepped as Answer, done, no_packet, out_of_skew, too_many_events, too_many_packets}
-use Rattle.nq_play.specs.Going.{Comes, StoppedAt}
-use Rattle.nq_play.specs.Playing.{Ended, play, ran, stopped}
-use Rattle.nq_play.specs.declared.played.Played.{Played}
+use Rattle.nq_replay.specs.Going.{Comes, StoppedAt}
+use Rattle.nq_replay.specs.Playing.{Ended, play, ran, stopped}
+use Rattle.nq_replay.specs.declared.play.played.Played.{Played}
 use Rattle.nq_replay.specs.Ending.{EndsText, IsUnlessFault}
 use Rattle.nq_replay.specs.Replay.{FaultyLine, Passes, Runs, Stops}
 use Rattle.nq_replay.specs.Schedules.{EndsPlayed, TellsStop}

@@ -2,11 +2,11 @@
 use Rattle.std.proofs.Common.{◌≡◌, inl, inr, ℕ, List, Option, refl, subst}
 use Rattle.nq_base.specs.declared.Entry.{Entry}
 use Rattle.nq_base.specs.declared.Event.{Event}
-use Rattle.nq_ending.specs.declared.Ending.{Ending}
+use Rattle.nq_base.specs.declared.ending.ending.Ending.{Ending}
 use Rattle.nq_model.specs.Kept.{Kept}
-use Rattle.nq_play.specs.Going.{Comes, RanTo}
-use Rattle.nq_play.specs.Playing.{Ended, beginning, ran, stopped}
-use Rattle.nq_play.specs.declared.played.Played.{Played}
+use Rattle.nq_replay.specs.Going.{Comes, RanTo}
+use Rattle.nq_replay.specs.Playing.{Ended, beginning, ran, stopped}
+use Rattle.nq_replay.specs.declared.play.played.Played.{Played}
 use Rattle.nq_replay.proofs.Outcomes.{stop_ends}
 use Rattle.nq_replay.specs.Ending.{CountsKeeper}
 use Rattle.nq_replay.specs.Schedules.{EndsOver, IsReason, KeepsPlayed, PrintsEntries, TellsStop, TellsWhy}

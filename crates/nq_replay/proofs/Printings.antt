@@ -1,6 +1,6 @@
 -- How printing bytes ends.
 use Rattle.std.proofs.Common.{◌≡◌, ◌⊎◌, ℕ, List, Option, inl, inr, refl}
-use Rattle.nq_ending.specs.declared.Ending.{Ending}
+use Rattle.nq_base.specs.declared.ending.ending.Ending.{Ending}
 use Rattle.nq_replay.specs.Schedules.{PrintsBytes}
 
 -- all was printed, or the sink failed, or memory was wanting

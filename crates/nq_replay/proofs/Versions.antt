@@ -3,8 +3,8 @@ use Rattle.std.proofs.Common.{◌≡◌, ◌≤◌, ◌⊎◌, inl, inr, ℕ, �
 use Rattle.std.proofs.lemmas.Grind.{reverse_onto}
 use Rattle.std.proofs.lemmas.List.Elements.{All-nil, All-cons}
 use Rattle.std.specs.List.{All, AllByRecursion}
-use Rattle.law_versions.proofs.FirstRuns.{first-tells}
-use Rattle.law_versions.specs.Versions.{IsOfFirst}
+use Rattle.nq_replay.proofs.FirstRuns.{first-tells}
+use Rattle.nq_replay.specs.Versions.{IsOfFirst}
 use Rattle.nq_base.specs.Plain.{plain}
 use Rattle.nq_base.specs.declared.Call.{Call}
 use Rattle.nq_base.specs.declared.Entry.{Entry}
@@ -18,11 +18,11 @@ use Rattle.nq_model.specs.Journal.{Each}
 use Rattle.nq_model.specs.Kept.{Kept}
 use Rattle.nq_model.specs.Stepped.{most_events, stepped}
 use Rattle.nq_model.specs.World.{run}
-use Rattle.nq_play.proofs.Ending.{Ends, Keeps, ends-answered, keeps-flow, keeps-repeated, keeps-round}
-use Rattle.nq_play.proofs.Lawfully.{played-runs-are-lawful}
-use Rattle.nq_play.specs.Going.{Comes, RanTo}
-use Rattle.nq_play.specs.Playing.{Ended, Played as Due, at_line, beginning, play, play_event, play_line, play_lines, play_round, ran, refused, stopped, took}
-use Rattle.nq_play.specs.declared.played.Played.{Played}
+use Rattle.nq_replay.proofs.Ending.{Ends, Keeps, ends-answered, keeps-flow, keeps-repeated, keeps-round}
+use Rattle.nq_replay.proofs.Lawfully.{played-runs-are-lawful}
+use Rattle.nq_replay.specs.Going.{Comes, RanTo}
+use Rattle.nq_replay.specs.Playing.{Ended, Played as Due, at_line, beginning, play, play_event, play_line, play_lines, play_round, ran, refused, stopped, took}
+use Rattle.nq_replay.specs.declared.play.played.Played.{Played}
 use Rattle.nq_replay.specs.Schedules.{IsReady}
 use Rattle.nq_script.specs.Calls.{HasCall}
 use Rattle.nq_script.specs.Lines.{HasEvent, SpellsLine}

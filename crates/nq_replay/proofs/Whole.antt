@@ -1,11 +1,11 @@
 -- What reading a schedule and replaying it come to together.
 use Rattle.std.proofs.Common.{◌≡◌, ◌⊎◌, ◌<◌, ◌≤◌, ℕ, List, Option, Some, Err, inl, inr, refl, sym, subst, arith, length}
-use Rattle.nq_ending.specs.declared.Ending.{Ending}
+use Rattle.nq_base.specs.declared.ending.ending.Ending.{Ending}
 use Rattle.nq_io.specs.Faults.{Rose}
 use Rattle.nq_io.specs.Whole.{IsAll}
 use Rattle.nq_model.specs.Kept.{Kept}
-use Rattle.nq_play.proofs.Lawfully.{played-runs-are-lawful}
-use Rattle.nq_play.specs.Playing.{Ended, play, ran, stopped}
+use Rattle.nq_replay.proofs.Lawfully.{played-runs-are-lawful}
+use Rattle.nq_replay.specs.Playing.{Ended, play, ran, stopped}
 use Rattle.nq_replay.proofs.Endings.{told_text}
 use Rattle.nq_replay.proofs.Never.{none_rose}
 use Rattle.nq_replay.proofs.Outcomes.{ends_done, ends_faulty, ends_passing, ends_skew, is_due, text_of_schedule}

@@ -1,7 +1,7 @@
 -- What reading a schedule comes to. The names of what stands in the source and in the sink before and after, and of the counts of
 -- faults, are those of `Ending`.
 use Rattle.std.specs.Prelude.{◌≡◌, ℕ, List, Option, Result, Ok, Err}
-use Rattle.nq_ending.specs.declared.Ending.{Ending}
+use Rattle.nq_base.specs.declared.ending.ending.Ending.{Ending}
 use Rattle.nq_io.specs.Faults.{Rose}
 use Rattle.nq_io.specs.Whole.{TakesSome}
 use Rattle.nq_replay.specs.Ending.{IsUnlessFault}

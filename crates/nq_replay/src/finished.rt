@@ -1,6 +1,6 @@
 //! What a command over a keeper gives back.
 
-use nq_ending::Ending;
+use nq_base::ending::Ending;
 
 /// What a command over a keeper gives back: how it ended, and the keeper.
 #[derive(Drop)]

@@ -3,14 +3,14 @@
 ghost use Rattle.std.specs.Prelude.{◌≡◌, ◌<◌, ◌≤◌, ◌^◌, ◌+◌, ℕ, List, IfOk, Some, length, string_bytes};
 ghost use Rattle.nq_rules.specs.Verdict.{Fault, IsVerdict};
 ghost use Rattle.nq_journal.specs.Fault.{IsFaultyAt, IsJournal};
-ghost use Rattle.nq_ending.specs.declared.Ending.{Ending};
+ghost use Rattle.nq_base.specs.declared.ending.ending.Ending.{Ending};
 ghost use Rattle.nq_replay.specs.Ending.{IsUnlessFault};
 ghost use Rattle.nq_replay.specs.Judging.{IsSaidUnlessFault, Judges, JudgesText, TellsVerdict, no_line};
 
 use crate::printing::{put_line, script_text, tell_over};
 use nq_base::NoMemory;
+use nq_base::ending::Ending;
 use nq_check::{Judged, Rule, check};
-use nq_ending::Ending;
 use nq_io::{Put, Sink, Source, Whole, read_all};
 use nq_journal::{JournalFault, parse};
 use std::alloc::Global;

@@ -1,13 +1,16 @@
 //! Reading and playing schedules, and judging journals: what is read, played and printed, and how it ends.
 #![tactic(auto)]
 
+pub mod asides;
 mod finished;
 mod judging;
 mod parts;
+pub mod play;
 mod printing;
 mod reading;
 mod schedules;
 mod texts;
+pub mod version_one;
 
 pub use finished::Finished;
 pub use judging::judge;

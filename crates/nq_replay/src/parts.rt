@@ -5,7 +5,7 @@ ghost use Rattle.nq_journal.specs.Text.{journal_text};
 ghost use Rattle.nq_replay.specs.Schedules.{PrintsBytes};
 
 use nq_base::Journal;
-use nq_ending::Ending;
+use nq_base::ending::Ending;
 use nq_io::{Put, Sink};
 use nq_journal::{Printed, is_in, print};
 use std::alloc::Global;

@@ -4,8 +4,8 @@ ghost use Rattle.std.specs.Prelude.{◌≡◌, ◌<◌, IfOk, length, string_byt
 ghost use Rattle.nq_replay.specs.Ending.{TellsOver};
 ghost use Rattle.nq_replay.specs.Lines.{PrintsLine, script_line, skew_line, limit_line, last_line};
 
+use nq_base::ending::Ending;
 use nq_base::{NoMemory, SkewBroken};
-use nq_ending::Ending;
 use nq_io::{Put, Sink};
 use std::alloc::{AllocError, Global};
 

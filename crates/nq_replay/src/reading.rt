@@ -1,7 +1,7 @@
 //! Reading a schedule.
 
 ghost use Rattle.std.specs.Prelude.{◌≡◌, ◌<◌, ◌≤◌, ◌^◌, ℕ, List, Some, length, IfErr, IfOk, OnOk};
-ghost use Rattle.nq_ending.specs.declared.Ending.{Ending};
+ghost use Rattle.nq_base.specs.declared.ending.ending.Ending.{Ending};
 ghost use Rattle.nq_replay.specs.Ending.{IsFault};
 ghost use Rattle.nq_replay.specs.Reading.{IsReadAs, RefusedUnlessFault, Refuses, RefusesText};
 ghost use Rattle.nq_replay.specs.Replay.{OfInput};
@@ -12,7 +12,7 @@ ghost use Rattle.nq_script.specs.declared.lines.Line.{Line};
 
 use crate::printing::tell_over;
 use crate::schedules::tell_script;
-use nq_ending::Ending;
+use nq_base::ending::Ending;
 use nq_io::{Sink, Source, Whole, read_all};
 use nq_script::{Script, ScriptFault, parse};
 use std::alloc::Global;

@@ -7,11 +7,11 @@ use Rattle.std.specs.Prelude.{IfSome}
 use Rattle.std.proofs.lemmas.List.{map-append, take_all}
 use Rattle.std.proofs.lemmas.Option.{slice_get_read}
 use Rattle.std.specs.List.{slice_get}
-use Rattle.nq_ending.specs.declared.Ending.{Ending}
+use Rattle.nq_base.specs.declared.ending.ending.Ending.{Ending}
 use Rattle.nq_run.specs.Fates.{AsksFirst, FateTold}
 use Rattle.nq_storm.specs.Asking.{AsksFor}
 use Rattle.nq_storm.specs.Kinds.{IsFirstOf, IsNotOf, LackKind}
-use Rattle.nq_storm_rules.specs.Rules.{Rule}
+use Rattle.nq_storm.specs.Rules.{Rule}
 
 pub not_of : (told : Option Rule) (kind : ℕ) (is : Bool) → is ≡ false → IfSome told (λ rule. IsTrue is ↔ (rule.kind ≡ kind)) → IsNotOf told kind
 not_of None kind is off tests = tt

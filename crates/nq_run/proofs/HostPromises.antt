@@ -1,12 +1,12 @@
 -- What the commands of real hosts promise.
 use Rattle.std.proofs.Common.{◌≡◌, ◌∙◌, ℕ, List, Option, Some, sym, subst, arith}
 use Rattle.nq_command.specs.declared.Command.{Command}
-use Rattle.nq_ending.specs.Status.{status_of}
-use Rattle.nq_ending.specs.declared.Ending.{Ending}
+use Rattle.nq_base.specs.Status.{status_of}
+use Rattle.nq_base.specs.declared.ending.ending.Ending.{Ending}
 use Rattle.nq_hosts.specs.Serving.{EndsBy}
 use Rattle.nq_model.specs.Kept.{Kept}
-use Rattle.nq_node.specs.Clocks.{ClockTold}
-use Rattle.nq_node.specs.Links.{LinkTold}
+use Rattle.nq_hosts.specs.Clocks.{ClockTold}
+use Rattle.nq_hosts.specs.Links.{LinkTold}
 use Rattle.nq_run.specs.Hosting.{ServesFor}
 
 -- serving never ends for its words

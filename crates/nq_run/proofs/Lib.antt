@@ -1,9 +1,13 @@
-pub mod Finding
 pub mod Commands
+pub mod Finding
 pub mod HostPromises
 pub mod LoopPromises
+pub mod Making
+pub mod NamesPromises
+pub mod OtherKinds
+pub mod Playing
 pub mod Promises
 pub mod ReplayPromises
-pub mod StormPromises
+pub mod Saying
 pub mod StagedPromises
-pub mod NamesPromises
+pub mod StormPromises

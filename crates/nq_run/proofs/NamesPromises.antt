@@ -1,14 +1,14 @@
 -- What a run with lists prints is lawful and sound.
 use Rattle.std.proofs.Common.{◌≡◌, ◌∙◌, ℕ, List, Option, subst, sym}
-use Rattle.nq_ending.proofs.Ends.{one_end}
-use Rattle.nq_ending.specs.Status.{status_of}
-use Rattle.nq_ending.specs.declared.Ending.{Ending}
-use Rattle.nq_play.specs.Playing.{beginning}
+use Rattle.nq_base.proofs.Ends.{one_end}
+use Rattle.nq_base.specs.Status.{status_of}
+use Rattle.nq_base.specs.declared.ending.ending.Ending.{Ending}
+use Rattle.nq_replay.specs.Playing.{beginning}
 use Rattle.nq_replay.specs.Replay.{OfInput}
 use Rattle.nq_run.proofs.Promises.{faultless, holds_throughout}
 use Rattle.nq_run.specs.Naming.{EndsByInput, NamesFor, NamesLawfully}
 use Rattle.nq_naming.specs.Running.{EndsNames, PrintsNames, end_of}
-use Rattle.nq_names_run.proofs.Inner.{runs-inside}
+use Rattle.nq_name_server.proofs.Inner.{runs-inside}
 
 names_lawfully : (text : List ℕ) (held now : Option (List ℕ)) → PrintsNames text held now → NamesLawfully text held now
 names_lawfully text held now p =

@@ -9,10 +9,10 @@ use Rattle.nq_model.specs.Kept.{Kept}
 use Rattle.nq_model.specs.Skew.{IsWithinSkew}
 use Rattle.nq_model.specs.Sound.{IsSound}
 use Rattle.nq_model.specs.World.{run}
-use Rattle.nq_play.specs.Lawful.{IsLawful}
-use Rattle.nq_play.specs.Playing.{beginning}
-use Rattle.nq_promises.specs.Bounds.{KeepsBounds}
-use Rattle.nq_promises.specs.Headline.{HeadlineHolds}
+use Rattle.nq_replay.specs.Lawful.{IsLawful}
+use Rattle.nq_replay.specs.Playing.{beginning}
+use Rattle.nq_model.specs.Bounds.{KeepsBounds}
+use Rattle.nq_model.specs.Headline.{HeadlineHolds}
 use Rattle.nq_replay.specs.Replay.{OfInput, PrintsWithin}
 use Rattle.nq_run.specs.Promised.{HoldsThroughout, PrintsLawfully, PrintsSound}
 use Rattle.nq_script.specs.declared.heads.Head.{Head}

@@ -1,10 +1,10 @@
 -- What the commands of replays and of judgements promise.
 use Rattle.std.proofs.Common.{◌≡◌, ◌<◌, ◌≤◌, ℕ, List, Option, Some, Err, length, subst}
-use Rattle.nq_ending.proofs.Ends.{one_end}
-use Rattle.nq_ending.specs.Status.{status_of}
-use Rattle.nq_ending.specs.declared.Ending.{Ending}
+use Rattle.nq_base.proofs.Ends.{one_end}
+use Rattle.nq_base.specs.Status.{status_of}
+use Rattle.nq_base.specs.declared.ending.ending.Ending.{Ending}
 use Rattle.nq_model.specs.Kept.{Kept}
-use Rattle.nq_play.specs.Playing.{play}
+use Rattle.nq_replay.specs.Playing.{play}
 use Rattle.nq_replay.proofs.Whole.{over_by_input, over_ends, over_within, refused_by_input, refused_counts, refused_ends, refused_not_done}
 use Rattle.nq_replay.specs.Ending.{CountsKeeper, Ends, IsFault}
 use Rattle.nq_replay.specs.Judging.{Judges}

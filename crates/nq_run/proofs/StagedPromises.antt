@@ -1,14 +1,14 @@
 -- What a staged run prints is lawful and sound.
 use Rattle.std.proofs.Common.{◌≡◌, ℕ, List, Option, subst}
-use Rattle.nq_ending.proofs.Ends.{one_end}
-use Rattle.nq_ending.specs.Status.{status_of}
-use Rattle.nq_ending.specs.declared.Ending.{Ending}
-use Rattle.nq_play.specs.Playing.{beginning}
+use Rattle.nq_base.proofs.Ends.{one_end}
+use Rattle.nq_base.specs.Status.{status_of}
+use Rattle.nq_base.specs.declared.ending.ending.Ending.{Ending}
+use Rattle.nq_replay.specs.Playing.{beginning}
 use Rattle.nq_replay.specs.Replay.{OfInput}
 use Rattle.nq_run.proofs.Promises.{faultless, holds_throughout}
 use Rattle.nq_run.specs.Staging.{EndsByInput, StagesFor, StagesLawfully}
 use Rattle.nq_staged.specs.Running.{EndsStaged, PrintsStaged, end_of}
-use Rattle.nq_staged_run.proofs.Inner.{runs-inside}
+use Rattle.nq_stage.proofs.Inner.{runs-inside}
 
 stages_lawfully : (text : List ℕ) (held now : Option (List ℕ)) → PrintsStaged text held now → StagesLawfully text held now
 stages_lawfully text held now p =

@@ -3,9 +3,9 @@ use Rattle.std.proofs.Common.{◌≡◌, ℕ, ◌<◌, List, ◌∷◌, ◌++◌
 use Rattle.std.proofs.Math.Seq.{get_or-append_seam}
 use Rattle.std.specs.Prelude.{All, IfSome, IsSomeAnd, ◌≢◌}
 use Rattle.nq_command.specs.declared.Command.{Command}
-use Rattle.nq_ending.proofs.Ends.{one_end}
-use Rattle.nq_ending.specs.Status.{status_of}
-use Rattle.nq_ending.specs.declared.Ending.{Ending}
+use Rattle.nq_base.proofs.Ends.{one_end}
+use Rattle.nq_base.specs.Status.{status_of}
+use Rattle.nq_base.specs.declared.ending.ending.Ending.{Ending}
 use Rattle.nq_model.specs.Kept.{Kept}
 use Rattle.nq_replay.specs.Ending.{CountsKeeper}
 use Rattle.nq_replay.specs.Lines.{PrintsLine, usage_line}
@@ -15,7 +15,7 @@ use Rattle.nq_run.specs.Storming.{DoesStorm, NeverRuns, RunsNothing, StormsFor, 
 use Rattle.nq_storm.specs.Heads.{storm_head}
 use Rattle.nq_storm.specs.Kinds.{IsFirstOf, LackKind, TellOthers}
 use Rattle.nq_storm.specs.Printed.{KeepsStorm, StormEnds}
-use Rattle.nq_storm_rules.specs.Rules.{Rule}
+use Rattle.nq_storm.specs.Rules.{Rule}
 
 -- a storm of the first fate of the kind did what its words say
 does_storm : (end : Ending) (kind start count : ℕ) (told : List (Option Rule)) (first : Option Rule) (held now : Option (List ℕ)) (w w' : ℕ) → IsFirstOf kind told first → StormEnds end start count first held now w w'

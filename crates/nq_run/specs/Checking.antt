@@ -1,8 +1,8 @@
 -- What the command of judgements does. The names of what stands in the source and in the sink before and after, and of the counts of
 -- faults, are those of `Replaying`.
 use Rattle.std.specs.Prelude.{◌≡◌, ◌<◌, ◌≤◌, ℕ, List, Option, Some, length}
-use Rattle.nq_ending.specs.Status.{status_of}
-use Rattle.nq_ending.specs.declared.Ending.{Ending}
+use Rattle.nq_base.specs.Status.{status_of}
+use Rattle.nq_base.specs.declared.ending.ending.Ending.{Ending}
 use Rattle.nq_journal.specs.Fault.{IsFaultyAt, IsJournal}
 use Rattle.nq_replay.specs.Ending.{IsUnlessFault}
 use Rattle.nq_replay.specs.Judging.{IsSaidUnlessFault, Judges}

@@ -1,9 +1,9 @@
 -- The fates that `run` is lent. Below, `old` is what they told before it and `new` is what they tell after it, in their order.
 use Rattle.std.specs.Prelude.{◌≡◌, ◌⊎◌, ℕ, List, ◌∷◌, ◌++◌, Option, All, IfSome}
-use Rattle.nq_ending.specs.declared.Ending.{Ending}
+use Rattle.nq_base.specs.declared.ending.ending.Ending.{Ending}
 use Rattle.nq_storm.specs.Asking.{AsksFor}
 use Rattle.nq_storm.specs.Kinds.{IsNotOf}
-use Rattle.nq_storm_rules.specs.Rules.{Rule}
+use Rattle.nq_storm.specs.Rules.{Rule}
 
 -- a fate: its rule, if it tells it, and how often it was asked
 pub record FateTold : Type 0 where

@@ -2,15 +2,15 @@
 -- tells them; `w` and `w'` are its counts of faults before and after, and `s` and `s'` are the source's.
 use Rattle.std.specs.Prelude.{◌≡◌, ℕ, List, Option, Some}
 use Rattle.nq_base.specs.declared.Who.{Who}
-use Rattle.nq_calls.specs.Lines.{AreCalls}
-use Rattle.nq_ending.specs.Status.{status_of}
-use Rattle.nq_ending.specs.declared.Ending.{Ending}
-use Rattle.nq_hosts.specs.Leaving.{LeavesServing}
+use Rattle.nq_hosts.specs.Lines.{AreCalls}
+use Rattle.nq_base.specs.Status.{status_of}
+use Rattle.nq_base.specs.declared.ending.ending.Ending.{Ending}
+use Rattle.nq_hosts.specs.ServerLeaving.{LeavesServing}
 use Rattle.nq_hosts.specs.Serving.{EndsBy as ServesBy, Tells}
 use Rattle.nq_model.specs.Kept.{Kept}
-use Rattle.nq_node.specs.Clocks.{ClockTold}
-use Rattle.nq_node.specs.Links.{LinkTold}
-use Rattle.nq_user.specs.Using.{EndsBy as UsesBy, Uses}
+use Rattle.nq_hosts.specs.Clocks.{ClockTold}
+use Rattle.nq_hosts.specs.Links.{LinkTold}
+use Rattle.nq_hosts.specs.Using.{EndsBy as UsesBy, Uses}
 
 -- A server over this very keeper took its turns, or ended before, and this keeper was left; the status is that of the end, which has its
 -- cause. Where the keeper told what it kept at first, whatever a stop at any moment leaves is that, or what was kept after a prefix of the

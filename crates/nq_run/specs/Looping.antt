@@ -4,8 +4,8 @@
 use Rattle.std.specs.Prelude.{◌≡◌, ◌⊎◌, ℕ, List, Option, Some, None}
 use Rattle.nq_base.specs.declared.Event.{Event}
 use Rattle.nq_rules.specs.Verdict.{verdict}
-use Rattle.nq_ending.specs.Status.{status_of}
-use Rattle.nq_ending.specs.declared.Ending.{Ending}
+use Rattle.nq_base.specs.Status.{status_of}
+use Rattle.nq_base.specs.declared.ending.ending.Ending.{Ending}
 use Rattle.nq_io.specs.Faults.{Rose}
 use Rattle.nq_io.specs.Told.{with_end}
 use Rattle.nq_loop.specs.Looped.{IsWhole, LoopEnds, LoopsUnlessFault}
@@ -13,9 +13,9 @@ use Rattle.nq_loop.specs.Printed.{loop_text}
 use Rattle.nq_loop.specs.Whole.{loop_head}
 use Rattle.nq_model.specs.Kept.{Kept}
 use Rattle.nq_model.specs.World.{run}
-use Rattle.nq_node.specs.Clocks.{ClockTold}
-use Rattle.nq_node.specs.Links.{LinkTold}
-use Rattle.nq_play.specs.Playing.{beginning}
+use Rattle.nq_hosts.specs.Clocks.{ClockTold}
+use Rattle.nq_hosts.specs.Links.{LinkTold}
+use Rattle.nq_replay.specs.Playing.{beginning}
 use Rattle.nq_replay.specs.Ending.{CountsKeeper}
 use Rattle.nq_replay.specs.Replay.{kept_of}
 use Rattle.nq_run.specs.Promised.{HoldsThroughout}

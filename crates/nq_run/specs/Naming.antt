@@ -3,12 +3,12 @@
 -- `r'` are the source's counts of faults before and after, and `w` and `w'` the sink's.
 use Rattle.std.specs.Prelude.{◌≡◌, ◌≤◌, ◌<◌, ℕ, List, Option, Some, None, length}
 use Rattle.nq_base.specs.declared.SkewBroken.{SkewBroken}
-use Rattle.nq_ending.specs.Status.{status_of}
-use Rattle.nq_ending.specs.declared.Ending.{Ending}
+use Rattle.nq_base.specs.Status.{status_of}
+use Rattle.nq_base.specs.declared.ending.ending.Ending.{Ending}
 use Rattle.nq_io.specs.Told.{with_end}
 use Rattle.nq_model.specs.Stepped.{out_of_skew}
 use Rattle.nq_model.specs.World.{run}
-use Rattle.nq_play.specs.Playing.{beginning}
+use Rattle.nq_replay.specs.Playing.{beginning}
 use Rattle.nq_replay.specs.Ending.{IsUnlessFault}
 use Rattle.nq_replay.specs.Replay.{OfInput}
 use Rattle.nq_replay.specs.declared.Bound.{Bound}

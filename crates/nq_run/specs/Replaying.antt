@@ -3,8 +3,8 @@
 -- the source's counts of faults before and after, `w` and `w'` the sink's, and `k` and `k'` the keeper's. `told` is what is kept after it,
 -- where the keeper tells it.
 use Rattle.std.specs.Prelude.{◌≡◌, ℕ, List, Option}
-use Rattle.nq_ending.specs.Status.{status_of}
-use Rattle.nq_ending.specs.declared.Ending.{Ending}
+use Rattle.nq_base.specs.Status.{status_of}
+use Rattle.nq_base.specs.declared.ending.ending.Ending.{Ending}
 use Rattle.nq_model.specs.Kept.{Kept}
 use Rattle.nq_replay.specs.Ending.{CountsKeeper, Ends, EndsByInput}
 use Rattle.nq_replay.specs.Replay.{OfInput}

@@ -3,12 +3,12 @@
 -- the source's counts of faults before and after, and `w` and `w'` the sink's.
 use Rattle.std.specs.Prelude.{◌≡◌, ◌≤◌, ◌<◌, ℕ, List, Option, Some, None, length}
 use Rattle.nq_base.specs.declared.SkewBroken.{SkewBroken}
-use Rattle.nq_ending.specs.Status.{status_of}
-use Rattle.nq_ending.specs.declared.Ending.{Ending}
+use Rattle.nq_base.specs.Status.{status_of}
+use Rattle.nq_base.specs.declared.ending.ending.Ending.{Ending}
 use Rattle.nq_io.specs.Told.{with_end}
 use Rattle.nq_model.specs.Stepped.{out_of_skew}
 use Rattle.nq_model.specs.World.{run}
-use Rattle.nq_play.specs.Playing.{beginning}
+use Rattle.nq_replay.specs.Playing.{beginning}
 use Rattle.nq_replay.specs.Ending.{IsUnlessFault}
 use Rattle.nq_replay.specs.Replay.{OfInput}
 use Rattle.nq_replay.specs.declared.Bound.{Bound}
@@ -16,7 +16,7 @@ use Rattle.nq_rules.specs.Verdict.{verdict}
 use Rattle.nq_run.specs.Promised.{HoldsThroughout}
 use Rattle.nq_script.specs.declared.heads.Head.{Head}
 use Rattle.nq_staged.specs.Running.{EndsStaged, FaultyStaged, IsPrinted, PassesStaged, RunsStaged, StopsStaged, end_of}
-use Rattle.nq_staged_run.specs.declared.StagedEvent.{StagedEvent}
+use Rattle.nq_stage.specs.declared.run.event.StagedEvent.{StagedEvent}
 
 -- The text is a staged schedule, and playing it printed the schedule of the inner world, the journal of its run, and what was counted.
 -- The inner world is the run of the inner events, the headline holds at each moment of that run, and nothing in its journal is at fault.

@@ -5,13 +5,13 @@ use Rattle.std.specs.Prelude.{◌≡◌, ◌⊎◌, ℕ, List, Option, Some, Non
 use Rattle.nq_base.specs.declared.Event.{Event}
 use Rattle.nq_rules.specs.Verdict.{verdict}
 use Rattle.nq_command.specs.declared.Command.{Command}
-use Rattle.nq_ending.specs.Status.{status_of}
-use Rattle.nq_ending.specs.declared.Ending.{Ending}
+use Rattle.nq_base.specs.Status.{status_of}
+use Rattle.nq_base.specs.declared.ending.ending.Ending.{Ending}
 use Rattle.nq_io.specs.Faults.{Rose}
 use Rattle.nq_io.specs.Told.{with_end}
 use Rattle.nq_model.specs.Kept.{Kept}
 use Rattle.nq_model.specs.World.{run}
-use Rattle.nq_play.specs.Playing.{beginning}
+use Rattle.nq_replay.specs.Playing.{beginning}
 use Rattle.nq_replay.specs.Ending.{CountsKeeper, IsFault}
 use Rattle.nq_replay.specs.Lines.{PrintsLine, usage_line}
 use Rattle.nq_replay.specs.Replay.{kept_of}
@@ -21,7 +21,7 @@ use Rattle.nq_storm.specs.Heads.{storm_head}
 use Rattle.nq_storm.specs.Kinds.{IsFirstOf, LackKind, TellOthers}
 use Rattle.nq_storm.specs.Printed.{StormEnds, storm_text}
 use Rattle.nq_storm.specs.Whole.{IsWholeStorm}
-use Rattle.nq_storm_rules.specs.Rules.{Rule}
+use Rattle.nq_storm.specs.Rules.{Rule}
 
 -- words that say none of the commands that are run, or a storm for which each fate that tells its rule is of another kind
 abbrev pub RunsNothing : Option Command → (told : List (Option Rule)) → Type 0

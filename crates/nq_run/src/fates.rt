@@ -3,7 +3,7 @@
 ghost use Rattle.std.specs.Prelude.{◌≡◌, ◌<◌, ◌↔◌, All, IfSome, IsNone, IsTrue, length, map, slice_get, take};
 ghost use Rattle.nq_storm.specs.Kinds.{IsNotOf, LackKind};
 
-use nq_storm_rules::Fate;
+use nq_storm::fates::Fate;
 
 /// Where the first of these fates stands that is of this kind, if one is.
 pub(crate) fn place_of(fates: &[Box<dyn Fate>], kind: u8) -> Option<usize>

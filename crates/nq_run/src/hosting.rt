@@ -1,13 +1,13 @@
 //! The command `serve`.
 
 ghost use Rattle.std.specs.Prelude.{◌≤◌};
-ghost use Rattle.nq_node.specs.Clocks.{clock_told};
-ghost use Rattle.nq_node.specs.Links.{link_told};
+ghost use Rattle.nq_hosts.specs.Clocks.{clock_told};
+ghost use Rattle.nq_hosts.specs.Links.{link_told};
 ghost use Rattle.nq_run.specs.Hosting.{ServesFor};
 
 use crate::ran::Ran;
 use nq_clock::Clock;
-use nq_hosts::serve;
+use nq_hosts::server::serve;
 use nq_io::Sink;
 use nq_keeper::Keeper;
 use nq_link::Link;

@@ -2,6 +2,7 @@
 #![tactic(auto)]
 
 mod checking;
+pub mod disk;
 mod fates;
 mod hosting;
 mod looping;
@@ -14,6 +15,6 @@ mod top;
 mod usage;
 
 pub use nq_command::{Command, NoMemory, Words};
-pub use nq_storm_rules::{CutFate, Fate, HostileFate, LossyFate, SteadyFate};
+pub use nq_storm::fates::{CutFate, Fate, HostileFate, LossyFate, SteadyFate};
 pub use ran::Ran;
 pub use top::run;

@@ -3,7 +3,7 @@
 ghost use Rattle.std.specs.Prelude.{◌≡◌, ◌+◌, ◌≤◌, Some, length, map};
 ghost use Rattle.nq_keeper.specs.StoredKeeper.{empty_kept};
 ghost use Rattle.nq_loop.specs.Sending.{told_of};
-ghost use Rattle.nq_node.specs.Clocks.{clock_told};
+ghost use Rattle.nq_hosts.specs.Clocks.{clock_told};
 ghost use Rattle.nq_run.specs.Looping.{LoopsFor};
 
 use crate::ran::Ran;

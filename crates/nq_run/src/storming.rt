@@ -10,8 +10,8 @@ use crate::ran::Ran;
 use crate::usage::usage;
 use nq_io::Sink;
 use nq_keeper::Keeper;
+use nq_storm::fates::Fate;
 use nq_storm::run_storm;
-use nq_storm_rules::Fate;
 use std::alloc::Global;
 
 /// Runs a storm of the first fate of a kind, if there is one, over a keeper that keeps nothing yet.

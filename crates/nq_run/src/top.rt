@@ -3,12 +3,12 @@
 ghost use Rattle.std.specs.Prelude.{◌≡◌, ◌+◌, ℕ, Some, false, true, length, map};
 ghost use Rattle.nq_command.specs.Commands.{IsCheck, IsNames, IsReplay, IsStaged, command_of};
 ghost use Rattle.nq_command.specs.declared.Command.{Command};
-ghost use Rattle.nq_ending.specs.Status.{status_of};
-ghost use Rattle.nq_ending.specs.declared.Ending.{Ending};
+ghost use Rattle.nq_base.specs.Status.{status_of};
+ghost use Rattle.nq_base.specs.declared.ending.ending.Ending.{Ending};
 ghost use Rattle.nq_keeper.specs.StoredKeeper.{empty_kept};
 ghost use Rattle.nq_loop.specs.Sending.{told_of};
-ghost use Rattle.nq_node.specs.Clocks.{clock_told};
-ghost use Rattle.nq_node.specs.Links.{link_told};
+ghost use Rattle.nq_hosts.specs.Clocks.{clock_told};
+ghost use Rattle.nq_hosts.specs.Links.{link_told};
 ghost use Rattle.nq_replay.specs.Lines.{PrintsLine, usage_line};
 ghost use Rattle.nq_run.specs.Checking.{ChecksFor};
 ghost use Rattle.nq_run.specs.Fates.{fate_told};
@@ -33,11 +33,11 @@ use crate::usage::usage;
 use nq_base::{Host, Inc, Who};
 use nq_clock::Clock;
 use nq_command::{Command, Words};
+use nq_hosts::user::{Plan, client};
 use nq_io::{Sink, Source};
 use nq_keeper::Keeper;
 use nq_link::Link;
-use nq_storm_rules::Fate;
-use nq_user::{Plan, client};
+use nq_storm::fates::Fate;
 use std::alloc::Global;
 
 // The most bytes of a schedule, a journal or a list of calls that are read.

@@ -1,11 +1,11 @@
 //! Words that say nothing that can be run.
 
 ghost use Rattle.std.specs.Prelude.{◌≡◌};
-ghost use Rattle.nq_ending.specs.Status.{status_of};
-ghost use Rattle.nq_ending.specs.declared.Ending.{Ending};
+ghost use Rattle.nq_base.specs.Status.{status_of};
+ghost use Rattle.nq_base.specs.declared.ending.ending.Ending.{Ending};
 ghost use Rattle.nq_replay.specs.Lines.{PrintsLine, usage_line};
 
-use nq_ending::Ending;
+use nq_base::ending::Ending;
 use nq_io::Sink;
 use nq_replay::put_line;
 

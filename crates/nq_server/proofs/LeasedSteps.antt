@@ -10,9 +10,9 @@ use Rattle.nq_base.specs.declared.Row.{Row}
 use Rattle.nq_base.specs.declared.Want.{Want}
 use Rattle.nq_base.specs.declared.Who.{Who}
 use Rattle.nq_datagrams.specs.Sent.{sent}
-use Rattle.nq_evict.specs.declared.NoticeTo.{NoticeTo}
-use Rattle.nq_evict.specs.declared.NoticeTo.TheVariants.{Others, Own}
-use Rattle.nq_evict.specs.Telling.{told_rows, own_rows}
+use Rattle.nq_lease.specs.declared.evict.notifying.NoticeTo.{NoticeTo}
+use Rattle.nq_lease.specs.declared.evict.notifying.NoticeTo.TheVariants.{Others, Own}
+use Rattle.nq_lease.specs.Telling.{told_rows, own_rows}
 use Rattle.nq_base.specs.Entries.{EntryList}
 use Rattle.nq_model.specs.Ask.{Reply as Told, ask, ask_past, ask_freely, ask_for, renew, share_again, put_off, put_off_by_own, granted, free, no_lease, caching_row, sharing_row, conflicts, shares, term_of}
 use Rattle.nq_model.specs.Kept.{File, Kept}

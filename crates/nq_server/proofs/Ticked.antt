@@ -11,8 +11,8 @@ use Rattle.nq_base.specs.declared.RowKey.{RowKey}
 use Rattle.nq_boot.specs.Booting.{LeavesThen, ended_at, opened_by}
 use Rattle.nq_boot.specs.Recovery.{Recovery}
 use Rattle.nq_datagrams.specs.Sent.{FitsPacket}
-use Rattle.nq_expire.specs.Ending.{Fences, fence_of, fenced, fenced_if, has_ended, table_after}
-use Rattle.nq_expire.specs.declared.Fence.{Fence}
+use Rattle.nq_lease.specs.Ending.{Fences, fence_of, fenced, fenced_if, has_ended, table_after}
+use Rattle.nq_lease.specs.declared.expire.ending.Fence.{Fence}
 use Rattle.nq_base.specs.Entries.{EntryList}
 use Rattle.nq_keeper.specs.declared.KeepFault.{KeepFault}
 use Rattle.nq_keeper.specs.declared.KeepFault.TheVariants.{Failed, Memory}

@@ -7,8 +7,8 @@ use Rattle.nq_base.specs.declared.Question.{Question}
 use Rattle.nq_base.specs.declared.Row.{Row}
 use Rattle.nq_base.specs.declared.Want.{Want}
 use Rattle.nq_base.specs.declared.Who.{Who}
-use Rattle.nq_evict.specs.declared.NoticeTo.{NoticeTo}
-use Rattle.nq_evict.specs.declared.NoticeTo.TheVariants.{Others, Own}
+use Rattle.nq_lease.specs.declared.evict.notifying.NoticeTo.{NoticeTo}
+use Rattle.nq_lease.specs.declared.evict.notifying.NoticeTo.TheVariants.{Others, Own}
 use Rattle.nq_base.specs.Entries.{EntryList}
 use Rattle.nq_model.specs.Ask.{conflicts}
 use Rattle.nq_model.specs.Kept.{File}

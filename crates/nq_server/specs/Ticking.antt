@@ -6,8 +6,8 @@ use Rattle.nq_base.specs.declared.Entry.{Entry}
 use Rattle.nq_base.specs.declared.Row.{Row}
 use Rattle.nq_boot.specs.Booting.{opened_by}
 use Rattle.nq_boot.specs.Recovery.{Recovery}
-use Rattle.nq_expire.specs.Ending.{fence_of, fenced, fenced_if}
-use Rattle.nq_expire.specs.declared.Fence.{Fence}
+use Rattle.nq_lease.specs.Ending.{fence_of, fenced, fenced_if}
+use Rattle.nq_lease.specs.declared.expire.ending.Fence.{Fence}
 use Rattle.nq_io.specs.Faults.{Rose}
 use Rattle.nq_keeper.specs.Keeping.{StaysOrEnds}
 use Rattle.nq_keeper.specs.declared.KeepFault.{KeepFault}

@@ -30,9 +30,9 @@ use crate::ticks::halt_of;
 use crate::verdicts::{answer_to, drop_reason};
 use nq_base::{Access, Block, Decided, FileId, Heads, Journal, NoMemory, Request, Verdict, Who};
 use nq_datagrams::BegunReply;
-use nq_evict::{NoticeTo, notices};
 use nq_files::decide;
 use nq_keeper::{KeepFault, Keeper};
+use nq_lease::evict::{NoticeTo, notices};
 use nq_wire::Outbox;
 use std::alloc::Global;
 

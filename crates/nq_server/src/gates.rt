@@ -9,7 +9,7 @@ ghost use Rattle.nq_server.specs.State.{beside_of, phase_of, server_of};
 
 use crate::state::{Phase, State};
 use nq_base::{Access, FileId, Gate, Heads, Mode, Request, Row, RowKey, Who};
-use nq_grant::conflict;
+use nq_lease::grant::conflict;
 
 /// The file that a request is about to change.
 pub(crate) fn file_to_change(request: &Request) -> Option<FileId>

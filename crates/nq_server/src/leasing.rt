@@ -2,7 +2,7 @@
 
 ghost use Rattle.std.specs.Prelude.{◌≡◌, ◌<◌, ◌≤◌, ◌+◌, ◌^◌, ℕ, OnOk, OnErr, IfOk};
 ghost use Rattle.std.specs.Option.{ForSome};
-ghost use Rattle.nq_evict.specs.Telling.{told_rows};
+ghost use Rattle.nq_lease.specs.Telling.{told_rows};
 ghost use Rattle.nq_files.specs.Reading.{read_out};
 ghost use Rattle.nq_base.specs.Entries.{EntryList};
 ghost use Rattle.nq_keeper.specs.Keeping.{LeavesOne};
@@ -25,11 +25,11 @@ use nq_base::{
     Question, Refusal, Reply, RowKey, Want, Who,
 };
 use nq_datagrams::BegunReply;
-use nq_evict::NoticeTo;
 use nq_files::{ReadOut, read_block};
-use nq_grant::{ask, conflict};
 use nq_keeper::{KeepFault, Keeper};
 use nq_lease::Table;
+use nq_lease::evict::NoticeTo;
+use nq_lease::grant::{ask, conflict};
 use nq_wire::{LONGEST_RESULTS, Outbox};
 use std::alloc::Global;
 

@@ -5,7 +5,7 @@ ghost use Rattle.nq_base.specs.declared.Refusal.{Refusal as Status};
 ghost use Rattle.nq_base.specs.declared.Reply.{Reply as Answer};
 ghost use Rattle.nq_datagrams.specs.Sent.{sent};
 ghost use Rattle.nq_datagrams.specs.Told.{told_error};
-ghost use Rattle.nq_evict.specs.Telling.{told_rows};
+ghost use Rattle.nq_lease.specs.Telling.{told_rows};
 ghost use Rattle.nq_model.specs.Message.{error as error_to, reply as reply_to};
 ghost use Rattle.nq_model.specs.Profile.{xid_end};
 ghost use Rattle.nq_model.specs.Server.{notices as notices_of, to_host};
@@ -16,8 +16,8 @@ ghost use Rattle.nq_wire.specs.Reply.{results_len};
 use crate::received::{Halt, Taken};
 use nq_base::{FileId, Host, NoMemory, Party, Refusal, Reply, Who};
 use nq_datagrams::{BegunReply, ErrorReply, error_bytes, reply_bytes};
-use nq_evict::{NoticeTo, notices};
 use nq_lease::Table;
+use nq_lease::evict::{NoticeTo, notices};
 use nq_wire::Outbox;
 use std::alloc::Global;
 

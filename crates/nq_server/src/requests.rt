@@ -23,8 +23,8 @@ use crate::received::{Halt, Reason, Taken};
 use crate::replying::{self, Caller, refuse};
 use crate::state::{Phase, State};
 use nq_base::{Host, HostRow, Journal, Refusal, Reply, Request, Who};
-use nq_evict::vacated;
 use nq_keeper::Keeper;
+use nq_lease::evict::vacated;
 use nq_wire::Outbox;
 use std::alloc::Global;
 

@@ -16,9 +16,9 @@ use crate::received::{Halt, Taken};
 use crate::state::{Phase, State};
 use nq_base::{Entry, Journal, Ticks};
 use nq_boot::{Finish, Recovering, Serving};
-use nq_expire::{Fence, due, end_reading, end_writing};
 use nq_keeper::{KeepFault, Keeper};
 use nq_lease::Table;
+use nq_lease::expire::{Fence, due, end_reading, end_writing};
 
 /// What a keeper's fault means for a step.
 pub(crate) fn halt_of(fault: KeepFault) -> Halt

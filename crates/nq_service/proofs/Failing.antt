@@ -1,9 +1,9 @@
 -- When serving fails, and when a disk is refused.
 use Rattle.std.proofs.Common.{◌≡◌, ◌≤◌, ℕ, List, Option, Some, None, Result, Ok, Err, refl, ⊎_elim, arith}
 use Rattle.std.specs.Option.{ForSome}
-use Rattle.nq_ending.specs.Status.{status_of}
-use Rattle.nq_ending.specs.declared.Ending.{Ending}
-use Rattle.nq_format.specs.Standing.{stands_as}
+use Rattle.nq_base.specs.Status.{status_of}
+use Rattle.nq_base.specs.declared.ending.ending.Ending.{Ending}
+use Rattle.nq_plan.specs.Standing.{stands_as}
 use Rattle.nq_hosts.specs.Serving.{EndsBy}
 use Rattle.nq_io.specs.Faults.{Rose}
 use Rattle.nq_model.specs.Kept.{Kept}

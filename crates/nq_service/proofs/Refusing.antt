@@ -1,8 +1,8 @@
 -- A disk that was not opened.
 use Rattle.std.proofs.Common.{◌≡◌, ℕ, List, Option, Some, Result, Err, inl, inr, refl, sym, ap, subst, ◌∙◌}
 use Rattle.std.specs.Option.{ForSome}
-use Rattle.nq_ending.specs.Status.{status_of}
-use Rattle.nq_ending.specs.declared.Ending.{Ending}
+use Rattle.nq_base.specs.Status.{status_of}
+use Rattle.nq_base.specs.declared.ending.ending.Ending.{Ending}
 use Rattle.nq_io.specs.Faults.{Rose}
 use Rattle.nq_service.specs.Serving.{IsNotOpened, StaysSame, TellsByte, first_wrong}
 use Rattle.nq_store.specs.Opening.{AnswersOpen, LeavesLike, SaysWrong, StaysRefused, TellsSettled, disk_of}

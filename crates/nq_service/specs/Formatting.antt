@@ -1,11 +1,11 @@
 -- What making an empty image does.
 use Rattle.std.specs.Prelude.{◌≡◌, ◌⊎◌, ℕ, List, Option}
 use Rattle.std.specs.Option.{ForSome}
-use Rattle.nq_ending.specs.Status.{status_of}
-use Rattle.nq_ending.specs.declared.Ending.{Ending}
-use Rattle.nq_format.specs.Formatted.{StandsForNothing, TellsNothing}
+use Rattle.nq_base.specs.Status.{status_of}
+use Rattle.nq_base.specs.declared.ending.ending.Ending.{Ending}
+use Rattle.nq_plan.specs.Formatted.{StandsForNothing, TellsNothing}
 use Rattle.nq_io.specs.Faults.{Rose}
-use Rattle.nq_redo.specs.Saying.{Each}
+use Rattle.nq_disk.specs.Saying.{Each}
 
 -- the disk and whatever a stop may leave of it stand for the state in which nothing is kept, where the disk told its bytes
 pub record IsEmpty {D : Type 0} (told : D → Option (List ℕ)) (faults : D → ℕ) (may_leave : D → List ℕ → Type 0) (code : ℕ) (disk left : D) : Type 0 where

@@ -1,2 +1,7 @@
+pub mod Emptying
 pub mod Formatting
+pub mod MountServing
+pub mod Opening
+pub mod Recent
+pub mod Refusing
 pub mod Serving

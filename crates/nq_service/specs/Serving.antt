@@ -4,17 +4,17 @@
 use Rattle.std.specs.Fmt.{decimal}
 use Rattle.std.specs.Option.{ForSome}
 use Rattle.std.specs.Prelude.{◌≡◌, ◌⊎◌, ◌++◌, ℕ, List, Option, Some, None, Result, Ok, Err, codes}
-use Rattle.nq_ending.specs.Status.{status_of}
-use Rattle.nq_ending.specs.declared.Ending.{Ending}
-use Rattle.nq_ending.specs.declared.Halt.{Halt}
-use Rattle.nq_format.specs.Standing.{stands_as}
-use Rattle.nq_hosts.specs.Leaving.{IsLeftInRuns, LeavesServing}
+use Rattle.nq_base.specs.Status.{status_of}
+use Rattle.nq_base.specs.declared.ending.ending.Ending.{Ending}
+use Rattle.nq_base.specs.declared.ending.halt.Halt.{Halt}
+use Rattle.nq_plan.specs.Standing.{stands_as}
+use Rattle.nq_hosts.specs.ServerLeaving.{IsLeftInRuns, LeavesServing}
 use Rattle.nq_hosts.specs.Serving.{EndsBy, Tells}
 use Rattle.nq_io.specs.Faults.{Rose}
 use Rattle.nq_model.specs.Kept.{Kept}
-use Rattle.nq_node.specs.Clocks.{ClockTold}
-use Rattle.nq_node.specs.Links.{LinkTold}
-use Rattle.nq_redo.specs.Saying.{Each}
+use Rattle.nq_hosts.specs.Clocks.{ClockTold}
+use Rattle.nq_hosts.specs.Links.{LinkTold}
+use Rattle.nq_disk.specs.Saying.{Each}
 use Rattle.nq_replay.specs.Lines.{PrintsLine}
 use Rattle.nq_store.specs.Opening.{TellsSettled}
 use Rattle.nq_store.specs.Storing.{AllStandFor, GoesOn, HasRisen, IsFresh, LeavesKept, StoredStore, content_of, faults_of, kept_on, kept_told}

@@ -3,8 +3,8 @@
 ghost use Rattle.nq_service.specs.Formatting.{Formats};
 
 use crate::serving::{Ended, ended_with};
+use nq_base::ending::Ending;
 use nq_disk::Disk;
-use nq_ending::Ending;
 use nq_store::format;
 
 /// Makes a disk an image in which nothing is kept, whatever it was. It takes no memory, and the status is 0; it is 6 only where the

@@ -11,7 +11,10 @@
 
 mod laws;
 mod messages;
+pub mod pool;
 mod reading;
+pub mod run;
+pub mod stager;
 mod writing;
 
 pub use laws::messages_are_read;

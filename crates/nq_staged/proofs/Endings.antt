@@ -1,7 +1,7 @@
 -- The end of a run whose input was read.
 use Rattle.std.proofs.Common.{◌≡◌, ℕ, List, Option, Some, inl, inr, refl, subst}
 use Rattle.std.specs.Option.{IfSome}
-use Rattle.nq_ending.specs.declared.Ending.{Ending}
+use Rattle.nq_base.specs.declared.ending.ending.Ending.{Ending}
 use Rattle.nq_io.specs.Whole.{IsAll, IsOver}
 use Rattle.nq_replay.specs.Ending.{IsFault, IsUnlessFault, TellsOver}
 use Rattle.nq_staged.specs.Running.{EndsStaged, EndsStagedText}

@@ -1,12 +1,12 @@
 -- What holds behind each event that was taken holds at the end: so all events of a staged schedule can be told in one.
 use Rattle.std.proofs.Common.{◌≡◌, ◌<◌, ◌≤◌, ℕ, ◌+◌, List, [], ◌∷◌, arith, length, zero, suc, Option, Some, None, refl, subst}
 use Rattle.std.specs.List.{AllByRecursion}
-use Rattle.nq_asides.proofs.Keeping.{Ends, Keeps, ends-answered, ends-packet, ends-then, keeps-repeated}
-use Rattle.nq_asides.specs.Text.{mixed}
+use Rattle.nq_replay.proofs.Keeping.{Ends, Keeps, ends-answered, ends-packet, ends-then, keeps-repeated}
+use Rattle.nq_replay.specs.Text.{mixed}
 use Rattle.nq_commit.specs.Playing.{PlaysOutside, StagedOver, stepped_outside}
 use Rattle.nq_model.specs.Kept.{Kept}
-use Rattle.nq_play.specs.Playing.{beginning}
-use Rattle.nq_play.specs.declared.Played.{Played as Went}
+use Rattle.nq_replay.specs.Playing.{beginning}
+use Rattle.nq_replay.specs.declared.play.played.Played.{Played as Went}
 use Rattle.nq_replay.specs.Texts.{IsTellable}
 use Rattle.nq_script.specs.Heads.{head_lines}
 use Rattle.nq_script.specs.Lines.{SpellsLine}
@@ -14,14 +14,14 @@ use Rattle.nq_script.specs.Schedule.{SpellsLines, SpellsSchedule}
 use Rattle.nq_script.specs.declared.heads.Head.{Head}
 use Rattle.nq_script.specs.declared.lines.Line.{Line}
 use Rattle.nq_staged.proofs.Tellable.{IsPlainly, run-all}
-use Rattle.nq_asides.specs.Going.{Comes, RanTo}
+use Rattle.nq_replay.specs.AsidesGoing.{Comes, RanTo}
 use Rattle.nq_staged.specs.Running.{IsTold}
 use Rattle.nq_staged.specs.declared.offer.Offer.{Offer}
 use Rattle.nq_base.specs.declared.Event.{Event}
-use Rattle.nq_staged_run.specs.declared.StagedEvent.{StagedEvent}
+use Rattle.nq_stage.specs.declared.run.event.StagedEvent.{StagedEvent}
 use Rattle.nq_model.specs.Stepped.{done, most_events}
 use Rattle.nq_model.specs.World.{Head as Beginning}
-use Rattle.nq_asides.specs.Playing.{Ended, Played, took, refused, at_line, ran, stopped}
+use Rattle.nq_replay.specs.AsidesPlaying.{Ended, Played, took, refused, at_line, ran, stopped}
 use Rattle.nq_staged.specs.Playing.{play, play_event, play_flow, play_lines, play_plain, play_round, play_ticks}
 
 pub keeps-ticks : (P : List StagedEvent → Type 0) (head : Beginning) (host count : ℕ) → host + count ≤ head.hosts

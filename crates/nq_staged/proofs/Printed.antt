@@ -8,16 +8,16 @@ use Rattle.nq_commit.specs.Playing.{PlaysOutside, StagedOver}
 use Rattle.nq_journal.specs.Text.{journal_text}
 use Rattle.nq_model.specs.Kept.{Kept}
 use Rattle.nq_model.specs.World.{Head as Beginning}
-use Rattle.nq_play.specs.Lawful.{IsLawful}
-use Rattle.nq_play.specs.Playing.{beginning}
+use Rattle.nq_replay.specs.Lawful.{IsLawful}
+use Rattle.nq_replay.specs.Playing.{beginning}
 use Rattle.nq_replay.proofs.Journals.{plain_text}
 use Rattle.nq_script.specs.Lines.{once}
 use Rattle.nq_script.specs.Schedule.{SpellsSchedule}
 use Rattle.nq_script.specs.declared.heads.Head.{Head}
 use Rattle.nq_staged.specs.Running.{IsPrinted, count_line, end_of}
-use Rattle.nq_staged_run.specs.Outer.{Counts}
-use Rattle.nq_staged_run.specs.Outside.{outside_run}
-use Rattle.nq_staged_run.specs.declared.StagedEvent.{StagedEvent}
+use Rattle.nq_stage.specs.Outer.{Counts}
+use Rattle.nq_stage.specs.Outside.{outside_run}
+use Rattle.nq_stage.specs.declared.run.event.StagedEvent.{StagedEvent}
 
 -- a world that plays a staged run keeps to the bounds of its inner run, and is within skew
 lawful : {K : Type 0} (head : Beginning) (events : List StagedEvent) (w : StagedOver K) (told : Option Kept) → PlaysOutside head events w told

@@ -6,17 +6,17 @@ use Rattle.nq_base.specs.declared.Event.{Event}
 use Rattle.nq_base.specs.declared.Party.{Party}
 use Rattle.nq_model.specs.Client.{Client}
 use Rattle.nq_model.specs.World.{Head, step}
-use Rattle.nq_pool.specs.Answering.{Answer, write, unstaged, own_stage, own_commit, staged, answered}
-use Rattle.nq_pool.specs.Bodies.{Bodies}
+use Rattle.nq_stage.specs.Answering.{Answer, write, unstaged, own_stage, own_commit, staged, answered}
+use Rattle.nq_stage.specs.Bodies.{Bodies}
 use Rattle.nq_stage.specs.declared.Commit.{Commit}
 use Rattle.nq_stage.specs.declared.Written.{Written}
 use Rattle.nq_stage.specs.Reading.{Stage}
-use Rattle.nq_stager.specs.Hearing.{Told, acknowledged, again, other, told_by}
-use Rattle.nq_stager.specs.Offering.{offer_of}
-use Rattle.nq_staged_run.specs.declared.StagedEvent.{StagedEvent}
-use Rattle.nq_staged_run.specs.Outer.{Outer, Side, Outside, outside_start}
-use Rattle.nq_staged_run.specs.Outside.{sends, renewed, inner, inner_delivery, takes_stage, takes_commit, served_commit, served_stage, to_server, told_side, heard_by, to_host, takes, delivers, sends_stage, offers_body, offers, outside_step, outside_run}
-use Rattle.nq_staged_run.proofs.Inner.{ran, sent-all}
+use Rattle.nq_stage.specs.Hearing.{Told, acknowledged, again, other, told_by}
+use Rattle.nq_stage.specs.Offering.{offer_of}
+use Rattle.nq_stage.specs.declared.run.event.StagedEvent.{StagedEvent}
+use Rattle.nq_stage.specs.Outer.{Outer, Side, Outside, outside_start}
+use Rattle.nq_stage.specs.Outside.{sends, renewed, inner, inner_delivery, takes_stage, takes_commit, served_commit, served_stage, to_server, told_side, heard_by, to_host, takes, delivers, sends_stage, offers_body, offers, outside_step, outside_run}
+use Rattle.nq_stage.proofs.Inner.{ran, sent-all}
 
 module _ (P : Event → Type 0) (deliver : (k : ℕ) → P (Event.Deliver k)) where
   abbrev All : Outside → Type 0

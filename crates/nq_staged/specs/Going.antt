@@ -5,9 +5,9 @@ use Rattle.nq_base.specs.declared.Event.{Event}
 use Rattle.nq_commit.specs.Playing.{PlaysOutside, StagedOver}
 use Rattle.nq_model.specs.Kept.{Kept}
 use Rattle.nq_model.specs.World.{Head}
-use Rattle.nq_play.specs.Delivering.{Marks}
+use Rattle.nq_replay.specs.Delivering.{Marks}
 use Rattle.nq_staged.specs.Playing.{plain_events}
-use Rattle.nq_staged_run.specs.declared.StagedEvent.{StagedEvent}
+use Rattle.nq_stage.specs.declared.run.event.StagedEvent.{StagedEvent}
 
 -- a world plays the staged run of these events, and the flags tell which packets were delivered in it
 pub record IsAt {K : Type 0} (head : Head) (events : List StagedEvent) (w : StagedOver K) (told : Option Kept) (flags : List Bool) : Type 0 where

@@ -1,19 +1,19 @@
 -- How the lines of a staged schedule are played, event by event. The events of a run are told with the newest first.
 use Rattle.std.specs.Prelude.{ℕ, ◌+◌, List, [], ◌∷◌, length, Option, zero, suc}
-use Rattle.nq_asides.specs.Playing.{Ended, Played, and_then, answered, play_each, refused, repeated, took, with_packet}
-use Rattle.nq_asides.specs.Text.{beside, plain}
+use Rattle.nq_replay.specs.AsidesPlaying.{Ended, Played, and_then, answered, play_each, refused, repeated, took, with_packet}
+use Rattle.nq_replay.specs.Text.{beside, plain}
 use Rattle.nq_base.specs.declared.Event.{Event}
 use Rattle.nq_commit.specs.Playing.{stepped_outside}
 use Rattle.nq_model.specs.Stepped.{too_many_events, most_events}
 use Rattle.nq_model.specs.World.{Head as Beginning}
-use Rattle.nq_play.specs.Delivering.{least_undelivered}
-use Rattle.nq_play.specs.Playing.{beginning}
+use Rattle.nq_replay.specs.Delivering.{least_undelivered}
+use Rattle.nq_replay.specs.Playing.{beginning}
 use Rattle.nq_script.specs.Heads.{head_lines}
 use Rattle.nq_script.specs.declared.heads.Head.{Head}
 use Rattle.nq_script.specs.declared.lines.Line.{Line}
 use Rattle.nq_staged.specs.Text.{StagedLine}
-use Rattle.nq_staged_run.specs.declared.StagedEvent.{StagedEvent}
-use Rattle.nq_staged_run.specs.Outside.{outside_run}
+use Rattle.nq_stage.specs.declared.run.event.StagedEvent.{StagedEvent}
+use Rattle.nq_stage.specs.Outside.{outside_run}
 
 -- an event is given to the world
 unfoldable pub play_event : Beginning → StagedEvent → (earlier : List StagedEvent) → Played (List StagedEvent)

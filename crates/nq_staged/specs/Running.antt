@@ -7,7 +7,7 @@ use Rattle.std.specs.Prelude.{◌≡◌, ◌⊎◌, ℕ, List, ◌++◌, Option,
 use Rattle.nq_base.specs.declared.SkewBroken.{SkewBroken}
 use Rattle.nq_replay.specs.Texts.{IsTellable}
 use Rattle.nq_commit.specs.Playing.{PlaysOutside, StagedOver}
-use Rattle.nq_ending.specs.declared.Ending.{Ending}
+use Rattle.nq_base.specs.declared.ending.ending.Ending.{Ending}
 use Rattle.nq_io.specs.Faults.{Rose}
 use Rattle.nq_io.specs.Sink.{AppendsFront}
 use Rattle.nq_io.specs.Told.{with_end}
@@ -15,8 +15,8 @@ use Rattle.nq_io.specs.Whole.{TakesSome}
 use Rattle.nq_journal.specs.Text.{journal_text}
 use Rattle.nq_model.specs.Kept.{Kept}
 use Rattle.nq_model.specs.Stepped.{Stepped, no_packet, out_of_skew, too_many_events, too_many_packets}
-use Rattle.nq_play.specs.Lawful.{IsLawful}
-use Rattle.nq_play.specs.Playing.{beginning}
+use Rattle.nq_replay.specs.Lawful.{IsLawful}
+use Rattle.nq_replay.specs.Playing.{beginning}
 use Rattle.nq_replay.specs.Lines.{PrintsLine, limit_line, script_line, skew_line}
 use Rattle.nq_replay.specs.Replay.{OfInput, PrintsLimit, TakesInput}
 use Rattle.nq_replay.specs.declared.Bound.{Bound}
@@ -24,12 +24,12 @@ use Rattle.nq_replay.specs.Schedules.{PrintsBytes, TellsStop}
 use Rattle.nq_script.specs.Lines.{once}
 use Rattle.nq_script.specs.Schedule.{SpellsSchedule}
 use Rattle.nq_script.specs.declared.heads.Head.{Head}
-use Rattle.nq_asides.specs.Playing.{Ended, ran, stopped}
+use Rattle.nq_replay.specs.AsidesPlaying.{Ended, ran, stopped}
 use Rattle.nq_staged.specs.Playing.{play}
 use Rattle.nq_staged.specs.Text.{FirstBadStaged, SpellsStaged, StagedLine}
-use Rattle.nq_staged_run.specs.declared.StagedEvent.{StagedEvent}
-use Rattle.nq_staged_run.specs.Outer.{Counts, Outside}
-use Rattle.nq_staged_run.specs.Outside.{outside_run}
+use Rattle.nq_stage.specs.declared.run.event.StagedEvent.{StagedEvent}
+use Rattle.nq_stage.specs.Outer.{Counts, Outside}
+use Rattle.nq_stage.specs.Outside.{outside_run}
 use Rattle.nq_world.specs.Answering.{told as answer_of}
 
 -- the text is a staged schedule with this head, and playing all of its lines makes the staged run of these events, of which the newest is

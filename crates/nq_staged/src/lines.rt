@@ -1,28 +1,28 @@
 //! Lines of a staged schedule, one after another.
 
 ghost use Rattle.std.specs.Prelude.{◌≡◌, ◌≤◌, ◌+◌, ◌^◌, ◌<◌, List, [], length, slice_get, Some};
-ghost use Rattle.nq_asides.specs.Text.{HoldsOfAsides, mixed};
+ghost use Rattle.nq_replay.specs.Text.{HoldsOfAsides, mixed};
 ghost use Rattle.nq_commit.specs.Playing.{PlaysOutside};
 ghost use Rattle.nq_model.specs.World.{Head};
-ghost use Rattle.nq_play.specs.Going.{AreForWorld, IsForWorld, said};
-ghost use Rattle.nq_play.specs.declared.Played.{Played};
+ghost use Rattle.nq_replay.specs.Going.{AreForWorld, IsForWorld, said};
+ghost use Rattle.nq_replay.specs.declared.play.played.Played.{Played};
 ghost use Rattle.nq_script.specs.declared.lines.Line.{Line};
-ghost use Rattle.nq_asides.specs.Going.{Comes, Goes};
+ghost use Rattle.nq_replay.specs.AsidesGoing.{Comes, Goes};
 ghost use Rattle.nq_staged.specs.Going.{IsAt};
 ghost use Rattle.nq_staged.specs.Playing.{play_event, play_line, play_lines, play_plain};
 ghost use Rattle.nq_staged.specs.Text.{IsOfHost, StagedLine};
-ghost use Rattle.nq_staged_run.specs.declared.StagedEvent.{StagedEvent};
+ghost use Rattle.nq_stage.specs.declared.run.event.StagedEvent.{StagedEvent};
 ghost use Rattle.nq_world.specs.Playing.{CountsFaults, HasSettings};
 
 use crate::events::{deliver, flow, rounds, take, take_times};
 use crate::offer::Offer;
-use nq_asides::{MixedScript, aside_at};
 use nq_base::Host;
 use nq_commit::StagedWorld;
 use nq_keeper::Keeper;
-use nq_play::{Delivered, Played};
+use nq_replay::asides::{MixedScript, aside_at};
+use nq_replay::play::{Delivered, Played};
 use nq_script::{Line, Lines};
-use nq_staged_run::StagedEvent;
+use nq_stage::run::StagedEvent;
 use nq_world::Stepped;
 use std::alloc::Global;
 

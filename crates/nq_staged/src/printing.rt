@@ -5,7 +5,7 @@ ghost use Rattle.nq_commit.specs.Around.{counts_of};
 ghost use Rattle.nq_staged.specs.Running.{count_line};
 
 use nq_base::NoMemory;
-use nq_staged_run::StagedCounts;
+use nq_stage::run::StagedCounts;
 use std::alloc::Global;
 
 /// The line of what was counted.

@@ -3,7 +3,7 @@ use Rattle.std.proofs.Common.{◌≡◌, ◌⊎◌, ℕ, List, Option, Some, Non
 use Rattle.std.specs.List.{All}
 use Rattle.std.specs.Option.{ForSome}
 use Rattle.nq_base.specs.declared.Change.{Change}
-use Rattle.nq_format.specs.Standing.{image_area}
+use Rattle.nq_plan.specs.Standing.{image_area}
 use Rattle.nq_image.specs.Standing.{Agree, IsFree, Standing, kept_at}
 use Rattle.nq_keeper.specs.Keeping.{LeavesTwo, told_after}
 use Rattle.nq_model.specs.Change.{Fits, IsChangeWithin, IsWithinBounds, applied}
@@ -14,10 +14,10 @@ use Rattle.nq_plan.specs.Placing.{IsPlacedFor}
 use Rattle.nq_plan.specs.Ranges.{ranges_of}
 use Rattle.nq_plan.specs.Settling.{settled}
 use Rattle.nq_plan.specs.declared.Placed.{Placed}
-use Rattle.nq_redo.specs.Batch.{IsFit}
-use Rattle.nq_redo.specs.Ranges.{Range}
-use Rattle.nq_redo.specs.Saying.{Each}
-use Rattle.nq_redo.specs.Whole.{Settled, after}
+use Rattle.nq_disk.specs.Batch.{IsFit}
+use Rattle.nq_disk.specs.Ranges.{Range}
+use Rattle.nq_disk.specs.Saying.{Each}
+use Rattle.nq_disk.specs.Whole.{Settled, after}
 use Rattle.law_image.specs.Changing.{CanBeWritten, IsWritten, new_blocks, zeroed}
 use Rattle.nq_store.specs.Storing.{IsKeptOn, IsReady, LeavesKept, OpensWhole, kept_on, kept_told}
 use Rattle.nq_image.proofs.Agreeing.{agree-kept, agree-stands}

@@ -3,15 +3,15 @@ use Rattle.std.proofs.Common.{◌≡◌, ◌≤◌, ◌<◌, ◌+◌, ◌&&◌, 
 use Rattle.std.specs.Prelude.{nat_le}
 use Rattle.std.proofs.lemmas.Bool.Decides.{nat_tests}
 use Rattle.nq_disk.specs.Calling.{IsAllThatIsLeft}
-use Rattle.nq_format.specs.Standing.{begins_as_image, image_area, settled_as, stands_as}
+use Rattle.nq_plan.specs.Standing.{begins_as_image, image_area, settled_as, stands_as}
 use Rattle.nq_image.specs.Whole.{has_image_name}
 use Rattle.nq_image.proofs.Pieces.{piece-same}
-use Rattle.nq_redo.specs.Opens.{disk_in}
-use Rattle.nq_redo.specs.Saying.{Each, Only}
-use Rattle.nq_redo.specs.Whole.{OpensAs, OpensAsOne, found}
-use Rattle.nq_redo.specs.declared.Redo.{Redo}
-use Rattle.nq_redo.specs.declared.RedoOpen.{RedoOpen}
-use Rattle.nq_redo.proofs.Front.{front-stays}
+use Rattle.nq_disk.specs.Opens.{disk_in}
+use Rattle.nq_disk.specs.Saying.{Each, Only}
+use Rattle.nq_disk.specs.Whole.{OpensAs, OpensAsOne, found}
+use Rattle.nq_disk.specs.declared.redo.redo.Redo.{Redo}
+use Rattle.nq_disk.specs.declared.redo.redo.RedoOpen.{RedoOpen}
+use Rattle.nq_disk.proofs.Front.{front-stays}
 use Rattle.nq_store.specs.Loading.{is_name}
 use Rattle.nq_store.specs.Migrating.{LeavesSameKept}
 use Rattle.nq_store.specs.Opening.{FollowsOpen, back_of, disk_of, open_fault}

@@ -5,7 +5,7 @@ use Rattle.std.specs.Prelude.{OnOk}
 use Rattle.std.proofs.lemmas.List.{at_drop_all, at_drop_more}
 use Rattle.std.proofs.lemmas.List.Sums.{sum_by-cons}
 use Rattle.nq_disk.specs.Bytes.{Torn, written}
-use Rattle.nq_format.specs.Standing.{image_area, stands_as}
+use Rattle.nq_plan.specs.Standing.{image_area, stands_as}
 use Rattle.nq_image.specs.Image.{FoundOne, ◌>>=◌, reached}
 use Rattle.nq_image.specs.Kept.{kept_in, kept_one, numbers_from}
 use Rattle.nq_image.specs.Layout.{block_place}
@@ -17,9 +17,9 @@ use Rattle.nq_image.specs.declared.ImageFault.{ImageFault}
 use Rattle.nq_image.specs.declared.ImageFault.TheVariants as image
 use Rattle.nq_image.specs.declared.ImageOne.{ImageOne}
 use Rattle.nq_image.specs.declared.Slot.{Slot}
-use Rattle.nq_redo.specs.Batch.{IsFit}
-use Rattle.nq_redo.specs.Saying.{Each}
-use Rattle.nq_redo.specs.Whole.{IsClosed, OpensAfter, OpensAsOne, Settled, after}
+use Rattle.nq_disk.specs.Batch.{IsFit}
+use Rattle.nq_disk.specs.Saying.{Each}
+use Rattle.nq_disk.specs.Whole.{IsClosed, OpensAfter, OpensAsOne, Settled, after}
 use Rattle.law_image.specs.Head.{if_reached}
 use Rattle.law_image.specs.Migrated.{blocks_in}
 use Rattle.law_image.specs.Prepared.{SameBelow, change_of, prepared, tabled}

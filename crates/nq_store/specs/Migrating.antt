@@ -1,6 +1,6 @@
 -- What a migration makes of an image of version 1.
 use Rattle.std.specs.Prelude.{◌≡◌, ℕ, List, Option, Some, true, Result, Ok, Err, slice_index}
-use Rattle.nq_format.specs.Standing.{begins_as_image, image_area, stands_as}
+use Rattle.nq_plan.specs.Standing.{begins_as_image, image_area, stands_as}
 use Rattle.nq_image.specs.Image.{FoundOne}
 use Rattle.nq_image.specs.Layout.{piece}
 use Rattle.nq_image.specs.Whole.{image_in, of_one}
@@ -8,8 +8,8 @@ use Rattle.nq_image.specs.declared.Boots.{Boots}
 use Rattle.nq_image.specs.declared.Slot.{Slot}
 use Rattle.nq_io.specs.Faults.{Rose}
 use Rattle.nq_model.specs.Kept.{Kept}
-use Rattle.nq_redo.specs.Saying.{Each, Only}
-use Rattle.nq_redo.specs.Whole.{IsClosed}
+use Rattle.nq_disk.specs.Saying.{Each, Only}
+use Rattle.nq_disk.specs.Whole.{IsClosed}
 use Rattle.nq_store.specs.Storing.{kept_on}
 use Rattle.nq_store.specs.declared.fault.Fault.{Fault}
 use Rattle.nq_store.specs.declared.fault.Fault.TheVariants.{NotAnImage, BadField, Failed, Memory}

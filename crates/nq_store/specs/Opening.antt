@@ -1,10 +1,10 @@
 -- What the opening of a store answers.
 use Rattle.std.specs.Prelude.{◌≡◌, ◌⊎◌, ℕ, true, List, Option, Some, None, Result, Ok, Err, slice_index}
 use Rattle.std.specs.Option.{ForSome}
-use Rattle.nq_format.specs.Standing.{begins_as_image, image_area, stands_as}
+use Rattle.nq_plan.specs.Standing.{begins_as_image, image_area, stands_as}
 use Rattle.nq_io.specs.Faults.{Rose}
-use Rattle.nq_redo.specs.Saying.{Each}
-use Rattle.nq_redo.specs.Whole.{found}
+use Rattle.nq_disk.specs.Saying.{Each}
+use Rattle.nq_disk.specs.Whole.{found}
 use Rattle.nq_store.specs.Storing.{kept_on}
 use Rattle.nq_store.specs.declared.fault.Fault.{Fault}
 use Rattle.nq_store.specs.declared.fault.Fault.TheVariants.{NotAnImage, BadField, Failed, Memory}

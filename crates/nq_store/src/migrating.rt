@@ -4,15 +4,15 @@ ghost use Rattle.std.specs.Prelude.{◌≡◌, ◌≤◌, ◌<◌, ◌+◌, ◌�
 ghost use Rattle.std.specs.Option.{ForSome};
 ghost use Rattle.law_image.specs.Migrated.{blocks_in as blocks_at_all, files_in as files_at, numbers_then};
 ghost use Rattle.law_image.specs.Prepared.{SameBelow, change_of, prepared, tabled};
-ghost use Rattle.nq_format.specs.Standing.{image_area};
+ghost use Rattle.nq_plan.specs.Standing.{image_area};
 ghost use Rattle.nq_image.specs.Image.{FoundOne};
 ghost use Rattle.nq_image.specs.Kept.{numbers_from as numbers_at};
 ghost use Rattle.nq_image.specs.Layout.{block_place as place_of_block};
 ghost use Rattle.nq_image.specs.Rows.{blocks_of as blocks_at};
 ghost use Rattle.nq_image.specs.Writing.{table_of_blocks};
-ghost use Rattle.nq_redo.specs.Batch.{IsFit};
-ghost use Rattle.nq_redo.specs.Saying.{Each, Only};
-ghost use Rattle.nq_redo.specs.Whole.{IsClosed, OpensAfter, OpensAsOne, Settled, after};
+ghost use Rattle.nq_disk.specs.Batch.{IsFit};
+ghost use Rattle.nq_disk.specs.Saying.{Each, Only};
+ghost use Rattle.nq_disk.specs.Whole.{IsClosed, OpensAfter, OpensAsOne, Settled, after};
 ghost use Rattle.nq_store.specs.Examining.{IsSized};
 ghost use Rattle.nq_store.specs.Migrating.{CountsWriting, IsFoundIn, IsMigrated, IsOld, IsOldImage, LeavesSameKept, Migrates};
 ghost use Rattle.nq_store.specs.Opening.{CountsFault};
@@ -21,9 +21,9 @@ use crate::examining::{blocks_in, blocks_of, examine, files_in};
 use crate::fault::Fault;
 use nq_base::Heads;
 use nq_disk::Disk;
+use nq_disk::redo::{Batch, Redo};
 use nq_image::{Boots, Slot, block_place, spell_heads, spell_table};
 use nq_memory::NoMemory;
-use nq_redo::{Batch, Redo};
 use std::alloc::Global;
 
 /// Numbers one behind another.

@@ -3,10 +3,10 @@
 ghost use Rattle.std.specs.Prelude.{◌≡◌, ◌≤◌, true, IfOk, OnOk, length, slice_index};
 ghost use Rattle.std.specs.Option.{ForSome};
 ghost use Rattle.nq_disk.specs.Calling.{IsAllThatIsLeft, LeavesNoMore};
-ghost use Rattle.nq_format.specs.Standing.{begins_as_image, image_area};
+ghost use Rattle.nq_plan.specs.Standing.{begins_as_image, image_area};
 ghost use Rattle.nq_image.specs.Heads.{version_of as version_at};
 ghost use Rattle.nq_image.specs.Layout.{piece};
-ghost use Rattle.nq_redo.specs.Saying.{Only};
+ghost use Rattle.nq_disk.specs.Saying.{Only};
 ghost use Rattle.nq_store.specs.Loading.{Gives, IsHeadOf, IsShut, IsShutAs, OpensTables, StaysAs, is_name as is_image_name};
 ghost use Rattle.nq_store.specs.Migrating.{IsOld, LeavesSameKept};
 ghost use Rattle.nq_store.specs.Opening.{AnswersOpen, CountsFault, FollowsOpen, LeavesLike, SaysWrong, StaysRefused, disk_of};
@@ -15,9 +15,9 @@ use crate::fault::{Fault, OpenFault};
 use crate::loading::{ROWS_SIZE, load, read_piece, size_of};
 use crate::migrating::migrate;
 use nq_disk::Disk;
+use nq_disk::redo::{Area, Redo, RedoOpen};
 use nq_image::{Version, version_of};
 use nq_plan::Tables;
-use nq_redo::{Area, Redo, RedoOpen};
 use std::alloc::Global;
 
 /// The record of a change, and the end of the largest image.

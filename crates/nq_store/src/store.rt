@@ -20,11 +20,11 @@ use crate::fault::OpenFault;
 use crate::opening::{open_record, open_tables};
 use crate::writing::{carry_out, fresh_blocks, read_body};
 use nq_base::{Block, BlockNo, Change, FileId, FileRow, Heads, Host, HostRow, Name, Space};
+use nq_disk::redo::Redo;
 use nq_disk::{Disk, DiskFault};
 use nq_keeper::{KeepFault, Keeper};
 use nq_memory::NoMemory;
 use nq_plan::{Plan, Tables};
-use nq_redo::Redo;
 use std::alloc::Global;
 use std::marker::Model;
 
@@ -46,7 +46,7 @@ pub struct Store<D: Disk> {
 
 impl<D: Disk> Model for Store<D> {
     ghost use Rattle.std.specs.Prelude.{◌≡◌};
-    ghost use Rattle.nq_format.specs.Standing.{image_area};
+    ghost use Rattle.nq_plan.specs.Standing.{image_area};
     ghost use Rattle.nq_store.specs.Storing.{IsSound, StoredStore};
 
     ghost Value = { StoredStore D };

@@ -1,11 +1,11 @@
 -- How often a fate is asked.
 use Rattle.std.proofs.Common.{List, Option, ◌≡◌, ℕ, ◌+◌, ◌<◌, refl, ◌∙◌, ap, sym, arith, add-one, inl, inr}
-use Rattle.nq_ending.specs.declared.Ending.{Ending}
+use Rattle.nq_base.specs.declared.ending.ending.Ending.{Ending}
 use Rattle.nq_io.specs.Faults.{count_up}
 use Rattle.nq_replay.specs.Schedules.{TellsStop}
 use Rattle.nq_storm.specs.Asking.{AsksFew, AsksFor, AsksForNext, AsksOnce, AsksWanted}
 use Rattle.nq_storm.specs.declared.stormed.Stormed.{Stormed}
-use Rattle.nq_storm_rules.specs.Rules.{asked_for}
+use Rattle.nq_storm.specs.Rules.{asked_for}
 use Rattle.nq_world.specs.declared.Limit.{Limit}
 use Rattle.nq_world.specs.declared.Stepped.{Stepped}
 

@@ -4,9 +4,9 @@ use Rattle.std.specs.Prelude.{◌%◌, IfSome, slice_get}
 use Rattle.nq_base.specs.declared.Event.{Event}
 use Rattle.nq_model.specs.World.{Head}
 use Rattle.nq_storm.specs.Storming.{IsChosen, IsOffered, word_behind}
-use Rattle.nq_storm_rules.specs.Menu.{menu}
-use Rattle.nq_storm_rules.specs.Rules.{Rule, chosen}
-use Rattle.nq_storm_rules.specs.declared.offers.Offer.{Offer}
+use Rattle.nq_storm.specs.Menu.{menu}
+use Rattle.nq_storm.specs.Rules.{Rule, chosen}
+use Rattle.nq_storm.specs.declared.fates.offers.Offer.{Offer}
 
 -- what a fate chose is chosen from the menu of the moment
 pub is_chosen : (head : Head) (start : ℕ) (events : List Event) (earlier word : ℕ) (offer : Offer) (told tells : Option Rule) (event : Event) → word ≡ word_behind start earlier → length events ≡ earlier → IsOffered head events word offer

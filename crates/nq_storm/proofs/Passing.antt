@@ -8,18 +8,18 @@ use Rattle.nq_base.specs.declared.Event.{Event}
 use Rattle.nq_model.specs.Kept.{Kept}
 use Rattle.nq_model.specs.Skew.{IsWithinSkew}
 use Rattle.nq_model.specs.World.{Head}
-use Rattle.nq_play.proofs.Limits.{is_reached}
-use Rattle.nq_play.proofs.Steps.{as-many, next-is}
-use Rattle.nq_play.specs.Delivering.{Marks, least_undelivered, next_packet}
-use Rattle.nq_play.specs.Going.{IsAt}
+use Rattle.nq_replay.proofs.Limits.{is_reached}
+use Rattle.nq_replay.proofs.Steps.{as-many, next-is}
+use Rattle.nq_replay.specs.Delivering.{Marks, least_undelivered, next_packet}
+use Rattle.nq_replay.specs.Going.{IsAt}
 use Rattle.nq_script.specs.Calls.{IsFilledCall}
 use Rattle.nq_script.specs.Lines.{IsFilledEvent}
 use Rattle.nq_storm.specs.Ending.{EndsAt, Gives, Halts, IsInStorm, Stands, ending_of}
 use Rattle.nq_storm.specs.Storming.{IsChosen, IsOffered}
 use Rattle.nq_storm.specs.declared.stormed.Stormed.{Stormed}
-use Rattle.nq_storm_rules.specs.Rules.{Rule}
-use Rattle.nq_storm_rules.specs.Stormy.{IsStormy, WritesNumber}
-use Rattle.nq_storm_rules.specs.declared.offers.Offer.{Offer}
+use Rattle.nq_storm.specs.Rules.{Rule}
+use Rattle.nq_storm.specs.Stormy.{IsStormy, WritesNumber}
+use Rattle.nq_storm.specs.declared.fates.offers.Offer.{Offer}
 use Rattle.nq_world.proofs.Refused.{still-plays}
 use Rattle.nq_world.specs.Playing.{CanCome, HasSettings, Plays, Steps, WorldOver}
 use Rattle.nq_world.specs.declared.stepped.Stepped.{Stepped}

@@ -5,14 +5,14 @@ use Rattle.std.specs.Prelude.{reverse}
 use Rattle.nq_base.specs.declared.Event.{Event}
 use Rattle.nq_model.specs.Stepped.{done, most_events, stepped}
 use Rattle.nq_model.specs.World.{Head as Beginning}
-use Rattle.nq_play.proofs.Lawfully.{played-runs-are-lawful}
-use Rattle.nq_play.specs.Playing.{Ended, answered, at_line, and_then, beginning, play, play_event, play_line, play_lines, repeated, took}
+use Rattle.nq_replay.proofs.Lawfully.{played-runs-are-lawful}
+use Rattle.nq_replay.specs.Playing.{Ended, answered, at_line, and_then, beginning, play, play_event, play_line, play_lines, repeated, took}
 use Rattle.nq_script.specs.Heads.{head_lines}
 use Rattle.nq_script.specs.Lines.{once}
 use Rattle.nq_script.specs.declared.heads.Head.{Head}
 use Rattle.nq_storm.specs.Lawful.{StormsAreLawful}
 use Rattle.nq_storm.specs.Storming.{IsStorm}
-use Rattle.nq_storm_rules.specs.Rules.{Rule}
+use Rattle.nq_storm.specs.Rules.{Rule}
 
 -- each of these events is taken, one after another, behind those
 abbrev Taken : Beginning → (earlier events : List Event) → Type 0

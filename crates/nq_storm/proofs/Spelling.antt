@@ -10,7 +10,7 @@ use Rattle.nq_script.specs.Calls.{HasCall}
 use Rattle.nq_script.specs.Heads.{FitsHead}
 use Rattle.nq_script.specs.Lines.{Allows, HasEvent}
 use Rattle.nq_storm.specs.Heads.{storm_head}
-use Rattle.nq_storm_rules.specs.Stormy.{IsStormy, WritesNumber}
+use Rattle.nq_storm.specs.Stormy.{IsStormy, WritesNumber}
 
 -- ---- what a version can tell
 

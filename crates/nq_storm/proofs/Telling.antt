@@ -6,11 +6,11 @@ use Rattle.std.specs.Prelude.{reverse}
 use Rattle.nq_base.specs.Plain.{plain}
 use Rattle.nq_base.specs.declared.Entry.{Entry}
 use Rattle.nq_base.specs.declared.Event.{Event}
-use Rattle.nq_ending.specs.declared.Ending.{Ending}
+use Rattle.nq_base.specs.declared.ending.ending.Ending.{Ending}
 use Rattle.nq_journal.specs.Text.{journal_text}
 use Rattle.nq_model.specs.Kept.{Kept}
 use Rattle.nq_model.specs.World.{run}
-use Rattle.nq_play.specs.Playing.{beginning}
+use Rattle.nq_replay.specs.Playing.{beginning}
 use Rattle.nq_replay.proofs.Journals.{plain_text}
 use Rattle.nq_replay.proofs.Printings.{bytes_end}
 use Rattle.nq_replay.specs.Ending.{CountsKeeper}
@@ -26,7 +26,7 @@ use Rattle.nq_storm.specs.Heads.{storm_head}
 use Rattle.nq_storm.specs.Printed.{KeepsStorm, PrintsRan, PrintsSpelled, PrintsStorm, StormEnds, counts_of, storm_text}
 use Rattle.nq_storm.specs.Whole.{IsWholeStorm}
 use Rattle.nq_storm.specs.declared.stormed.Stormed.{Stormed}
-use Rattle.nq_storm_rules.specs.Rules.{Rule}
+use Rattle.nq_storm.specs.Rules.{Rule}
 use Rattle.nq_world.specs.Playing.{WorldOver}
 
 -- the line that counts what a world shows of a run counts that run

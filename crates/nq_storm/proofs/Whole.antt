@@ -5,12 +5,12 @@ use Rattle.std.specs.Prelude.{reverse}
 use Rattle.nq_base.specs.declared.Event.{Event}
 use Rattle.nq_model.specs.Kept.{Kept}
 use Rattle.nq_model.specs.World.{Head}
-use Rattle.nq_play.specs.Delivering.{Marks}
+use Rattle.nq_replay.specs.Delivering.{Marks}
 use Rattle.nq_storm.proofs.Passing.{ends_early}
 use Rattle.nq_storm.specs.Ending.{CountsFaults, Halts, IsInStorm, Stands, Storms}
 use Rattle.nq_storm.specs.Storming.{generator, word_behind}
 use Rattle.nq_storm.specs.declared.stormed.Stormed.{Stormed}
-use Rattle.nq_storm_rules.specs.Rules.{Rule}
+use Rattle.nq_storm.specs.Rules.{Rule}
 use Rattle.nq_world.specs.Playing.{Plays, WorldOver}
 use Rattle.rand_pcg.specs.Lcg.{Lcg}
 use Rattle.rand_pcg.specs.Pcg.{pcg32}

@@ -1,8 +1,8 @@
 -- How often a fate is asked. Below, `before` is how often it was asked before a call, and `now` is how often after it.
 use Rattle.std.specs.Prelude.{◌≡◌, ◌⊎◌, ◌≤◌, ℕ, ◌+◌}
-use Rattle.nq_ending.specs.declared.Ending.{Ending}
+use Rattle.nq_base.specs.declared.ending.ending.Ending.{Ending}
 use Rattle.nq_storm.specs.declared.stormed.Stormed.{Stormed}
-use Rattle.nq_storm_rules.specs.Rules.{asked_for}
+use Rattle.nq_storm.specs.Rules.{asked_for}
 
 -- a fate was asked once for each of so many events, or for one more
 abbrev pub AsksForNext : (events before now : ℕ) → Type 0

@@ -7,11 +7,11 @@ use Rattle.nq_keeper.specs.Keeping.{StaysOrEnds}
 use Rattle.nq_model.specs.Kept.{Kept}
 use Rattle.nq_model.specs.Stepped.{done, stepped}
 use Rattle.nq_model.specs.World.{Head, run}
-use Rattle.nq_play.specs.Going.{IsAt}
-use Rattle.nq_play.specs.Reaching.{IsReached}
+use Rattle.nq_replay.specs.Going.{IsAt}
+use Rattle.nq_replay.specs.Reaching.{IsReached}
 use Rattle.nq_storm.specs.Storming.{IsStorm}
 use Rattle.nq_storm.specs.declared.stormed.Stormed.{Stormed}
-use Rattle.nq_storm_rules.specs.Rules.{Rule}
+use Rattle.nq_storm.specs.Rules.{Rule}
 use Rattle.nq_world.specs.Playing.{IsAsBefore, Plays, WorldOver}
 use Rattle.nq_world.specs.declared.stepped.Stepped.{Stepped}
 

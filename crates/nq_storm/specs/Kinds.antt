@@ -1,6 +1,6 @@
 -- The kinds of fates. Below, `told` are what fates tell of their rules, in their order.
 use Rattle.std.specs.Prelude.{◌≡◌, ◌≢◌, ℕ, List, ◌∷◌, ◌++◌, Option, All, IfSome, IsSomeAnd}
-use Rattle.nq_storm_rules.specs.Rules.{Rule}
+use Rattle.nq_storm.specs.Rules.{Rule}
 
 -- a fate that tells its rule is of another kind
 abbrev pub IsNotOf : (told : Option Rule) → (kind : ℕ) → Type 0

@@ -3,12 +3,12 @@
 use Rattle.std.specs.List.{count_by}
 use Rattle.std.specs.Prelude.{◌≡◌, ◌⊎◌, ℕ, ◌<◌, List, ◌++◌, length, map, reverse, Option, Some}
 use Rattle.nq_base.specs.declared.Event.{Event}
-use Rattle.nq_ending.specs.declared.Ending.{Ending}
+use Rattle.nq_base.specs.declared.ending.ending.Ending.{Ending}
 use Rattle.nq_io.specs.Told.{with_end}
 use Rattle.nq_model.specs.Kept.{Kept}
 use Rattle.nq_model.specs.World.{run}
-use Rattle.nq_play.specs.Playing.{beginning}
-use Rattle.nq_play.specs.Reaching.{IsReached}
+use Rattle.nq_replay.specs.Playing.{beginning}
+use Rattle.nq_replay.specs.Reaching.{IsReached}
 use Rattle.nq_replay.specs.Lines.{PrintsLine, limit_line}
 use Rattle.nq_replay.specs.Replay.{journal_of, journal_printed, kept_of}
 use Rattle.nq_replay.specs.Schedules.{PrintsBytes, bound_of}
@@ -18,7 +18,7 @@ use Rattle.nq_storm.specs.Counts.{is_loss, storm_line}
 use Rattle.nq_storm.specs.Heads.{storm_head}
 use Rattle.nq_storm.specs.Storming.{IsStorm}
 use Rattle.nq_storm.specs.Whole.{IsWholeStorm}
-use Rattle.nq_storm_rules.specs.Rules.{Rule}
+use Rattle.nq_storm.specs.Rules.{Rule}
 use Rattle.nq_world.specs.declared.Limit.{Limit}
 
 -- the counts of a run of these events

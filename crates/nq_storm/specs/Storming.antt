@@ -4,10 +4,10 @@ use Rattle.nq_base.specs.declared.Event.{Event}
 use Rattle.nq_model.specs.Skew.{IsWithinSkew}
 use Rattle.nq_model.specs.Stepped.{done, stepped}
 use Rattle.nq_model.specs.World.{Head, run}
-use Rattle.nq_play.specs.Delivering.{next_packet}
-use Rattle.nq_storm_rules.specs.Menu.{menu}
-use Rattle.nq_storm_rules.specs.Rules.{Rule, chosen}
-use Rattle.nq_storm_rules.specs.declared.offers.Offer.{Offer}
+use Rattle.nq_replay.specs.Delivering.{next_packet}
+use Rattle.nq_storm.specs.Menu.{menu}
+use Rattle.nq_storm.specs.Rules.{Rule, chosen}
+use Rattle.nq_storm.specs.declared.fates.offers.Offer.{Offer}
 use Rattle.rand_core.specs.Pcg32Seed.{pcg32_seed}
 use Rattle.rand_pcg.specs.Lcg.{Lcg}
 use Rattle.rand_pcg.specs.Pcg.{pcg32, pcg32_of_seed}

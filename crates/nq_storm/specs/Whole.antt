@@ -1,14 +1,14 @@
 -- A storm as a whole. The events of a run are told with the newest first.
 use Rattle.std.specs.Prelude.{◌≡◌, ℕ, List, length, map, reverse, Option}
 use Rattle.nq_base.specs.declared.Event.{Event}
-use Rattle.nq_play.specs.Lawful.{IsLawful}
-use Rattle.nq_play.specs.Playing.{beginning}
+use Rattle.nq_replay.specs.Lawful.{IsLawful}
+use Rattle.nq_replay.specs.Playing.{beginning}
 use Rattle.nq_replay.specs.Replay.{Runs}
 use Rattle.nq_script.specs.Lines.{once}
 use Rattle.nq_script.specs.Schedule.{SpellsSchedule}
 use Rattle.nq_storm.specs.Heads.{storm_head}
 use Rattle.nq_storm.specs.Storming.{IsStorm}
-use Rattle.nq_storm_rules.specs.Rules.{Rule}
+use Rattle.nq_storm.specs.Rules.{Rule}
 
 -- the text is a schedule with a line for each event, a tick as `tick s 1` or `tick H 1`, and its run is this one: a storm of so many
 -- events that starts with this number, of a fate that tells this first. It is within skew and keeps to the bounds

@@ -6,6 +6,7 @@
 #![tactic(auto)]
 
 mod counts;
+pub mod fates;
 mod laws;
 mod moments;
 mod printing;

@@ -6,22 +6,22 @@ ghost use Rattle.nq_base.specs.declared.Event.{Event};
 ghost use Rattle.nq_io.specs.Faults.{count_up};
 ghost use Rattle.nq_model.specs.Stepped.{most_events, most_sent};
 ghost use Rattle.nq_model.specs.World.{Head};
-ghost use Rattle.nq_play.specs.Going.{IsAt};
-ghost use Rattle.nq_play.specs.Reaching.{IsReached};
+ghost use Rattle.nq_replay.specs.Going.{IsAt};
+ghost use Rattle.nq_replay.specs.Reaching.{IsReached};
 ghost use Rattle.nq_storm.specs.Asking.{AsksForNext};
 ghost use Rattle.nq_storm.specs.Ending.{CountsFaults, Gives, Halts, IsInStorm, Stands, ending_of};
 ghost use Rattle.nq_storm.specs.Storming.{IsChosen, IsOffered, word_behind};
 ghost use Rattle.nq_storm.specs.declared.stormed.Stormed.{Stormed};
-ghost use Rattle.nq_storm_rules.specs.Rules.{Rule};
-ghost use Rattle.nq_storm_rules.specs.Stormy.{IsStormy};
+ghost use Rattle.nq_storm.specs.Rules.{Rule};
+ghost use Rattle.nq_storm.specs.Stormy.{IsStormy};
 ghost use Rattle.nq_world.specs.Playing.{HasSettings};
 
+use crate::fates::{Fate, Offer, choose_event};
 use crate::stormed::Stormed;
 use nq_base::Event;
 use nq_keeper::Keeper;
-use nq_play::{Delivered, note};
+use nq_replay::play::{Delivered, note};
 use nq_script::Schedule;
-use nq_storm_rules::{Fate, Offer, choose_event};
 use nq_world::{Limit, MOST_EVENTS, MOST_SENT, Stepped, World};
 
 /// The limit that is reached after so many events and packets, if one is.

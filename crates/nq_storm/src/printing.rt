@@ -2,14 +2,14 @@
 
 ghost use Rattle.std.specs.List.{AllByRecursion};
 ghost use Rattle.std.specs.Prelude.{◌≡◌, reverse};
-ghost use Rattle.nq_play.specs.Playing.{beginning};
+ghost use Rattle.nq_replay.specs.Playing.{beginning};
 ghost use Rattle.nq_storm.specs.Heads.{storm_head};
 ghost use Rattle.nq_storm.specs.Printed.{PrintsRan};
-ghost use Rattle.nq_storm_rules.specs.Stormy.{IsStormy};
+ghost use Rattle.nq_storm.specs.Stormy.{IsStormy};
 ghost use Rattle.nq_world.specs.Playing.{Plays};
 
 use crate::counts::{count_text, losses};
-use nq_ending::Ending;
+use nq_base::ending::Ending;
 use nq_io::Sink;
 use nq_keeper::Keeper;
 use nq_replay::{print_parts, schedule_text};

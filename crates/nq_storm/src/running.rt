@@ -2,29 +2,29 @@
 
 ghost use Rattle.std.specs.List.{AllByRecursion};
 ghost use Rattle.std.specs.Prelude.{◌≡◌, [], ℕ, Option, Some, reverse};
-ghost use Rattle.nq_ending.specs.declared.Ending.{Ending};
+ghost use Rattle.nq_base.specs.declared.ending.ending.Ending.{Ending};
 ghost use Rattle.nq_keeper.specs.StoredKeeper.{empty_kept};
-ghost use Rattle.nq_play.specs.Playing.{beginning};
+ghost use Rattle.nq_replay.specs.Playing.{beginning};
 ghost use Rattle.nq_replay.specs.Ending.{CountsKeeper};
 ghost use Rattle.nq_storm.specs.Asking.{AsksFor, AsksWanted};
 ghost use Rattle.nq_storm.specs.Ending.{CountsFaults, Storms};
 ghost use Rattle.nq_storm.specs.Heads.{storm_head};
 ghost use Rattle.nq_storm.specs.Printed.{KeepsStorm, StormEnds};
-ghost use Rattle.nq_storm_rules.specs.Rules.{Rule};
-ghost use Rattle.nq_storm_rules.specs.Stormy.{IsStormy};
+ghost use Rattle.nq_storm.specs.Rules.{Rule};
+ghost use Rattle.nq_storm.specs.Stormy.{IsStormy};
 ghost use Rattle.nq_world.specs.Playing.{HasSettings, Plays};
 
+use crate::fates::Fate;
 use crate::printing::print_storm;
 use crate::schedules::storm_head;
 use crate::stormed::Stormed;
 use crate::storms::storm;
-use nq_ending::Ending;
+use nq_base::ending::Ending;
 use nq_io::Sink;
 use nq_keeper::Keeper;
-use nq_play::begin;
+use nq_replay::play::begin;
 use nq_replay::{Finished, tell_limit};
 use nq_script::{Head, Schedule};
-use nq_storm_rules::Fate;
 use nq_world::{NewFault, World};
 use std::alloc::Global;
 

@@ -5,15 +5,15 @@ ghost use Rattle.std.specs.Prelude.{◌≡◌, ◌<◌, [], length, reverse};
 ghost use Rattle.nq_model.specs.World.{Head};
 ghost use Rattle.nq_storm.specs.Asking.{AsksOnce};
 ghost use Rattle.nq_storm.specs.Ending.{CountsFaults, Storms};
-ghost use Rattle.nq_storm_rules.specs.Stormy.{IsStormy};
+ghost use Rattle.nq_storm.specs.Stormy.{IsStormy};
 ghost use Rattle.nq_world.specs.Playing.{HasSettings, Plays};
 
+use crate::fates::{Fate, Words};
 use crate::moments::pass_moment;
 use crate::stormed::Stormed;
 use nq_keeper::Keeper;
-use nq_play::Delivered;
+use nq_replay::play::Delivered;
 use nq_script::Schedule;
-use nq_storm_rules::{Fate, Words};
 use nq_world::World;
 use std::alloc::Global;
 

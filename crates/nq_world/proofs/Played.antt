@@ -8,7 +8,7 @@ use Rattle.nq_clock.proofs.Tracking.{other-events-pass}
 use Rattle.nq_model.specs.Kept.{Kept}
 use Rattle.nq_model.specs.Stepped.{done, stepped}
 use Rattle.nq_model.specs.World.{Head, run, step}
-use Rattle.nq_promises.specs.Bounds.{BootsWithin}
+use Rattle.nq_model.specs.Bounds.{BootsWithin}
 use Rattle.nq_server.specs.State.{beside}
 use Rattle.law_bounds.specs.Within.{IsGiven}
 use Rattle.nq_world.proofs.Going.{runs-go-on}

@@ -12,7 +12,7 @@ use Rattle.nq_model.specs.SkewBroken.{skew_broken}
 use Rattle.nq_model.specs.Stepped.{Stepped, too_many_events, no_packet, most_events, most_sent, tested_room, tested_skew, stepped}
 use Rattle.nq_model.specs.ServerStep.{boot}
 use Rattle.nq_model.specs.World.{Head, first_clients, first_kept, run, step}
-use Rattle.nq_promises.specs.Bounds.{BootsWithin, KeepsBounds}
+use Rattle.nq_model.specs.Bounds.{BootsWithin, KeepsBounds}
 use Rattle.law_bounds.specs.Within.{CarriesText, IsGiven, AreGiven, IsHeadWithin}
 use Rattle.nq_world.specs.Counting.{HasNumbersLeft}
 use Rattle.nq_world.specs.Shown.{Seen, Shows}

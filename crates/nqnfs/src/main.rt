@@ -13,10 +13,10 @@ ghost use Rattle.nq_run.specs.Frames.{makes_a_run};
 use nq_base::{Host, Party};
 use nq_clock::StdClock;
 use nq_disk::{Disk, FileDisk, MemDisk, Room};
-use nq_disk_run::{
+use nq_link::UdpLink;
+use nq_run::disk::{
     Command, CutFate, Fate, HostileFate, LossyFate, NoMemory, SteadyFate, Words, run_disk,
 };
-use nq_link::UdpLink;
 use nq_streams::{StdSink, StdSource};
 use std::io::ErrorKind;
 use std::process::ExitCode;

@@ -9,7 +9,7 @@ mod words;
 ghost use Rattle.std.specs.Prelude.{◌<◌, ◌^◌, length};
 
 use crate::words::view_of;
-use nq_ending::Ending;
+use nq_base::ending::Ending;
 use nq_io::{MemSink, MemSource, Put, Sink, Source, Whole, read_all};
 use nq_keeper::ListKeeper;
 use nq_observe::{NoMemory, Shown, View, look};

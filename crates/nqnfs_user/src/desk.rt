@@ -1,11 +1,11 @@
 //! A client at work, call by call.
 
+use nq_base::ending::Halt;
 use nq_base::{Answer, Call, Inc, Journal, Who};
 use nq_client::Client;
 use nq_clock::{Clock, StdClock};
-use nq_ending::Halt;
+use nq_hosts::node::{ClientTurn, client_turn, send_all};
 use nq_link::UdpLink;
-use nq_node::{ClientTurn, client_turn, send_all};
 use nq_wire::Outbox;
 use std::alloc::Global;
 

@@ -3,9 +3,9 @@
 use crate::desk::UserDesk;
 use crate::files::{FileFault, get_file, put_file};
 use crate::starts::write_synced;
+use nq_base::ending::Halt;
 use nq_base::{Answer, Call, Name};
-use nq_ending::Halt;
-use nq_prompt::{Line, MOST_BYTES, answer_text, line_of};
+use nq_command::prompt::{Line, MOST_BYTES, answer_text, line_of};
 use std::fs::{self, File};
 use std::io::{BufRead, BufReader, ErrorKind};
 use std::str;

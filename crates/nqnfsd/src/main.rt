@@ -10,7 +10,7 @@ ghost use Rattle.std.specs.Prelude.{◌≤◌};
 
 use crate::serving::serve_over;
 use crate::words::{Options, Order, order_of};
-use nq_ending::Ending;
+use nq_base::ending::Ending;
 use std::alloc::AllocError;
 use std::env;
 use std::io::ErrorKind;

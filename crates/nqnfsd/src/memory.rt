@@ -1,6 +1,6 @@
 //! How much memory the program has.
 
-use nq_traffic::Gauge;
+use nq_hosts::traffic::Gauge;
 use nq_words::{cut, number};
 use std::fs;
 

@@ -3,16 +3,16 @@
 ghost use Rattle.std.specs.Prelude.{◌≤◌};
 
 use crate::memory::Resident;
+use nq_base::ending::{Ending, Halt};
 use nq_base::{Journal, Party, Ticks};
 use nq_clock::StdClock;
-use nq_daemon::{MOST_TURNS, Watcher};
 use nq_disk::FileDisk;
-use nq_ending::{Ending, Halt};
+use nq_hosts::daemon::{MOST_TURNS, Watcher};
+use nq_hosts::traffic::{CountedLink, Report};
 use nq_link::{Came, Link, UdpLink};
-use nq_mount::{Greeter, Survey, serve_image};
+use nq_service::mount::{Greeter, Survey, serve_image};
 use nq_store::OpenFault;
 use nq_streams::StdSink;
-use nq_traffic::{CountedLink, Report};
 use std::alloc::AllocError;
 use std::io;
 

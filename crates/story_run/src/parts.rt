@@ -7,8 +7,8 @@ ghost use Rattle.nq_command.specs.declared.Command.{Command};
 use nq_base::{Host, Party, Ticks};
 use nq_clock::MemClock;
 use nq_disk::{MemDisk, Room};
-use nq_disk_run::{Command, CutFate, Fate, HostileFate, LossyFate, NoMemory, SteadyFate, Words};
 use nq_link::MemLink;
+use nq_run::disk::{Command, CutFate, Fate, HostileFate, LossyFate, NoMemory, SteadyFate, Words};
 use std::alloc::Global;
 
 /// How much a disk takes: the bytes of the largest image, and as many calls and written bytes as can be counted.

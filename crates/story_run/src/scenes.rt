@@ -4,8 +4,8 @@ use crate::parts::{clock_of, disk_of, fates_of, link_of, links_of};
 use crate::top::ran;
 use nq_base::{Host, Party};
 use nq_disk::MemDisk;
-use nq_disk_run::{Ended, NoMemory, Words};
 use nq_io::{MemSink, MemSource};
+use nq_run::disk::{Ended, NoMemory, Words};
 use std::alloc::Global;
 
 /// The status of a scene that was not played, for want of memory.

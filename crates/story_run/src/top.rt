@@ -7,9 +7,9 @@ ghost use Rattle.nq_run.specs.Frames.{makes_a_run};
 
 use nq_clock::Clock;
 use nq_disk::Disk;
-use nq_disk_run::{Ended, Fate, Words, run_disk};
 use nq_io::{Sink, Source};
 use nq_link::Link;
+use nq_run::disk::{Ended, Fate, Words, run_disk};
 use std::alloc::Global;
 
 /// Runs what the words say. What `run_disk` promises stays within: a story knows none of it, and so proves nothing of it either.

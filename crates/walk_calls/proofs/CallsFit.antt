@@ -4,7 +4,7 @@ use Rattle.std.specs.Prelude.{slice_get}
 use Rattle.nq_base.specs.declared.Entry.{Entry}
 use Rattle.nq_base.specs.declared.Event.{Event}
 use Rattle.nq_base.specs.declared.Who.{Who}
-use Rattle.nq_promises.specs.Bounds.{KeepsBounds}
+use Rattle.nq_model.specs.Bounds.{KeepsBounds}
 use Rattle.nq_model.specs.Client.{Client, UnderWay}
 use Rattle.nq_model.specs.Journal.{IsOpen}
 use Rattle.nq_model.specs.Skew.{IsWithinSkew}

@@ -14,7 +14,7 @@ use Rattle.nq_base.specs.declared.Tag.{Tag}
 use Rattle.nq_base.specs.declared.Who.{Who}
 use Rattle.walk_files.proofs.ServerChains.{Continues, RowFrom, row_fresh, row_on, RowOn, goes_on, vacated, superseded, loosened, removed, reopened, LineTo, line_stays, line_begins, line_decides, Claims, FileMove, file_stays, file_written, file_changed, file_gone, NewGrant, NewReply, ChainEffect}
 use Rattle.walk_files.proofs.ChainFacts.{line_for, done_at, rev_at, HeldChains, GoesOnAs, InOrder, GrantFits, GivenChains, IsFenced, gone, ahead, earlier, IsBoundOrFenced, bound, fenced, WriteChains, VerdictFits, LineChains, ChainFits}
-use Rattle.nq_promises.specs.Chained.{OwnRow, IsChained, has_done, has_done_write, due, KnowsFile}
+use Rattle.nq_model.specs.Chained.{OwnRow, IsChained, has_done, has_done_write, due, KnowsFile}
 use Rattle.walk_steps.proofs.ClientFacts.{Alone}
 use Rattle.walk_steps.proofs.ClientMoves.{some-same, none-some}
 use Rattle.nq_model.specs.Client.{Client, Lease, Ticket, lease_on, is_clean_in}

@@ -12,7 +12,7 @@ use Rattle.walk_files.proofs.ChainFacts.{line_for, ChainFits}
 use Rattle.walk_files.proofs.ChainMoves.{mid-calls, mid-again, mid-passes}
 use Rattle.walk_files.proofs.ChainReplies.{Answered, mid-replied, mid-evicted}
 use Rattle.walk_files.proofs.ChainSends.{view_of, MidOf, mid-settles, mid-goes-on}
-use Rattle.nq_promises.specs.Chained.{IsChained}
+use Rattle.nq_model.specs.Chained.{IsChained}
 use Rattle.walk_steps.proofs.StepCases.{call-cases, unless-cached-cases, tick-cases, heard-cases}
 use Rattle.walk_steps.proofs.ClientCases.{Closed}
 use Rattle.walk_steps.proofs.ClientFacts.{DelayingOf}

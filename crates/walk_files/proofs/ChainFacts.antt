@@ -14,7 +14,7 @@ use Rattle.nq_base.specs.declared.Tag.{Tag}
 use Rattle.nq_base.specs.declared.Verdict.{Verdict}
 use Rattle.nq_base.specs.declared.Want.{Want}
 use Rattle.nq_base.specs.declared.Who.{Who}
-use Rattle.nq_promises.specs.Chained.{OwnRow, IsChained, has_done_write, due, KnowsFile}
+use Rattle.nq_model.specs.Chained.{OwnRow, IsChained, has_done_write, due, KnowsFile}
 use Rattle.nq_model.specs.Client.{Client, for_call, Lease, Revision, Ticket, UnderWay, lease_on, revision_of, revision_or_zero, is_clean_in}
 use Rattle.nq_model.specs.Decide.{verdict_reply}
 use Rattle.nq_model.specs.Hear.{inc_of}

@@ -11,7 +11,7 @@ use Rattle.nq_base.specs.declared.Who.{Who}
 use Rattle.walk_files.proofs.ChainFacts.{line_for, done_at, rev_at, GoesOnAs, IsFenced, gone, ahead, earlier, IsBoundOrFenced, bound, fenced}
 use Rattle.walk_files.proofs.ChainLists.{rev-put, known-put, known-put-other, some-put, unclean-wrote, unclean-lost}
 use Rattle.walk_files.proofs.ChainMoves.{View, Mid, Ready, mid-uses, mid-spends}
-use Rattle.nq_promises.specs.Chained.{OwnRow, IsChained, due, KnowsFile}
+use Rattle.nq_model.specs.Chained.{OwnRow, IsChained, due, KnowsFile}
 use Rattle.nq_model.proofs.ClientLists.{lease-after-put, put-lease-found, other-lease-put}
 use Rattle.walk_steps.proofs.ClientMoves.{some-same, none-some}
 use Rattle.nq_model.specs.Client.{for_call, Lease, Ticket, UnderWay, lease_on, put_lease, used_lease, other_dirty, revision_of, put_revision, is_clean_in}

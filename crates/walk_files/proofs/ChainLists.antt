@@ -5,7 +5,7 @@ use Rattle.nq_base.specs.declared.HostRow.{HostRow}
 use Rattle.nq_base.specs.declared.Push.{Push}
 use Rattle.nq_base.specs.declared.Request.{Request}
 use Rattle.walk_files.proofs.ChainFacts.{rev_at}
-use Rattle.nq_promises.specs.Chained.{is_done, has_done}
+use Rattle.nq_model.specs.Chained.{is_done, has_done}
 use Rattle.nq_model.proofs.ClientLists.{marked-before, marked-tag, marked-mode, marked-expiry, lease-before-drop, other-lease-dropped, used-lease-found, marked-blocks, any-overwritten, put-revision-found, other-revision-put}
 use Rattle.walk_steps.proofs.ClientMoves.{some-same, none-some}
 use Rattle.walk_steps.proofs.ClientWrites.{has-writes, writes-in-list, writes-under-way}

@@ -10,7 +10,7 @@ use Rattle.nq_base.specs.declared.Want.{Want}
 use Rattle.nq_base.specs.declared.Who.{Who}
 use Rattle.walk_files.proofs.ChainFacts.{VerdictFits, line_for, done_at, rev_at, HeldChains, GrantFits, GivenChains, IsBoundOrFenced, IsPushed, file_written, WriteChains, LineChains}
 use Rattle.walk_files.proofs.ChainLists.{WasLease, was-used, was-dropped, StillLease, still-used, still-dropped}
-use Rattle.nq_promises.specs.Chained.{IsChained, has_done, due, KnowsFile}
+use Rattle.nq_model.specs.Chained.{IsChained, has_done, due, KnowsFile}
 use Rattle.walk_steps.proofs.ClientMoves.{some-same, none-some}
 use Rattle.walk_steps.proofs.ClientWrites.{writes-under-way}
 use Rattle.nq_model.specs.Client.{Job, for_call, Lease, Revision, Ticket, UnderWay, lease_on, drop_lease, used_lease, is_push_of, push_passes, revision_of, is_clean_in}

@@ -17,7 +17,7 @@ use Rattle.walk_files.proofs.ChainHears.{mid-tells}
 use Rattle.walk_files.proofs.ChainLists.{unclean-ended, plain-undone}
 use Rattle.walk_files.proofs.ChainMoves.{Ready, NotDone, mid-spent, mid-cancels}
 use Rattle.walk_files.proofs.ChainSends.{view_of, MidOf}
-use Rattle.nq_promises.specs.Chained.{is_done, has_done, due}
+use Rattle.nq_model.specs.Chained.{is_done, has_done, due}
 use Rattle.walk_steps.proofs.PartCases.{caches-write-cases}
 use Rattle.walk_steps.proofs.RepliedCases.{OfCall, IsNamed, looked_up, created, attributes, replied-cases}
 use Rattle.walk_steps.proofs.StepCases.{evicted-cases}

@@ -8,7 +8,7 @@ use Rattle.walk_files.proofs.LineMoves.{line-same, replaced-there, replaced-othe
 use Rattle.walk_files.proofs.RowMoves.{rows-same, rows-ended, rows-loosened, rows-opened}
 use Rattle.walk_files.proofs.ServerChains.{RowsMove, LineTo, FilesGrow, rev_stays, rev_rises, FileMove, file_stays, file_changed}
 use Rattle.walk_files.proofs.ChainFacts.{line_for}
-use Rattle.nq_promises.specs.Chained.{OwnRow, has_done_write}
+use Rattle.nq_model.specs.Chained.{OwnRow, has_done_write}
 use Rattle.walk_steps.proofs.ClientMoves.{none-some}
 use Rattle.walk_steps.proofs.ServerEffects.{standing-serving}
 use Rattle.walk_steps.proofs.ServerLives.{HasServed}

@@ -22,8 +22,8 @@ use Rattle.walk_steps.proofs.ClientMoves.{some-same, none-some, keeps-or-cancels
 use Rattle.walk_files.proofs.ClientLookups.{IsBlock, clean-purged, found-purged, found-put, found-touched, revision-put, dirty-dropped}
 use Rattle.walk_files.proofs.ClientParts.{Part, part_of, history_in, IsKnown, IsOverKnown, IsFair, Mid, notes-entry, clean-fewer, dirty-fewer, ticket-fewer, sends-more, CanSend, sends-ticket, delays-write, forgets, confirms, sets, caches}
 use Rattle.walk_files.proofs.Facts.{Follows, follows, HadValue, value-follows, HadLength, SetsBlock, sets-follows, GrantTells}
-use Rattle.nq_promises.specs.Contents.{changes, delayed_by}
-use Rattle.nq_promises.specs.Told.{GrantIsOf}
+use Rattle.nq_model.specs.Contents.{changes, delayed_by}
+use Rattle.nq_model.specs.Told.{GrantIsOf}
 use Rattle.nq_model.specs.Client.{Clean, Client, ClientStep, Job, for_call, renewing, pushing, Notice, Revision, Ticket, UnderWay, begun, clean_at, purge, put_clean, dirty_at, drop_dirty, other_dirty, first_dirty, is_push_of, notice_on, put_revision, revision_of, revision_or_zero, is_revision, is_revision_before}
 use Rattle.nq_model.specs.ClientStep.{begins_call, is_called, says_busy, client_call, at_time, sends_again, client_tick}
 use Rattle.nq_model.specs.Hear.{vacates_lease, vacates_noticed, loss_entry, all_dirty, loses, reports, without_lease, push_refused, if_broken, holds, takes_grant, takes_optional, answers_call, grant_caches, caches_block, then_caches, read_done, marks_through, lease_done, purges, knows_revision, caches_write, ends_push, caches_push, push_done, spends, attached, pauses, cancels, notes_notice, evicted, goes_on}

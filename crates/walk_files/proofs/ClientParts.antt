@@ -15,7 +15,7 @@ use Rattle.walk_steps.proofs.ClientMoves.{some-same, none-some}
 use Rattle.walk_files.proofs.ClientLookups.{IsBlock, this-or-other, found-dropped, clean-dropped, in-written, IsWritten, was_there, is_new, written-elsewhere, revision-after, revision-put}
 use Rattle.walk_files.proofs.Facts.{History, Follows, follows, HadValue, value-follows, SetsBlock, Tells, tells-follows}
 use Rattle.walk_files.proofs.Histories.{NoChanges, delayed-more}
-use Rattle.nq_promises.specs.Contents.{changes, changes_of, delayed_by, delayed_value}
+use Rattle.nq_model.specs.Contents.{changes, changes_of, delayed_by, delayed_value}
 use Rattle.nq_model.specs.Client.{Clean, ClientStep, Revision, Ticket, clean_at, drop_clean, dirty_at, put_revision, revision_of, revision_or_zero}
 use Rattle.nq_model.specs.Hear.{inc_of}
 use Rattle.nq_model.specs.Message.{Message, Packet, call, reply, sequence_of}

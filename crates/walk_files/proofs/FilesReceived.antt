@@ -13,7 +13,7 @@ use Rattle.walk_files.proofs.RowsReceived.{added-same}
 use Rattle.walk_files.proofs.ServerChains.{Claims, NoneCaches, FileMove, file_stays, file_gone}
 use Rattle.walk_files.proofs.ChainFacts.{line_for, done_at, IsFenced, gone, ahead, earlier, StandsWriting, PushesFit}
 use Rattle.walk_files.proofs.ChainLists.{fresh-undone}
-use Rattle.nq_promises.specs.Chained.{OwnRow, is_done, has_done, has_done_write}
+use Rattle.nq_model.specs.Chained.{OwnRow, is_done, has_done, has_done_write}
 use Rattle.walk_steps.proofs.ClientFacts.{changes_file}
 use Rattle.walk_steps.proofs.ClientMoves.{some-same, none-some}
 use Rattle.walk_steps.proofs.ServerEffects.{standing-serving}

@@ -6,7 +6,7 @@ use Rattle.nq_base.specs.declared.Mode.TheVariants.{Writing}
 use Rattle.nq_base.specs.declared.Row.{Row}
 use Rattle.nq_base.specs.declared.Tag.{Tag}
 use Rattle.walk_files.proofs.ChainFacts.{ChainFits, GrantFits, GoesOnAs, line_for, done_at, rev_at}
-use Rattle.nq_promises.specs.Chained.{OwnRow, KnowsFile}
+use Rattle.nq_model.specs.Chained.{OwnRow, KnowsFile}
 use Rattle.walk_steps.proofs.ClientMoves.{some-same}
 use Rattle.walk_steps.proofs.BoundBefore.{Stood}
 use Rattle.walk_files.proofs.BoundRows.{IsBound, bound-fitting, fitting-bound}

@@ -13,7 +13,7 @@ use Rattle.nq_model.specs.Journal.{Throughout, Stores, IsStored, IsWriteOn, IsTh
 use Rattle.nq_model.specs.Synchronized.{held_value}
 use Rattle.nq_model.specs.Tests.{Tells}
 use Rattle.walk_steps.proofs.Packets.{In}
-use Rattle.nq_promises.specs.Undisturbed.{IsDelayedWrite, LeavesAlone, IsUndisturbed}
+use Rattle.nq_model.specs.Undisturbed.{IsDelayedWrite, LeavesAlone, IsUndisturbed}
 
 -- a write of a block counts at the server: it is through, or an S covers it
 abbrev pub IsHeld : (journal : List Entry) (file block : ℕ) → Entry → Type 0

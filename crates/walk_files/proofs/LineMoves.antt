@@ -8,7 +8,7 @@ use Rattle.nq_base.specs.declared.Who.{Who}
 use Rattle.walk_files.proofs.ChainReplies.{undone-file}
 use Rattle.walk_files.proofs.ServerChains.{LineTo, line_stays, line_decides, NoneCaches, FileMove, file_stays, file_written, file_changed}
 use Rattle.walk_files.proofs.ChainFacts.{line_for, done_at, VerdictFits}
-use Rattle.nq_promises.specs.Chained.{is_done, has_done, has_done_write}
+use Rattle.nq_model.specs.Chained.{is_done, has_done, has_done_write}
 use Rattle.nq_model.specs.Client.{Ticket}
 use Rattle.nq_model.specs.Decide.{Decision, row_after}
 use Rattle.nq_model.specs.Kept.{File, Kept, blocks_of, find_file, replace_file, written_file, host_row, with_row}

@@ -10,7 +10,7 @@ use Rattle.nq_model.specs.Journal.{Throughout, Each}
 use Rattle.walk_steps.proofs.Packets.{In}
 use Rattle.walk_files.proofs.Accesses.{Accesses, neither, read, wrote}
 use Rattle.walk_files.proofs.PlainParts.{IsPlain}
-use Rattle.nq_promises.specs.Undisturbed.{IsDelayedWrite, LeavesAlone, IsUndisturbed}
+use Rattle.nq_model.specs.Undisturbed.{IsDelayedWrite, LeavesAlone, IsUndisturbed}
 
 -- ---- later writes
 

@@ -12,7 +12,7 @@ use Rattle.walk_files.proofs.ChainAfter.{drawn-below}
 use Rattle.walk_files.proofs.ServerChains.{RowOn, goes_on, vacated, superseded, loosened, removed, reopened, RowsMove, LineTo, line_stays, line_begins, line_decides, FileGrows, rev_stays, rev_rises, rev_gone}
 use Rattle.walk_files.proofs.ChainFacts.{line_for, done_at, rev_at, IsFenced, gone, ahead, earlier, IsBoundOrFenced, bound, fenced, IsPushed, ChainFits, StandsWriting, PushFits, PushesFit}
 use Rattle.walk_files.proofs.ChainLists.{fresh-undone}
-use Rattle.nq_promises.specs.Chained.{due}
+use Rattle.nq_model.specs.Chained.{due}
 use Rattle.walk_steps.proofs.ClientMoves.{some-same, none-some}
 use Rattle.walk_steps.proofs.ClientWrites.{writes-under-way}
 use Rattle.nq_model.specs.Client.{Client, Ticket, is_push_of, push_passes, is_clean_in}

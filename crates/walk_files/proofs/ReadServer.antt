@@ -14,7 +14,7 @@ use Rattle.walk_calls.proofs.ClientMoves.{IsBelow}
 use Rattle.walk_calls.proofs.CallWorlds.{CallsKnown}
 use Rattle.walk_steps.proofs.ClientMoves.{none-some, some-same}
 use Rattle.walk_files.proofs.ServerDelays.{Never}
-use Rattle.nq_promises.specs.Contents.{delayed_by}
+use Rattle.nq_model.specs.Contents.{delayed_by}
 use Rattle.walk_calls.proofs.WritesFit.{IsRising}
 use Rattle.walk_files.proofs.ReadClient.{good-more}
 use Rattle.walk_files.proofs.ReadFacts.{IsServed, IsBacked, IsGood, ReadsFit, placed-append, get-append, served-more, backed-more, waits-more, standing-after}

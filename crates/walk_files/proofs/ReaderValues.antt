@@ -11,7 +11,7 @@ use Rattle.walk_files.proofs.Stores.{StoresNumber, stored-value}
 use Rattle.nq_model.specs.Journal.{Throughout, Covers, Stores, Loses, IsStored, IsLost, since_cut}
 use Rattle.nq_model.specs.Stands.{Stands, IsStandingValue}
 use Rattle.walk_steps.proofs.Packets.{In}
-use Rattle.nq_promises.specs.Undisturbed.{IsUndisturbed}
+use Rattle.nq_model.specs.Undisturbed.{IsUndisturbed}
 
 -- what covers a write stores it or loses it
 covers-either : (e : Entry) (who : Who) (file block n v : ℕ) → Covers e (W who file block n 0 false)

@@ -8,7 +8,7 @@ use Rattle.nq_base.specs.declared.Row.{Row}
 use Rattle.nq_base.specs.declared.Verdict.{Verdict}
 use Rattle.nq_base.specs.declared.Who.{Who}
 use Rattle.walk_files.proofs.ChainFacts.{ChainFits, IsPushed, line_for, done_at, rev_at}
-use Rattle.nq_promises.specs.Chained.{OwnRow, KnowsFile, has_done_write, due}
+use Rattle.nq_model.specs.Chained.{OwnRow, KnowsFile, has_done_write, due}
 use Rattle.walk_steps.proofs.ClientFacts.{push_in}
 use Rattle.walk_steps.proofs.ClientMoves.{some-same, none-some}
 use Rattle.walk_files.proofs.FromChains.{bound-knows}

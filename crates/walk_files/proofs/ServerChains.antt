@@ -9,7 +9,7 @@ use Rattle.nq_base.specs.declared.Tag.{Tag}
 use Rattle.nq_base.specs.declared.Verdict.{Verdict}
 use Rattle.nq_base.specs.declared.Who.{Who}
 use Rattle.walk_files.proofs.ChainFacts.{line_for, done_at, VerdictFits}
-use Rattle.nq_promises.specs.Chained.{OwnRow}
+use Rattle.nq_model.specs.Chained.{OwnRow}
 use Rattle.nq_model.specs.Client.{Lease, Ticket, lease_on}
 use Rattle.nq_model.specs.Decide.{verdict_reply}
 use Rattle.nq_model.specs.Hear.{inc_of}

@@ -19,8 +19,8 @@ use Rattle.walk_files.proofs.Facts.{History, Follows, follows, tells-follows, Ha
 use Rattle.walk_files.proofs.FileMoves.{ChangesOnly, files-idle, unused-idle, files-changed, unused-changed, files-removed, files-made, written-values, resized-values}
 use Rattle.walk_files.proofs.Histories.{NoChanges, delayed-more}
 use Rattle.walk_files.proofs.ServerDoes.{file-value, file-length, sets-block, sets-length, is-change, IsTrue, history_of, Shows, refused-tells, verdict-tells}
-use Rattle.nq_promises.specs.Contents.{delayed_value, after_change}
-use Rattle.nq_promises.specs.Told.{GrantIsOf}
+use Rattle.nq_model.specs.Contents.{delayed_value, after_change}
+use Rattle.nq_model.specs.Told.{GrantIsOf}
 use Rattle.nq_model.specs.Ask.{grant_of}
 use Rattle.nq_model.specs.Decide.{Decision, decides, creates, writes_through, stores, wrote, stores_recovering, resizes, removes, puts_off, verdict_reply, row_after, commits}
 use Rattle.nq_model.specs.Hear.{inc_of}

@@ -7,7 +7,7 @@ use Rattle.nq_model.specs.Journal.{Each}
 use Rattle.nq_model.specs.Message.{Datagram}
 use Rattle.nq_model.specs.Server.{Server}
 use Rattle.nq_model.specs.ServerStep.{receive, tick, crash}
-use Rattle.nq_promises.specs.Contents.{delayed_by, delayed_value}
+use Rattle.nq_model.specs.Contents.{delayed_by, delayed_value}
 use Rattle.walk_steps.proofs.ServerEntries.{OfServer, receive-each, tick-each}
 
 -- an entry that delays no write

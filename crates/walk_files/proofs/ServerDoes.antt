@@ -13,7 +13,7 @@ use Rattle.walk_steps.proofs.ClientMoves.{some-same, none-some}
 use Rattle.walk_files.proofs.Facts.{History, Follows, HadValue, HadLength, SetsBlock, Tells, IsDone, LineTells, IsFile, FilesFit, UnusedFit}
 use Rattle.walk_files.proofs.FileMoves.{ChangesOnly}
 use Rattle.walk_files.proofs.Histories.{count-changed, content-stays, content-changed, change-changed}
-use Rattle.nq_promises.specs.Contents.{changes_of, after_change, with_length, content_at, change_at}
+use Rattle.nq_model.specs.Contents.{changes_of, after_change, with_length, content_at, change_at}
 use Rattle.nq_model.specs.Decide.{verdict_reply}
 use Rattle.nq_model.specs.Hear.{inc_of}
 use Rattle.nq_model.specs.Kept.{File, blocks_of, host_row}

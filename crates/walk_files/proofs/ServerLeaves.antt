@@ -28,7 +28,7 @@ use Rattle.walk_steps.proofs.Rows.{same-number, number-same, find-passes, found-
 use Rattle.walk_steps.proofs.ServerCases.{server-hears, server-ticks}
 use Rattle.walk_steps.proofs.ServerOutcomes.{IsFresh, IsCurrent, IsAsking, IsChanging, clash_with, file_changed_by, base_in}
 use Rattle.walk_steps.proofs.TableFits.{TableFits}
-use Rattle.nq_promises.specs.Undisturbed.{LeavesAlone}
+use Rattle.nq_model.specs.Undisturbed.{LeavesAlone}
 
 -- a writing row of an incarnation stands
 pub record HasWriting (table : Table) (who : Who) (file : ℕ) : Type 0 where

@@ -11,7 +11,7 @@ use Rattle.nq_base.specs.declared.Request.{Request}
 use Rattle.nq_base.specs.declared.Row.{Row}
 use Rattle.nq_base.specs.declared.Who.{Who}
 use Rattle.walk_files.proofs.ChainFacts.{IsFenced, gone, ahead, earlier, IsBoundOrFenced, bound, fenced, done_at, rev_at}
-use Rattle.nq_promises.specs.Chained.{IsChained, has_done, has_done_write, is_done, due}
+use Rattle.nq_model.specs.Chained.{IsChained, has_done, has_done_write, is_done, due}
 use Rattle.walk_steps.proofs.ClientMoves.{some-same}
 use Rattle.walk_calls.proofs.WritesFit.{WritesFit, IsClear, IsBehind}
 use Rattle.nq_model.specs.Client.{Client, ClientStep, Lease, lease_on}
@@ -20,7 +20,7 @@ use Rattle.nq_model.specs.Kept.{host_row}
 use Rattle.nq_model.specs.Message.{Message, Packet, call, asker}
 use Rattle.nq_model.specs.Server.{standing}
 use Rattle.nq_model.specs.World.{World, after_client, from_host}
-use Rattle.nq_promises.specs.OneRequestPerSequence.{IsOpenRequest, IsUnderWay}
+use Rattle.nq_model.specs.OneRequestPerSequence.{IsOpenRequest, IsUnderWay}
 use Rattle.walk_steps.proofs.RunCases.{OfClients, clients-after}
 use Rattle.walk_steps.proofs.Mail.{other-asked}
 use Rattle.walk_steps.proofs.Packets.{In, in-append, Asked, message-same, call-same}
@@ -35,7 +35,7 @@ use Rattle.walk_files.proofs.OwnSends.{IsBy, AllOwn}
 use Rattle.walk_files.proofs.ServerLeaves.{HasWriting}
 use Rattle.walk_files.proofs.StillFits.{StillFits, Takes, push-writes, push-sequence, own-unsaved}
 use Rattle.walk_files.proofs.Tags.{IsEntry, unclean-entry, Follows}
-use Rattle.nq_promises.specs.Undisturbed.{LeavesAlone, IsUndisturbed}
+use Rattle.nq_model.specs.Undisturbed.{LeavesAlone, IsUndisturbed}
 
 -- ---- lists by place
 

@@ -12,7 +12,7 @@ use Rattle.nq_base.specs.declared.Row.{Row}
 use Rattle.nq_base.specs.declared.Tag.{Tag}
 use Rattle.nq_base.specs.declared.Who.{Who}
 use Rattle.walk_files.proofs.ChainFacts.{ChainFits, PushesFit, StandsWriting, InOrder, GrantFits, IsFenced, gone, ahead, earlier, IsBoundOrFenced, bound, fenced, done_at, rev_at}
-use Rattle.nq_promises.specs.Chained.{IsChained, KnowsFile, has_done, has_done_write, due}
+use Rattle.nq_model.specs.Chained.{IsChained, KnowsFile, has_done, has_done_write, due}
 use Rattle.walk_steps.proofs.ClientFacts.{push_in}
 use Rattle.walk_steps.proofs.ClientMoves.{none-some, some-same}
 use Rattle.walk_calls.proofs.FactPushes.{dirty-clear}
@@ -35,7 +35,7 @@ use Rattle.walk_files.proofs.Journals.{undisturbed-more}
 use Rattle.walk_files.proofs.Marks.{since-later, fresh-write}
 use Rattle.walk_files.proofs.ServerLeaves.{HasWriting}
 use Rattle.walk_files.proofs.Tags.{IsEntry, unclean-entry, Follows, keeps_tag, granted, lost}
-use Rattle.nq_promises.specs.Undisturbed.{LeavesAlone, IsUndisturbed}
+use Rattle.nq_model.specs.Undisturbed.{LeavesAlone, IsUndisturbed}
 
 pub record StillFits (s : Server) (c : Client) (ps : List Packet) (journal : List Entry) : Type 0 where
   -- an entry of delayed writes, none of which is covered, of a file whose lease is chained

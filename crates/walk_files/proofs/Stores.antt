@@ -8,7 +8,7 @@ use Rattle.walk_files.proofs.Places.{IsPlaced, before-in, before-exists, last-sa
 use Rattle.nq_model.specs.Journal.{Throughout, Covers, Stores, Loses, IsStored, IsLost, IsWriteOn, since_cut}
 use Rattle.nq_model.specs.Stands.{Stands, IsStandingValue}
 use Rattle.walk_steps.proofs.Packets.{In}
-use Rattle.nq_promises.specs.Undisturbed.{LeavesAlone, IsUndisturbed}
+use Rattle.nq_model.specs.Undisturbed.{LeavesAlone, IsUndisturbed}
 
 -- an S of the incarnation covers this number of the block
 abbrev pub StoresNumber : (journal : List Entry) (who : Who) (file block n : ℕ) → Type 0

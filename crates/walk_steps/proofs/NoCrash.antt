@@ -2,7 +2,7 @@
 use Rattle.std.proofs.Common.{◌≡◌, ℕ, zero, suc, Bool, true, false, List, [], ◌∷◌, ◌++◌, arith}
 use Rattle.std.specs.Prelude.{All}
 use Rattle.nq_base.specs.declared.Event.{Event}
-use Rattle.nq_promises.specs.Bounds.{BootsWithin, KeepsBounds}
+use Rattle.nq_model.specs.Bounds.{BootsWithin, KeepsBounds}
 use Rattle.nq_model.specs.World.{Head}
 
 -- a schedule within bounds was so before its last event

@@ -1,5 +1,5 @@
 use Rattle.std.proofs.Common.{◌≡◌, map, None, take}
-use Rattle.nq_stager.specs.Staged.{new_stager}
+use Rattle.nq_stage.specs.Staged.{new_stager}
 use Rattle.nq_commit.proofs.world.sides_of.Given as goal
 
 -- the sides of the hosts before this one

@@ -1,16 +1,16 @@
-use Rattle.law_calls.proofs.OrderedCalls.{of-their-call-in-every-run, ordered-in-every-run}
-use Rattle.law_files.proofs.ChainWorlds.{chain-fits}
-use Rattle.law_legal.proofs.OkDeeds.{deeds-in-every-run}
-use Rattle.law_files.proofs.ExcusesInRuns.{losses-excused}
-use Rattle.law_calls.proofs.FateLaws.{accounted, waiting, fates}
-use Rattle.law_legal.proofs.HeldLaws.{held-in-every-run}
-use Rattle.law_legal.proofs.ZeroRuns.{untouched}
+use Rattle.law_runs.proofs.OrderedCalls.{of-their-call-in-every-run, ordered-in-every-run}
+use Rattle.law_runs.proofs.ChainWorlds.{chain-fits}
+use Rattle.law_runs.proofs.OkDeeds.{deeds-in-every-run}
+use Rattle.law_runs.proofs.ExcusesInRuns.{losses-excused}
+use Rattle.law_runs.proofs.FateLaws.{accounted, waiting, fates}
+use Rattle.law_runs.proofs.HeldLaws.{held-in-every-run}
+use Rattle.law_runs.proofs.ZeroRuns.{untouched}
 use Rattle.nq_laws.proofs.CachedReads.{cached-in-every-run}
 use Rattle.nq_laws.proofs.HeadlineParts.{at-every-moment}
 use Rattle.nq_laws.proofs.promises.headline.Goals as goal
-use Rattle.law_legal.proofs.LegalLaws.{legal-in-every-run}
-use Rattle.law_legal.proofs.ReportedRuns.{reported-in-every-run}
-use Rattle.law_legal.proofs.Standings.{synchronized-in-every-run, answers-in-every-run, busy-in-every-run}
+use Rattle.law_runs.proofs.LegalLaws.{legal-in-every-run}
+use Rattle.law_runs.proofs.ReportedRuns.{reported-in-every-run}
+use Rattle.law_runs.proofs.Standings.{synchronized-in-every-run, answers-in-every-run, busy-in-every-run}
 
 pub returns-clause-ordered : goal.returns-clause-ordered
 returns-clause-ordered c = ordered-in-every-run

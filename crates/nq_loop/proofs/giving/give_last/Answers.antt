@@ -3,8 +3,8 @@ use Rattle.std.specs.Prelude.{reverse}
 use Rattle.nq_loop.proofs.Events.{can-come, counts-refused, counts-taken, has-count, refused, taken}
 use Rattle.nq_loop.specs.Holding.{CountsKeep, GivesTo, IsLooped, loop_of}
 use Rattle.nq_loop.specs.Sending.{SendsAll, told_of}
-use Rattle.nq_play.proofs.Dropping.{dropped}
-use Rattle.nq_play.proofs.Steps.{has_flag}
+use Rattle.nq_replay.proofs.Dropping.{dropped}
+use Rattle.nq_replay.proofs.Steps.{has_flag}
 use Rattle.nq_loop.proofs.giving.give_last.Goals as goal
 
 pub step-requires : goal.step-requires

@@ -1,7 +1,7 @@
 use Rattle.std.proofs.Common.{List}
 use Rattle.nq_base.specs.declared.Event.{Event}
 use Rattle.nq_loop.proofs.Finding.{FoundBelow, NoneFresh}
-use Rattle.nq_play.specs.Delivering.{Marks}
+use Rattle.nq_replay.specs.Delivering.{Marks}
 use Rattle.nq_loop.proofs.matching.packet_of.Given as goal
 
 abbrev pub invariant-loop-number : goal.invariant-loop-number

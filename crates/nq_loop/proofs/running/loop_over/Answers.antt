@@ -1,7 +1,7 @@
 use Rattle.std.proofs.Common.{map, subst, sym}
 use Rattle.std.specs.List.{AllByRecursion}
 use Rattle.std.specs.Prelude.{reverse}
-use Rattle.nq_node.specs.Clocks.{clock_told}
+use Rattle.nq_hosts.specs.Clocks.{clock_told}
 use Rattle.nq_loop.proofs.Ends.{are-looped, begins, counts-loop, ends, keeps-loop}
 use Rattle.nq_loop.proofs.Takings.{now_at}
 use Rattle.nq_loop.specs.Holding.{IsLooped, IsLooping, loop_of}
@@ -9,7 +9,7 @@ use Rattle.nq_loop.specs.Looped.{TellsEnd, between}
 use Rattle.nq_loop.specs.Sending.{told_of}
 use Rattle.nq_loop.specs.Turning.{TakesTurns}
 use Rattle.nq_loop.specs.Whole.{loop_head}
-use Rattle.nq_play.specs.Playing.{beginning}
+use Rattle.nq_replay.specs.Playing.{beginning}
 use Rattle.nq_loop.proofs.running.loop_over.Goals as goal
 
 pub tell-end-requires-clause-looped : goal.tell-end-requires-clause-looped

@@ -1,7 +1,7 @@
 use Rattle.std.proofs.Common.{◌+◌, ◌-◌, ◌∙◌, ap, length, subst, sym}
 use Rattle.nq_base.specs.declared.Event.{Event}
-use Rattle.nq_names_run.specs.declared.NameEvent.{NameEvent}
-use Rattle.nq_asides.proofs.Onward.{done-here, goes-on, stops-here}
+use Rattle.nq_name_server.specs.declared.run.event.NameEvent.{NameEvent}
+use Rattle.nq_replay.proofs.AsidesOnward.{done-here, goes-on, stops-here}
 use Rattle.nq_naming.proofs.Onward.{flow-none, flow-some}
 use Rattle.nq_naming.proofs.Steps.{at-sent, next-is, faults-on, settings-on}
 use Rattle.nq_naming.specs.Playing.{play_event, play_flow}

@@ -1,8 +1,8 @@
 use Rattle.std.proofs.Common.{◌≡◌, refl}
 use Rattle.nq_base.specs.declared.Event.{Event}
-use Rattle.nq_names_run.specs.declared.NameEvent.{NameEvent}
-use Rattle.nq_asides.proofs.Onward.{goes-on, goes-same, stops-here}
-use Rattle.nq_asides.specs.Playing.{and_then}
+use Rattle.nq_name_server.specs.declared.run.event.NameEvent.{NameEvent}
+use Rattle.nq_replay.proofs.AsidesOnward.{goes-on, goes-same, stops-here}
+use Rattle.nq_replay.specs.AsidesPlaying.{and_then}
 use Rattle.nq_naming.specs.Playing.{play_event, play_round, play_ticks}
 use Rattle.nq_naming.proofs.events.round.Goals as goal
 

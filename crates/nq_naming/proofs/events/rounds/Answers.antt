@@ -1,7 +1,7 @@
 use Rattle.std.proofs.Common.{◌+◌, ◌-◌, ◌∙◌}
-use Rattle.nq_asides.proofs.Onward.{goes-on, repeat-step, stops-here}
+use Rattle.nq_replay.proofs.AsidesOnward.{goes-on, repeat-step, stops-here}
 use Rattle.nq_naming.proofs.Steps.{faults-on, settings-on}
-use Rattle.nq_asides.specs.Playing.{repeated}
+use Rattle.nq_replay.specs.AsidesPlaying.{repeated}
 use Rattle.nq_naming.specs.Playing.{play_round}
 use Rattle.nq_naming.proofs.events.rounds.Goals as goal
 

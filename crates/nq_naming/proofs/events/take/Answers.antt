@@ -2,7 +2,7 @@ use Rattle.std.proofs.Common.{◌≡◌, ◌≤◌, length, subst, sym}
 use Rattle.nq_names.specs.Playing.{PlaysOutside}
 use Rattle.nq_naming.proofs.Steps.{has_flag, not-taken, taken}
 use Rattle.nq_naming.specs.Playing.{plain_events}
-use Rattle.nq_names_run.specs.Outside.{outside_run}
+use Rattle.nq_name_server.specs.Outside.{outside_run}
 use Rattle.nq_world.specs.Playing.{CountsFaults, HasSettings, WorldOver}
 use Rattle.nq_naming.proofs.events.take.Goals as goal
 

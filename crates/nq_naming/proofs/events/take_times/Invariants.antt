@@ -1,9 +1,9 @@
 use Rattle.std.proofs.Common.{◌≡◌, ◌-◌, List, length}
-use Rattle.nq_names_run.specs.declared.NameEvent.{NameEvent}
+use Rattle.nq_name_server.specs.declared.run.event.NameEvent.{NameEvent}
 use Rattle.nq_model.specs.World.{Head}
-use Rattle.nq_asides.proofs.Onward.{IsOn}
+use Rattle.nq_replay.proofs.AsidesOnward.{IsOn}
 use Rattle.nq_naming.specs.Going.{IsAt}
-use Rattle.nq_asides.specs.Playing.{repeated}
+use Rattle.nq_replay.specs.AsidesPlaying.{repeated}
 use Rattle.nq_naming.specs.Playing.{play_event}
 use Rattle.nq_world.specs.Playing.{HasSettings}
 use Rattle.nq_naming.proofs.events.take_times.Given as goal

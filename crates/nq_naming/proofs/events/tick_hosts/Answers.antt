@@ -1,7 +1,7 @@
 use Rattle.std.proofs.Common.{◌+◌, ◌-◌, ◌∙◌}
 use Rattle.nq_base.specs.declared.Event.{Event}
-use Rattle.nq_names_run.specs.declared.NameEvent.{NameEvent}
-use Rattle.nq_asides.proofs.Onward.{goes-on, stops-here}
+use Rattle.nq_name_server.specs.declared.run.event.NameEvent.{NameEvent}
+use Rattle.nq_replay.proofs.AsidesOnward.{goes-on, stops-here}
 use Rattle.nq_naming.proofs.Onward.{ticks-step}
 use Rattle.nq_naming.proofs.Steps.{faults-on, settings-on}
 use Rattle.nq_naming.specs.Playing.{play_event, play_ticks}

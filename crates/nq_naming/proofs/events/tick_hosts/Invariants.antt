@@ -1,7 +1,7 @@
 use Rattle.std.proofs.Common.{◌≡◌, ◌-◌, List, length}
-use Rattle.nq_names_run.specs.declared.NameEvent.{NameEvent}
+use Rattle.nq_name_server.specs.declared.run.event.NameEvent.{NameEvent}
 use Rattle.nq_model.specs.World.{Head}
-use Rattle.nq_asides.proofs.Onward.{IsOn}
+use Rattle.nq_replay.proofs.AsidesOnward.{IsOn}
 use Rattle.nq_naming.specs.Going.{IsAt}
 use Rattle.nq_naming.specs.Playing.{play_ticks}
 use Rattle.nq_world.specs.Playing.{HasSettings}

@@ -1,7 +1,7 @@
 use Rattle.std.proofs.Common.{◌≡◌, ◌∙◌, ap, length, sym}
 use Rattle.std.proofs.lemmas.List.{length-reverse}
 use Rattle.std.proofs.lemmas.Result.{on_ok_weaker}
-use Rattle.nq_names_run.specs.Outside.{outside_run}
+use Rattle.nq_name_server.specs.Outside.{outside_run}
 use Rattle.nq_naming.proofs.Moments.{find-moment}
 use Rattle.nq_naming.proofs.lines.find.Goals as goal
 

@@ -1,11 +1,11 @@
 use Rattle.std.proofs.Common.{◌≡◌, ◌+◌, ◌<◌, ◌≤◌, ◌∙◌, length, refl, sym, ap, subst, arith}
-use Rattle.nq_asides.proofs.Mixing.{mixed-length}
-use Rattle.nq_asides.specs.Text.{HoldsOfAsides, mixed}
-use Rattle.nq_name_script.specs.Text.{IsOfHost}
-use Rattle.nq_asides.proofs.Onward.{comes-here, is-there, line-on, lines-end, lines-step, ran-here, stops-line}
+use Rattle.nq_replay.proofs.Mixing.{mixed-length}
+use Rattle.nq_replay.specs.Text.{HoldsOfAsides, mixed}
+use Rattle.nq_naming.specs.Text.{IsOfHost}
+use Rattle.nq_replay.proofs.AsidesOnward.{comes-here, is-there, line-on, lines-end, lines-step, ran-here, stops-line}
 use Rattle.nq_naming.proofs.Moments.{at-end}
 use Rattle.nq_naming.proofs.Steps.{faults-on, settings-on}
-use Rattle.nq_play.specs.Going.{AreForWorld, said}
+use Rattle.nq_replay.specs.Going.{AreForWorld, said}
 use Rattle.nq_naming.specs.Playing.{first_moment, play_line, play_lines}
 use Rattle.nq_naming.proofs.lines.play.Goals as goal
 

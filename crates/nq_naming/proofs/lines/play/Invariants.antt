@@ -1,8 +1,8 @@
 use Rattle.std.proofs.Common.{◌≡◌, ◌+◌, [], drop, length}
 use Rattle.nq_model.specs.World.{Head}
-use Rattle.nq_asides.specs.Text.{mixed}
+use Rattle.nq_replay.specs.Text.{mixed}
 use Rattle.nq_names.specs.Playing.{PlaysOutside}
-use Rattle.nq_asides.proofs.Onward.{IsOn}
+use Rattle.nq_replay.proofs.AsidesOnward.{IsOn}
 use Rattle.nq_naming.specs.Going.{IsAtMoment}
 use Rattle.nq_naming.specs.Playing.{first_moment, play_lines}
 use Rattle.nq_world.specs.Playing.{HasSettings}

@@ -1,4 +1,4 @@
-use Rattle.nq_names_run.specs.declared.NameEvent.{NameEvent}
+use Rattle.nq_name_server.specs.declared.run.event.NameEvent.{NameEvent}
 use Rattle.nq_naming.proofs.Moments.{list-moment}
 use Rattle.nq_naming.proofs.lines.play_aside.Goals as goal
 

@@ -1,9 +1,9 @@
 use Rattle.std.proofs.Common.{◌∙◌, ap, length, sym}
-use Rattle.nq_asides.proofs.Mixing.{aside-holds, line-beside, line-plain, line-there}
-use Rattle.nq_asides.specs.Text.{aside_at}
-use Rattle.nq_name_script.specs.Text.{IsOfHost}
+use Rattle.nq_replay.proofs.Mixing.{aside-holds, line-beside, line-plain, line-there}
+use Rattle.nq_replay.specs.Text.{aside_at}
+use Rattle.nq_naming.specs.Text.{IsOfHost}
 use Rattle.nq_naming.proofs.Moments.{plain-moment}
-use Rattle.nq_asides.proofs.Onward.{goes-same}
+use Rattle.nq_replay.proofs.AsidesOnward.{goes-same}
 use Rattle.nq_naming.specs.Playing.{play_line}
 use Rattle.nq_naming.proofs.lines.play_at.Goals as goal
 

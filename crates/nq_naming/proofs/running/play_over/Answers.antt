@@ -1,11 +1,11 @@
 use Rattle.std.proofs.Common.{arith, refl, subst, sym}
-use Rattle.nq_play.specs.Playing.{beginning}
+use Rattle.nq_replay.specs.Playing.{beginning}
 use Rattle.nq_replay.proofs.Heads.{are_for_world, few_lines}
 use Rattle.nq_replay.proofs.Never.{reasoned}
-use Rattle.nq_asides.proofs.Readied.{is-ready}
-use Rattle.nq_asides.specs.Text.{HoldsOfAsides}
+use Rattle.nq_replay.proofs.Readied.{is-ready}
+use Rattle.nq_replay.specs.Text.{HoldsOfAsides}
 use Rattle.nq_naming.specs.Playing.{play}
-use Rattle.nq_name_script.specs.Text.{IsOfHost}
+use Rattle.nq_naming.specs.Text.{IsOfHost}
 use Rattle.nq_naming.proofs.running.play_over.Goals as goal
 
 pub play-requires : goal.play-requires

@@ -1,10 +1,10 @@
 use Rattle.std.proofs.Common.{inl, map, subst, sym}
 use Rattle.std.specs.List.{AllByRecursion}
-use Rattle.nq_asides.proofs.Reversing.{all-reverse}
+use Rattle.nq_replay.proofs.Reversing.{all-reverse}
 use Rattle.nq_replay.specs.Texts.{IsTellable}
 use Rattle.nq_naming.proofs.Printed.{is-printed}
 use Rattle.nq_naming.proofs.running.print_run.Goals as goal
-use Rattle.nq_play.specs.Playing.{beginning}
+use Rattle.nq_replay.specs.Playing.{beginning}
 use Rattle.nq_script.specs.Lines.{once}
 use Rattle.nq_script.specs.Schedule.{SpellsSchedule}
 

@@ -1,4 +1,4 @@
-use Rattle.nq_asides.specs.Text.{mixed}
+use Rattle.nq_replay.specs.Text.{mixed}
 use Rattle.nq_naming.proofs.Outcomes.{ends_done, ends_faulty, ends_skew, ends_passing, is_due, names_bad, passes_none, script_unless, text_of_fault, text_of_schedule}
 use Rattle.nq_naming.proofs.running.run_text.Goals as goal
 

@@ -1,4 +1,4 @@
-use Rattle.nq_play.specs.Playing.{beginning}
+use Rattle.nq_replay.specs.Playing.{beginning}
 use Rattle.nq_naming.proofs.Outcomes.{run_ends, stop_ends}
 use Rattle.nq_naming.specs.Going.{IsAtEnd}
 use Rattle.nq_naming.specs.Playing.{Moment}

@@ -1,6 +1,6 @@
 use Rattle.std.proofs.Common.{◌≡◌, ◌+◌, ◌*◌, ◌++◌, ℕ, List, [], ◌∷◌, ap, ◌∙◌}
 use Rattle.nq_image.specs.Writing.{zeros_of}
-use Rattle.nq_redo.specs.Ranges.{Range}
+use Rattle.nq_disk.specs.Ranges.{Range}
 use Rattle.nq_plan.specs.Ranges.{id_range, range}
 use Rattle.nq_plan.proofs.Joining.{two-ranges}
 use Rattle.nq_plan.proofs.ranges.add_removal.Goals as goal

@@ -1,5 +1,5 @@
 use Rattle.std.proofs.Common.{refl, arith}
-use Rattle.nq_play.specs.Playing.{beginning, play}
+use Rattle.nq_replay.specs.Playing.{beginning, play}
 use Rattle.nq_replay.proofs.Heads.{are_for_world, few_lines}
 use Rattle.nq_replay.proofs.schedules.play_over.Goals as goal
 

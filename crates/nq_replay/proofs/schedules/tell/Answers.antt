@@ -1,7 +1,7 @@
 use Rattle.std.proofs.Common.{◌≡◌, List, inl, map, refl}
 use Rattle.nq_base.specs.Plain.{plain}
 use Rattle.nq_base.specs.declared.Event.{Event}
-use Rattle.nq_play.specs.Playing.{beginning}
+use Rattle.nq_replay.specs.Playing.{beginning}
 use Rattle.nq_replay.proofs.Outcomes.{run_ends}
 use Rattle.nq_replay.proofs.Overs.{entries_count, keeps_run, not_last, why_counts, why_ends, why_never}
 use Rattle.nq_replay.specs.Replay.{journal_of}

@@ -1,5 +1,5 @@
 use Rattle.std.proofs.Common.{sym}
-use Rattle.nq_grant.proofs.Within.{own-found}
+use Rattle.nq_lease.proofs.Within.{own-found}
 use Rattle.nq_server.proofs.aside.hear.Goals as goal
 
 pub put_heard-requires : goal.put_heard-requires

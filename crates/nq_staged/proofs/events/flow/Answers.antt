@@ -1,7 +1,7 @@
 use Rattle.std.proofs.Common.{◌+◌, ◌-◌, ◌∙◌, ap, length, subst, sym}
 use Rattle.nq_base.specs.declared.Event.{Event}
-use Rattle.nq_staged_run.specs.declared.StagedEvent.{StagedEvent}
-use Rattle.nq_asides.proofs.Onward.{done-here, goes-on, stops-here}
+use Rattle.nq_stage.specs.declared.run.event.StagedEvent.{StagedEvent}
+use Rattle.nq_replay.proofs.AsidesOnward.{done-here, goes-on, stops-here}
 use Rattle.nq_staged.proofs.Onward.{flow-none, flow-some}
 use Rattle.nq_staged.proofs.Steps.{at-sent, next-is, faults-on, settings-on}
 use Rattle.nq_staged.specs.Playing.{play_event, play_flow}

@@ -1,9 +1,9 @@
 use Rattle.std.proofs.Common.{◌≡◌, ◌-◌, List, length}
-use Rattle.nq_staged_run.specs.declared.StagedEvent.{StagedEvent}
+use Rattle.nq_stage.specs.declared.run.event.StagedEvent.{StagedEvent}
 use Rattle.nq_model.specs.World.{Head}
-use Rattle.nq_asides.proofs.Onward.{IsOn}
+use Rattle.nq_replay.proofs.AsidesOnward.{IsOn}
 use Rattle.nq_staged.specs.Going.{IsAt}
-use Rattle.nq_asides.specs.Playing.{repeated}
+use Rattle.nq_replay.specs.AsidesPlaying.{repeated}
 use Rattle.nq_staged.specs.Playing.{play_round}
 use Rattle.nq_world.specs.Playing.{HasSettings}
 use Rattle.nq_staged.proofs.events.rounds.Given as goal

@@ -2,7 +2,7 @@ use Rattle.std.proofs.Common.{◌≡◌, ◌≤◌, length, subst, sym}
 use Rattle.nq_commit.specs.Playing.{PlaysOutside}
 use Rattle.nq_staged.proofs.Steps.{has_flag, not-taken, taken}
 use Rattle.nq_staged.specs.Playing.{plain_events}
-use Rattle.nq_staged_run.specs.Outside.{outside_run}
+use Rattle.nq_stage.specs.Outside.{outside_run}
 use Rattle.nq_world.specs.Playing.{CountsFaults, HasSettings, WorldOver}
 use Rattle.nq_staged.proofs.events.take.Goals as goal
 

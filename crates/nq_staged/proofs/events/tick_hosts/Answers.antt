@@ -1,7 +1,7 @@
 use Rattle.std.proofs.Common.{◌+◌, ◌-◌, ◌∙◌}
 use Rattle.nq_base.specs.declared.Event.{Event}
-use Rattle.nq_staged_run.specs.declared.StagedEvent.{StagedEvent}
-use Rattle.nq_asides.proofs.Onward.{goes-on, stops-here}
+use Rattle.nq_stage.specs.declared.run.event.StagedEvent.{StagedEvent}
+use Rattle.nq_replay.proofs.AsidesOnward.{goes-on, stops-here}
 use Rattle.nq_staged.proofs.Onward.{ticks-step}
 use Rattle.nq_staged.proofs.Steps.{faults-on, settings-on}
 use Rattle.nq_staged.specs.Playing.{play_event, play_ticks}

@@ -1,9 +1,9 @@
 use Rattle.std.proofs.Common.{◌≡◌, ◌+◌, ◌<◌, ◌≤◌, ◌∙◌, [], length, refl, sym, ap, subst, arith}
-use Rattle.nq_asides.proofs.Mixing.{mixed-length}
-use Rattle.nq_asides.specs.Text.{HoldsOfAsides, mixed}
-use Rattle.nq_asides.proofs.Onward.{comes-here, is-there, line-on, lines-end, lines-step, ran-here, stops-line}
+use Rattle.nq_replay.proofs.Mixing.{mixed-length}
+use Rattle.nq_replay.specs.Text.{HoldsOfAsides, mixed}
+use Rattle.nq_replay.proofs.AsidesOnward.{comes-here, is-there, line-on, lines-end, lines-step, ran-here, stops-line}
 use Rattle.nq_staged.proofs.Steps.{faults-on, settings-on}
-use Rattle.nq_play.specs.Going.{AreForWorld, said}
+use Rattle.nq_replay.specs.Going.{AreForWorld, said}
 use Rattle.nq_staged.specs.Playing.{play_line, play_lines}
 use Rattle.nq_staged.specs.Text.{IsOfHost}
 use Rattle.nq_staged.proofs.lines.play.Goals as goal

@@ -1,8 +1,8 @@
 use Rattle.std.proofs.Common.{◌≡◌, ◌+◌, [], drop, length}
-use Rattle.nq_asides.specs.Text.{mixed}
+use Rattle.nq_replay.specs.Text.{mixed}
 use Rattle.nq_commit.specs.Playing.{PlaysOutside}
 use Rattle.nq_model.specs.World.{Head}
-use Rattle.nq_asides.proofs.Onward.{IsOn}
+use Rattle.nq_replay.proofs.AsidesOnward.{IsOn}
 use Rattle.nq_staged.specs.Going.{IsAt}
 use Rattle.nq_staged.specs.Playing.{play_lines}
 use Rattle.nq_world.specs.Playing.{HasSettings}

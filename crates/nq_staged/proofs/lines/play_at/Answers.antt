@@ -1,7 +1,7 @@
 use Rattle.std.proofs.Common.{◌∙◌, ap, length, sym}
-use Rattle.nq_asides.proofs.Mixing.{aside-holds, line-beside, line-plain, line-there}
-use Rattle.nq_asides.specs.Text.{aside_at}
-use Rattle.nq_asides.proofs.Onward.{goes-same}
+use Rattle.nq_replay.proofs.Mixing.{aside-holds, line-beside, line-plain, line-there}
+use Rattle.nq_replay.specs.Text.{aside_at}
+use Rattle.nq_replay.proofs.AsidesOnward.{goes-same}
 use Rattle.nq_staged.specs.Playing.{play_line}
 use Rattle.nq_staged.specs.Text.{IsOfHost}
 use Rattle.nq_staged.proofs.lines.play_at.Goals as goal

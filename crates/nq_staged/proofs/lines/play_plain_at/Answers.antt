@@ -1,10 +1,10 @@
 use Rattle.std.proofs.Common.{◌∙◌, sym}
 use Rattle.std.proofs.lemmas.Option.{same_Some}
 use Rattle.nq_base.specs.declared.Event.{Event}
-use Rattle.nq_asides.proofs.Onward.{goes-same}
+use Rattle.nq_replay.proofs.AsidesOnward.{goes-same}
 use Rattle.nq_staged.proofs.Onward.{played-once}
 use Rattle.nq_staged.specs.Playing.{play_event, play_plain}
-use Rattle.nq_staged_run.specs.declared.StagedEvent.{StagedEvent}
+use Rattle.nq_stage.specs.declared.run.event.StagedEvent.{StagedEvent}
 use Rattle.nq_staged.proofs.lines.play_plain_at.Goals as goal
 
 pub returns-in-Some-clause-goes : goal.returns-in-Some-clause-goes

@@ -1,7 +1,7 @@
 use Rattle.std.proofs.Common.{arith, refl, subst, sym}
-use Rattle.nq_asides.proofs.Readied.{is-ready}
-use Rattle.nq_asides.specs.Text.{HoldsOfAsides}
-use Rattle.nq_play.specs.Playing.{beginning}
+use Rattle.nq_replay.proofs.Readied.{is-ready}
+use Rattle.nq_replay.specs.Text.{HoldsOfAsides}
+use Rattle.nq_replay.specs.Playing.{beginning}
 use Rattle.nq_replay.proofs.Heads.{are_for_world, few_lines}
 use Rattle.nq_replay.proofs.Never.{reasoned}
 use Rattle.nq_staged.specs.Playing.{play}

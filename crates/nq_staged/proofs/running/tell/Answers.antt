@@ -1,8 +1,8 @@
 use Rattle.std.proofs.Common.{List}
 use Rattle.nq_commit.specs.Playing.{PlaysOutside}
-use Rattle.nq_play.specs.Playing.{beginning}
+use Rattle.nq_replay.specs.Playing.{beginning}
 use Rattle.nq_staged.proofs.Outcomes.{run_ends, stop_ends}
-use Rattle.nq_staged_run.specs.declared.StagedEvent.{StagedEvent}
+use Rattle.nq_stage.specs.declared.run.event.StagedEvent.{StagedEvent}
 use Rattle.nq_staged.proofs.running.tell.Goals as goal
 
 pub returns-in-All : goal.returns-in-All

@@ -1,5 +1,5 @@
 use Rattle.std.proofs.Common.{◌≡◌, ◌≤◌, List, ℕ, length, take, arith, ap, ◌∙◌}
-use Rattle.nq_redo.proofs.Adding.{written-back}
+use Rattle.nq_disk.proofs.Adding.{written-back}
 use Rattle.nq_store.proofs.Told.{piece-read}
 use Rattle.nq_store.proofs.loading.read_piece.Goals as goal
 

@@ -1,9 +1,9 @@
 use Rattle.std.proofs.Common.{◌⊎◌, ℕ, List, length, refl, subst, ◌∙◌, inl, inr, arith}
-use Rattle.nq_format.specs.Standing.{image_area}
-use Rattle.nq_redo.specs.Batch.{IsFit}
-use Rattle.nq_redo.specs.Saying.{Each}
-use Rattle.nq_redo.specs.Whole.{IsClosed, OpensAfter, OpensAsOne, Settled, after}
-use Rattle.nq_redo.specs.declared.Area.{Area}
+use Rattle.nq_plan.specs.Standing.{image_area}
+use Rattle.nq_disk.specs.Batch.{IsFit}
+use Rattle.nq_disk.specs.Saying.{Each}
+use Rattle.nq_disk.specs.Whole.{IsClosed, OpensAfter, OpensAsOne, Settled, after}
+use Rattle.nq_disk.specs.declared.redo.area.Area.{Area}
 use Rattle.nq_store.proofs.Zeroing.{through}
 use Rattle.nq_store.proofs.migrating.finish.Goals as goal
 

@@ -4,7 +4,7 @@ use Rattle.nq_disk.specs.Calling.{told_after}
 use Rattle.nq_image.specs.Kept.{numbers_from}
 use Rattle.nq_image.specs.Layout.{block_place}
 use Rattle.nq_image.specs.Writing.{table_of_blocks}
-use Rattle.nq_redo.specs.Saying.{Each}
+use Rattle.nq_disk.specs.Saying.{Each}
 use Rattle.law_image.specs.Migrated.{blocks_in}
 use Rattle.law_image.specs.Prepared.{SameBelow, tabled}
 use Rattle.nq_store.proofs.Migrated.{torn-below}

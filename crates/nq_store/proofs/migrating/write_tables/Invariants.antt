@@ -2,7 +2,7 @@ use Rattle.std.proofs.Common.{◌≡◌, ◌≤◌, ◌+◌, ◌*◌, ℕ, List,
 use Rattle.std.specs.List.{sum_by}
 use Rattle.nq_image.specs.Layout.{block_place}
 use Rattle.nq_image.specs.Rows.{blocks_of}
-use Rattle.nq_redo.specs.Saying.{Each, Only}
+use Rattle.nq_disk.specs.Saying.{Each, Only}
 use Rattle.law_image.specs.Prepared.{SameBelow, tabled}
 use Rattle.nq_store.proofs.migrating.write_tables.Given as goal
 

@@ -1,6 +1,6 @@
 use Rattle.std.proofs.Common.{◌≡◌, true, Err, ap, ◌∙◌, arith}
-use Rattle.nq_format.specs.Standing.{begins_as_image}
-use Rattle.nq_redo.specs.Opens.{disk_in}
+use Rattle.nq_plan.specs.Standing.{begins_as_image}
+use Rattle.nq_disk.specs.Opens.{disk_in}
 use Rattle.nq_store.proofs.Left.{left-named, left-same}
 use Rattle.nq_store.proofs.Staying.{stays-named}
 use Rattle.nq_store.proofs.Told.{begins-long, shut-as, wrong-opened}

@@ -1,6 +1,6 @@
 use Rattle.std.proofs.Common.{rules, ◌≡◌, true, false, refl, sym, subst, ◌∙◌, inl, inr, ⊎_elim}
-use Rattle.nq_format.specs.Standing.{begins_as_image}
-use Rattle.nq_redo.specs.declared.Redo.{Redo}
+use Rattle.nq_plan.specs.Standing.{begins_as_image}
+use Rattle.nq_disk.specs.declared.redo.redo.Redo.{Redo}
 use Rattle.nq_store.specs.Opening.{disk_of}
 use Rattle.nq_store.proofs.Left.{back-given, follows-of}
 use Rattle.nq_store.proofs.Staying.{stays-given}

@@ -1,8 +1,8 @@
 use Rattle.std.proofs.Common.{◌⊎◌, ℕ, List, length, refl, subst, inl, inr, arith}
-use Rattle.nq_redo.specs.Batch.{IsFit}
-use Rattle.nq_redo.specs.Saying.{Each}
-use Rattle.nq_redo.specs.Whole.{IsClosed, OpensAfter, OpensAsOne, Settled, after}
-use Rattle.nq_redo.specs.declared.Area.{Area}
+use Rattle.nq_disk.specs.Batch.{IsFit}
+use Rattle.nq_disk.specs.Saying.{Each}
+use Rattle.nq_disk.specs.Whole.{IsClosed, OpensAfter, OpensAsOne, Settled, after}
+use Rattle.nq_disk.specs.declared.redo.area.Area.{Area}
 use Rattle.law_image.specs.Changing.{zeroed}
 use Rattle.nq_store.specs.Storing.{OpensWhole, StandsStill}
 use Rattle.nq_store.proofs.Zeroing.{on-ok, then-ok, through}

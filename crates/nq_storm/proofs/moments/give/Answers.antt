@@ -1,5 +1,5 @@
 use Rattle.std.proofs.Common.{◌∙◌}
-use Rattle.nq_play.proofs.Dropping.{dropped}
+use Rattle.nq_replay.proofs.Dropping.{dropped}
 use Rattle.nq_storm.proofs.Passing.{filled_event}
 use Rattle.nq_storm.proofs.moments.give.Goals as goal
 

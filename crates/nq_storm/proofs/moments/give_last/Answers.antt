@@ -1,4 +1,4 @@
-use Rattle.nq_play.proofs.Steps.{has_flag}
+use Rattle.nq_replay.proofs.Steps.{has_flag}
 use Rattle.nq_storm.proofs.Passing.{can_come, not_given}
 use Rattle.nq_storm.proofs.moments.give_last.Goals as goal
 

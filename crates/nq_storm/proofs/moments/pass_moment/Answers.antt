@@ -1,9 +1,9 @@
 use Rattle.std.proofs.Common.{◌≡◌, ◌≤◌, ◌∙◌, ◌∷◌, [], ap, arith, length, length-append, subst, sym}
 use Rattle.std.proofs.lemmas.List.{length-reverse}
 use Rattle.std.specs.Prelude.{reverse}
-use Rattle.nq_play.proofs.Limits.{reached_at}
-use Rattle.nq_play.proofs.Steps.{as-many}
-use Rattle.nq_play.specs.Going.{IsAt}
+use Rattle.nq_replay.proofs.Limits.{reached_at}
+use Rattle.nq_replay.proofs.Steps.{as-many}
+use Rattle.nq_replay.specs.Going.{IsAt}
 use Rattle.nq_storm.proofs.Choosing.{is_chosen}
 use Rattle.nq_storm.proofs.Passing.{all_behind, gives_not, passed}
 use Rattle.nq_storm.specs.Ending.{Gives}

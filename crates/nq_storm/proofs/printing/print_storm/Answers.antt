@@ -1,8 +1,8 @@
 use Rattle.std.proofs.Common.{◌≡◌, ◌∙◌, ap, length, map, reverse, subst, sym}
 use Rattle.std.specs.List.{AllByRecursion, count_by}
 use Rattle.nq_base.specs.Plain.{plain}
-use Rattle.nq_play.proofs.Steps.{as-many}
-use Rattle.nq_play.specs.Playing.{beginning}
+use Rattle.nq_replay.proofs.Steps.{as-many}
+use Rattle.nq_replay.specs.Playing.{beginning}
 use Rattle.nq_replay.specs.Replay.{journal_of}
 use Rattle.nq_replay.specs.Texts.{IsTellable}
 use Rattle.nq_script.specs.Heads.{FitsHead}

@@ -4,8 +4,8 @@ use Rattle.std.specs.Prelude.{reverse}
 use Rattle.nq_model.specs.World.{Head}
 use Rattle.nq_storm.specs.Ending.{IsInStorm}
 use Rattle.nq_storm.specs.Storming.{generator}
-use Rattle.nq_storm_rules.specs.Rules.{asked_for}
-use Rattle.nq_storm_rules.specs.Stormy.{IsStormy}
+use Rattle.nq_storm.specs.Rules.{asked_for}
+use Rattle.nq_storm.specs.Stormy.{IsStormy}
 use Rattle.nq_world.specs.Playing.{HasSettings, Plays}
 use Rattle.nq_storm.proofs.storms.storm.Given as goal
 

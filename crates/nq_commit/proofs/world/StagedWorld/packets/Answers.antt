@@ -2,7 +2,7 @@ use Rattle.std.proofs.Common.{◌≡◌, ◌∙◌, ap, map, sym}
 use Rattle.nq_commit.proofs.Reaching.{reached-over}
 use Rattle.nq_commit.specs.Around.{datagram_of}
 use Rattle.nq_commit.specs.Playing.{StagedOver}
-use Rattle.nq_staged_run.specs.Outer.{Outside}
+use Rattle.nq_stage.specs.Outer.{Outside}
 use Rattle.nq_commit.proofs.world.StagedWorld.packets.Goals as goal
 
 pub returns : goal.returns

@@ -1,7 +1,7 @@
 use Rattle.std.proofs.Common.{◌≡◌, ◌∙◌, ap, length, sym}
 use Rattle.nq_commit.proofs.Reaching.{reached-over}
 use Rattle.nq_commit.specs.Playing.{StagedOver}
-use Rattle.nq_staged_run.specs.Outer.{Outside}
+use Rattle.nq_stage.specs.Outer.{Outside}
 use Rattle.nq_commit.proofs.world.StagedWorld.sent.Goals as goal
 
 pub returns-clause-packets : goal.returns-clause-packets

@@ -2,8 +2,8 @@ use Rattle.std.proofs.Common.{◌≡◌, reverse, subst, sym}
 use Rattle.nq_base.specs.declared.Event.{Event}
 use Rattle.nq_commit.proofs.Reaching.{reached-over}
 use Rattle.nq_commit.specs.Playing.{IsTested, tested_outside}
-use Rattle.nq_staged_run.specs.declared.StagedEvent.{StagedEvent}
-use Rattle.nq_staged_run.specs.Outside.{outside_run}
+use Rattle.nq_stage.specs.declared.run.event.StagedEvent.{StagedEvent}
+use Rattle.nq_stage.specs.Outside.{outside_run}
 use Rattle.nq_commit.proofs.world.StagedWorld.test_plain.Goals as goal
 
 pub returns-in-ServerTick-clause-tests : goal.returns-in-ServerTick-clause-tests

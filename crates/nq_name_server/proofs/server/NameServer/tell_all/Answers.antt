@@ -1,7 +1,7 @@
 use Rattle.std.proofs.Common.{◌≡◌, ◌++◌, length, ap, subst, ◌∙◌}
 use Rattle.std.specs.Prelude.{IfOk, OnOk}
 use Rattle.nq_base.specs.declared.Access.{Access}
-use Rattle.nq_evict.proofs.Telling.{told-of-file}
+use Rattle.nq_lease.proofs.Telling.{told-of-file}
 use Rattle.nq_lease.specs.Rows.{rows_of}
 use Rattle.nq_name_server.specs.Sending.{all_sent}
 use Rattle.nq_name_server.specs.Served.{Served}

@@ -1,7 +1,7 @@
 use Rattle.std.proofs.Common.{◌∙◌, ap, sym}
 use Rattle.nq_datagrams.specs.Incoming.{datagram_in}
 use Rattle.nq_names.proofs.Taking.{held-up}
-use Rattle.nq_names_run.specs.Outside.{changes_as}
+use Rattle.nq_name_server.specs.Outside.{changes_as}
 use Rattle.nq_world.specs.Playing.{WorldOver}
 use Rattle.nq_names.proofs.world.NameWorld.hold_up.Goals as goal
 

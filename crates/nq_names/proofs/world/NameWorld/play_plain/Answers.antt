@@ -3,7 +3,7 @@ use Rattle.nq_base.specs.declared.Event.{Event}
 use Rattle.nq_names.proofs.Agreeing.{NoDelivery}
 use Rattle.nq_names.proofs.Leading.{plain-leads}
 use Rattle.nq_names.specs.Playing.{IsLeft, Leads, Reaches, stepped_outside}
-use Rattle.nq_names_run.specs.declared.NameEvent.{NameEvent}
+use Rattle.nq_name_server.specs.declared.run.event.NameEvent.{NameEvent}
 use Rattle.nq_names.proofs.world.NameWorld.play_plain.Goals as goal
 
 pub returns-in-ServerTick-clause-leads : goal.returns-in-ServerTick-clause-leads

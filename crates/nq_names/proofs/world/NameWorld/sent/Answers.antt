@@ -1,7 +1,7 @@
 use Rattle.std.proofs.Common.{◌∙◌, ap, length, sym}
 use Rattle.nq_names.proofs.Reaching.{reached-over}
 use Rattle.nq_names.specs.Playing.{NamesOver}
-use Rattle.nq_names_run.specs.Outer.{Outside}
+use Rattle.nq_name_server.specs.Outer.{Outside}
 use Rattle.nq_names.proofs.world.NameWorld.sent.Goals as goal
 
 pub returns-clause-packets : goal.returns-clause-packets

@@ -2,8 +2,8 @@ use Rattle.std.proofs.Common.{subst, sym}
 use Rattle.nq_base.specs.declared.Event.{Event}
 use Rattle.nq_names.proofs.Reaching.{reached-over}
 use Rattle.nq_names.specs.Playing.{IsTested, tested_outside}
-use Rattle.nq_names_run.specs.declared.NameEvent.{NameEvent}
-use Rattle.nq_names_run.specs.Outside.{outside_run}
+use Rattle.nq_name_server.specs.declared.run.event.NameEvent.{NameEvent}
+use Rattle.nq_name_server.specs.Outside.{outside_run}
 use Rattle.nq_names.proofs.world.NameWorld.test_plain.Goals as goal
 
 pub returns-in-ServerTick-clause-tests : goal.returns-in-ServerTick-clause-tests

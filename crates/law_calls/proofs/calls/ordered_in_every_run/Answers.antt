@@ -1,5 +1,0 @@
-use Rattle.law_calls.proofs.OrderedCalls.{ordered-in-every-run}
-use Rattle.law_calls.proofs.calls.ordered_in_every_run.Goals as goal
-
-pub returns : goal.returns
-returns c = ordered-in-every-run

@@ -1,5 +1,0 @@
-use Rattle.law_calls.proofs.OrderedCalls.{of-their-call-in-every-run}
-use Rattle.law_calls.proofs.calls.reads_are_of_their_call_in_every_run.Goals as goal
-
-pub returns : goal.returns
-returns c = of-their-call-in-every-run

@@ -1,5 +1,0 @@
-use Rattle.law_calls.proofs.FateLaws.{fates}
-use Rattle.law_calls.proofs.fates.each_write_has_its_fate_in_every_run.Goals as goal
-
-pub returns : goal.returns
-returns c = fates

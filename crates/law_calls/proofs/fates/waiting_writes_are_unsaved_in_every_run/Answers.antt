@@ -1,5 +1,0 @@
-use Rattle.law_calls.proofs.FateLaws.{waiting}
-use Rattle.law_calls.proofs.fates.waiting_writes_are_unsaved_in_every_run.Goals as goal
-
-pub returns : goal.returns
-returns c = waiting

@@ -1,3 +1,0 @@
-pub mod CallsMet
-pub mod FatesMet
-pub mod FilledMet

@@ -1,5 +1,0 @@
-use Rattle.law_files.proofs.ChainWorlds.{chains-know}
-use Rattle.law_files.proofs.chains.chained_leases_know_the_file_in_every_run.Goals as goal
-
-pub returns : goal.returns
-returns c = chains-know

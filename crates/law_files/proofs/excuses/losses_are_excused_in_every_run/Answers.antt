@@ -1,6 +1,0 @@
-use Rattle.law_files.proofs.ChainWorlds.{chain-fits}
-use Rattle.law_files.proofs.ExcusesInRuns.{losses-excused}
-use Rattle.law_files.proofs.excuses.losses_are_excused_in_every_run.Goals as goal
-
-pub returns : goal.returns
-returns c = losses-excused chain-fits

@@ -1,5 +1,0 @@
-use Rattle.law_files.proofs.SomeStaying.{files-stay-is-met}
-use Rattle.law_files.proofs.stays.files_stay_is_met.Goals as goal
-
-pub returns : goal.returns
-returns c = files-stay-is-met

@@ -1,5 +1,0 @@
-use Rattle.law_files.proofs.FilesStay.{files-stay-until-removed}
-use Rattle.law_files.proofs.stays.files_stay_until_removed.Goals as goal
-
-pub returns : goal.returns
-returns c = files-stay-until-removed

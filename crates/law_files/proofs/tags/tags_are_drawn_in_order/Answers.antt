@@ -1,5 +1,0 @@
-use Rattle.law_files.proofs.TagWorlds.{drawn-in-order}
-use Rattle.law_files.proofs.tags.tags_are_drawn_in_order.Goals as goal
-
-pub returns : goal.returns
-returns c = drawn-in-order

@@ -1,5 +1,0 @@
-use Rattle.law_files.proofs.SomeVacated.{is-past-sometime}
-use Rattle.law_files.proofs.tags.vacated_tags_are_met.Goals as goal
-
-pub returns : goal.returns
-returns c = is-past-sometime

@@ -1,5 +1,0 @@
-use Rattle.law_files.proofs.TagWorlds.{vacated-are-past}
-use Rattle.law_files.proofs.tags.vacated_tags_are_past.Goals as goal
-
-pub returns : goal.returns
-returns c = vacated-are-past

@@ -1,0 +1,13 @@
+pub mod Counts
+pub mod LoopsLoops
+pub mod PrintedLoops
+pub mod Room
+pub mod ServedRows
+pub mod SomeLoop
+pub mod SomePrinted
+pub mod SomeServed
+pub mod SomeTurns
+pub mod Steps
+pub mod ToldAnswers
+pub mod Turns
+pub mod Windows

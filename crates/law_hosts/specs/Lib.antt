@@ -1,0 +1,9 @@
+pub mod InTime
+pub mod LoopTurns
+pub mod LoopsAreAnswered
+pub mod Met
+pub mod PrintedLoops
+pub mod PrintedMet
+pub mod ServedRowsAreMet
+pub mod Serving
+pub mod ToldAnswers

@@ -1,7 +1,0 @@
--- The law: in every run kept blocks are held.
-use Rattle.law_legal.proofs.HeldRuns.{run-held}
-use Rattle.nq_promises.specs.BlocksAreHeld.{KeptBlocksAreHeldInEveryRun}
-use Rattle.law_legal.proofs.KnownRuns.{run-known}
-
-pub held-in-every-run : KeptBlocksAreHeldInEveryRun
-held-in-every-run most head events bounds within = run-held most head (run-known most head) events bounds within

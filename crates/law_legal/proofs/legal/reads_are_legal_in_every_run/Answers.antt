@@ -1,5 +1,0 @@
-use Rattle.law_legal.proofs.LegalLaws.{legal-in-every-run}
-use Rattle.law_legal.proofs.legal.reads_are_legal_in_every_run.Goals as goal
-
-pub returns : goal.returns
-returns c = legal-in-every-run

@@ -1,5 +1,0 @@
-use Rattle.law_legal.proofs.Standings.{busy-in-every-run}
-use Rattle.law_legal.proofs.oks.busy_is_said_at_once_in_every_run.Goals as goal
-
-pub returns : goal.returns
-returns c = busy-in-every-run

@@ -1,5 +1,0 @@
-use Rattle.law_legal.proofs.Standings.{synchronized-in-every-run}
-use Rattle.law_legal.proofs.oks.oks_are_kept_in_every_run.Goals as goal
-
-pub returns : goal.returns
-returns c = synchronized-in-every-run

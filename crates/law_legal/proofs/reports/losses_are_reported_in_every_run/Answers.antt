@@ -1,5 +1,0 @@
-use Rattle.law_legal.proofs.ReportedRuns.{reported-in-every-run}
-use Rattle.law_legal.proofs.reports.losses_are_reported_in_every_run.Goals as goal
-
-pub returns : goal.returns
-returns c = reported-in-every-run

@@ -1,5 +1,0 @@
-use Rattle.law_legal.proofs.SomeFenced.{bound-and-fenced-are-met}
-use Rattle.law_legal.proofs.undisturbed.bound_and_fenced_are_met.Goals as goal
-
-pub returns : goal.returns
-returns c = bound-and-fenced-are-met

@@ -1,0 +1,16 @@
+pub mod CallsMet
+pub mod ChainsMet
+pub mod ContentsMet
+pub mod DeedsMet
+pub mod EndingsMet
+pub mod ExcusesMet
+pub mod FatesMet
+pub mod FilledMet
+pub mod HeldMet
+pub mod LegalMet
+pub mod OksMet
+pub mod Refused
+pub mod ReportsMet
+pub mod Staying
+pub mod TagsMet
+pub mod UndisturbedMet

@@ -1,0 +1,57 @@
+-- Journals that only these laws refuse: each passes the tests of all others.
+use Rattle.std.specs.Prelude.{◌&&◌, Bool, List, [], ◌∷◌, None, IsTrue}
+use Rattle.nq_base.specs.declared.Entry.{Entry}
+use Rattle.nq_base.specs.declared.Said.{Said}
+use Rattle.nq_base.specs.declared.Told.{Told}
+use Rattle.nq_model.specs.CutOffTest.{is_excused}
+use Rattle.nq_model.specs.FateTest.{is_accounted}
+use Rattle.nq_model.specs.LegalTest.{is_legal}
+use Rattle.nq_model.specs.OfTheirCallTest.{are_of_their_call}
+use Rattle.nq_model.specs.OrderedTest.{is_ordered}
+use Rattle.nq_model.specs.ReportedTest.{is_reported}
+use Rattle.nq_model.specs.SynchronizedTest.{is_synchronized}
+use Rattle.nq_model.specs.AnswersAreOfTheirCalls.{AnswersAreOfTheirCalls}
+use Rattle.nq_model.specs.BusyIsSaidAtOnce.{BusyIsSaidAtOnce}
+use Rattle.nq_model.specs.OksHaveTheirDeeds.{OksHaveTheirDeeds}
+
+-- whether a journal passes the tests of all other laws of journals
+abbrev pub passes : (journal : List Entry) → Bool
+passes journal =
+    is_legal journal && is_ordered journal && are_of_their_call journal && is_accounted journal && is_excused journal && is_reported journal &&
+    is_synchronized journal
+
+-- a write is answered ok and has vanished: the same client reads zeros then
+abbrev pub a_vanished_write : List Entry
+a_vanished_write =
+    Entry.A (record { host = 0; inc = 1 }) 2 (Said.OkValue 0) ∷ Entry.R (record { host = 0; inc = 1 }) 2 1 0 0 None ∷
+    Entry.C (record { host = 0; inc = 1 }) 2 (Told.Read 1 0) ∷ Entry.A (record { host = 0; inc = 1 }) 1 Said.Ok ∷
+    Entry.C (record { host = 0; inc = 1 }) 1 (Told.Write 1 0 7) ∷ []
+
+-- an answer to a call that nobody made
+abbrev pub an_answer_to_no_call : List Entry
+an_answer_to_no_call = Entry.A (record { host = 0; inc = 1 }) 5 (Said.OkValue 77) ∷ []
+
+-- the vanished write is refused since an ok has no deed, and for nothing else
+pub record OnlyDeedsRefuse : Type 0 where
+  pub others : IsTrue (passes a_vanished_write)
+  pub answered : AnswersAreOfTheirCalls a_vanished_write
+  pub refused : ¬ OksHaveTheirDeeds a_vanished_write
+
+-- the answer to no call is refused since it is of no call, and for nothing else
+pub record OnlyCallsRefuse : Type 0 where
+  pub others : IsTrue (passes an_answer_to_no_call)
+  pub done : OksHaveTheirDeeds an_answer_to_no_call
+  pub refused : ¬ AnswersAreOfTheirCalls an_answer_to_no_call
+
+-- a call is answered busy, but not at once
+abbrev pub a_late_busy : List Entry
+a_late_busy =
+    Entry.A (record { host = 0; inc = 1 }) 1 Said.Busy ∷ Entry.C (record { host = 1; inc = 1 }) 1 (Told.Sync 1) ∷
+    Entry.C (record { host = 0; inc = 1 }) 1 (Told.Sync 1) ∷ []
+
+-- the late busy is refused since busy is said at once, and for nothing else
+pub record OnlyBusyRefuses : Type 0 where
+  pub others : IsTrue (passes a_late_busy)
+  pub answered : AnswersAreOfTheirCalls a_late_busy
+  pub done : OksHaveTheirDeeds a_late_busy
+  pub refused : ¬ BusyIsSaidAtOnce a_late_busy

@@ -1,2 +1,0 @@
-pub mod ServedRows
-pub mod SomeServed

@@ -1,2 +1,0 @@
-pub mod ServedRowsAreMet
-pub mod Serving

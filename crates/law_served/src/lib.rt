@@ -1,8 +1,0 @@
-//! Leases never conflict at a server of the code either, whatever comes to it.
-#![tactic(auto)]
-
-mod arriving;
-mod serving;
-
-pub use arriving::{Arrival, hand};
-pub use serving::{rows_stand_apart, served_rows_are_met};

@@ -1,6 +1,0 @@
-pub mod Numbers
-pub mod LastTable
-pub mod LikeWorlds
-pub mod TornRuns
-pub mod Headlines
-pub mod SomeTorn

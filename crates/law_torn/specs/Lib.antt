@@ -1,3 +1,0 @@
-pub mod TornRuns
-pub mod TornHeadline
-pub mod TornMet

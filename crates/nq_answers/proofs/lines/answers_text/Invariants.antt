@@ -1,7 +1,0 @@
-use Rattle.std.proofs.Common.{◌≡◌, take}
-use Rattle.std.specs.List.{flat_map}
-use Rattle.nq_answers.specs.Answers.{told_line}
-use Rattle.nq_answers.proofs.lines.answers_text.Given as goal
-
-abbrev pub invariant-loop-entry : goal.invariant-loop-entry
-invariant-loop-entry l = l.text.items ≡ flat_map told_line (take l.entry-index l.entry-items)

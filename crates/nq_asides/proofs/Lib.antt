@@ -1,9 +1,0 @@
-pub mod Lining
-pub mod Grammar
-pub mod Mixing
-pub mod Onward
-pub mod Keeping
-pub mod Putting
-pub mod Readied
-pub mod Reversing
-pub mod Seconds

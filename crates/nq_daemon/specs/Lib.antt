@@ -1,3 +1,0 @@
-pub mod Leaving
-pub mod Serving
-pub mod Turning

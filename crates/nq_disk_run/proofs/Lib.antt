@@ -1,4 +1,0 @@
-pub mod OtherKinds
-pub mod Making
-pub mod Playing
-pub mod Saying

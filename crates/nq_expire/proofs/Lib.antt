@@ -1,2 +1,0 @@
-pub mod Fencing
-pub mod Quiet

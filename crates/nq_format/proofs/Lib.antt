@@ -1,3 +1,0 @@
-pub mod Blank
-pub mod Reading
-pub mod Formatting

@@ -1,6 +1,0 @@
-//! For what the bytes of a disk stand, and the image in which nothing is kept.
-#![tactic(auto)]
-
-mod empty;
-
-pub use empty::format;

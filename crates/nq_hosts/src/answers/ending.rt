@@ -1,0 +1,12 @@
+//! Where calls stop.
+
+use nq_base::ending::Halt;
+
+/// Where calls stopped: at the call of a line, or at attaching, which is line 0.
+#[derive(Clone, Copy, PartialEq, Eq)]
+pub struct Stop {
+    /// Why.
+    pub why: Halt,
+    /// The number of the line, from 1; 0 is attaching.
+    pub line: u32,
+}

@@ -1,0 +1,34 @@
+-- A call is answered `busy` at once or never, and for a cause, in every run.
+use Rattle.std.specs.Prelude.{◌≡◌, ◌⊎◌, ℕ, List, ◌∷◌, ⊤}
+use Rattle.nq_base.specs.declared.Entry.{Entry}
+use Rattle.nq_base.specs.declared.Entry.TheVariants.{C, B, A}
+use Rattle.nq_base.specs.declared.Said.TheVariants.{Busy}
+use Rattle.nq_base.specs.declared.Who.{Who}
+use Rattle.nq_model.specs.Bounds.{InEveryRun}
+use Rattle.nq_model.specs.Journal.{Exists, Throughout}
+use Rattle.nq_model.specs.Ordered.{HasOpen}
+use Rattle.nq_model.specs.World.{run}
+
+-- the entry is the B of an incarnation
+abbrev pub IsStartOf : (who : Who) → Entry → Type 0
+IsStartOf who (B by) = by ≡ who
+IsStartOf who other = ⊥
+
+-- the last entry is the C of call q; before it another call of its incarnation is open, or the incarnation was started again by a
+-- B, after which it is busy until it is attached
+abbrev pub IsBusyCall : (who : Who) (q : ℕ) → (before : List Entry) → Type 0
+IsBusyCall who q (C by n told ∷ before) = (by ≡ who) × (n ≡ q) × (HasOpen before who ⊎ Exists (IsStartOf who) before)
+IsBusyCall who q other = ⊥
+
+-- what is asked of an A `busy` at its place
+abbrev pub IsBusyAtOnce : Entry → (before : List Entry) → Type 0
+IsBusyAtOnce (A who q Busy) before = IsBusyCall who q before
+IsBusyAtOnce other before = ⊤
+
+-- so it is throughout a journal
+abbrev pub BusyIsSaidAtOnce : (journal : List Entry) → Type 0
+BusyIsSaidAtOnce journal = Throughout IsBusyAtOnce journal
+
+-- after every schedule within skew
+abbrev pub BusyIsSaidAtOnceInEveryRun : Type 0
+BusyIsSaidAtOnceInEveryRun = InEveryRun (λ head events. BusyIsSaidAtOnce (run head events).journal)

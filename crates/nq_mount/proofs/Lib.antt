@@ -1,4 +1,0 @@
-mod Failing
-pub mod Opened
-pub mod Readying
-pub mod Surviving

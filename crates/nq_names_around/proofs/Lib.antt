@@ -1,4 +1,0 @@
-pub mod Together
-pub mod Sending
-pub mod Taking
-pub mod Timing

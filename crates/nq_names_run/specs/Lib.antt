@@ -1,4 +1,0 @@
-pub mod Outer
-pub mod Outside
-pub mod Theorem
-pub mod Lasting

@@ -1,6 +1,0 @@
-pub mod ClientCounts
-pub mod ClientTurns
-pub mod Leaves
-pub mod Letters
-pub mod ServerCounts
-pub mod ServerTurns

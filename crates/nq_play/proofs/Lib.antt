@@ -1,9 +1,0 @@
-pub mod Skewing
-pub mod Ending
-pub mod Lawfully
-pub mod Flags
-pub mod Steps
-pub mod Onward
-pub mod Limits
-pub mod Dropping
-pub mod Begun

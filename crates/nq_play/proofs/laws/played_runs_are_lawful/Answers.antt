@@ -1,5 +1,0 @@
-use Rattle.nq_play.proofs.Lawfully.{played-runs-are-lawful}
-use Rattle.nq_play.proofs.laws.played_runs_are_lawful.Goals as goal
-
-pub returns : goal.returns
-returns c = played-runs-are-lawful

@@ -1,9 +1,0 @@
-//! What holds of each run of a schedule.
-
-ghost use Rattle.nq_play.specs.Lawful.{PlayedRunsAreLawful};
-
-/// A schedule that was played to its end is within skew and keeps to the bounds, since each event was tested before it was
-/// taken.
-pub fn played_runs_are_lawful()
-    ensures { PlayedRunsAreLawful }
-{}

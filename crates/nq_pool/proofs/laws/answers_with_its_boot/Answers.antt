@@ -1,5 +1,0 @@
-use Rattle.nq_pool.proofs.Newest.{answers-with-its-boot}
-use Rattle.nq_pool.proofs.laws.answers_with_its_boot.Goals as goal
-
-pub returns : goal.returns
-returns c = answers-with-its-boot

@@ -1,4 +1,0 @@
-pub mod Answers
-pub mod Lines
-pub mod Pieces
-pub mod Starts

@@ -1,5 +1,0 @@
-use Rattle.std.proofs.Common.{◌≤◌, arith, refl}
-use Rattle.nq_redo.proofs.replay.open_on.Goals as goal
-
-pub returns-in-Err-clause-leaves : goal.returns-in-Err-clause-leaves
-returns-in-Err-clause-leaves g c = λ old told long image left. (image, g.met.D.Disk.leaves_now c.args.disk.now image left, (omega arith, refl))

@@ -1,0 +1,12 @@
+use Rattle.std.proofs.Common.{◌∙◌, sym}
+use Rattle.std.proofs.lemmas.Option.{same_Some}
+use Rattle.nq_base.specs.declared.Event.{Event}
+use Rattle.nq_replay.proofs.Onward.{goes-same, played-once}
+use Rattle.nq_replay.specs.Playing.{play_event, play_line}
+use Rattle.nq_replay.proofs.play.lines.play_at.Goals as goal
+
+pub returns-in-Some-clause-goes : goal.returns-in-Some-clause-goes
+returns-in-Some-clause-goes g c = λ line here head events hosts at.
+    let event = Event.Deliver c.in-Some.packet in
+    goes-same c.deliver.result (play_event head event events) (play_line head c.args.most line events) _
+    (played-once head c.args.most line event events (same_Some line _ (sym here ∙ c.in-Some.ensures.delivered))) (c.deliver.ensures.goes head events at)

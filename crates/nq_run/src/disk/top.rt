@@ -1,0 +1,134 @@
+//! Running what the words say over a disk.
+
+ghost use Rattle.std.specs.Prelude.{◌≡◌, ◌+◌, ℕ, List, Some, false, true, length, map};
+ghost use Rattle.nq_command.specs.Commands.{IsCheck, IsFormat, IsNames, IsReplay, IsStaged, command_of};
+ghost use Rattle.nq_command.specs.declared.Command.{Command};
+ghost use Rattle.nq_run.specs.Commands.{NeverSays, SaysNothing, uses_disk};
+ghost use Rattle.nq_run.specs.Running.{LoopsOn, ReplaysOn, StormsOn};
+ghost use Rattle.nq_base.specs.Status.{status_of};
+ghost use Rattle.nq_base.specs.declared.ending.ending.Ending.{Ending};
+ghost use Rattle.nq_loop.specs.Sending.{told_of};
+ghost use Rattle.nq_hosts.specs.Clocks.{clock_told};
+ghost use Rattle.nq_hosts.specs.Links.{link_told};
+ghost use Rattle.nq_replay.specs.Lines.{PrintsLine, usage_line};
+ghost use Rattle.nq_run.specs.Checking.{ChecksFor};
+ghost use Rattle.nq_run.specs.Fates.{fate_told};
+ghost use Rattle.nq_run.specs.Frames.{makes_a_run, reads_clock, reads_input, uses_fates, uses_link, uses_links};
+ghost use Rattle.nq_run.specs.Hosting.{Attends};
+ghost use Rattle.nq_run.specs.Naming.{NamesFor};
+ghost use Rattle.nq_run.specs.Promised.{most_bytes};
+ghost use Rattle.nq_run.specs.Staging.{StagesFor};
+ghost use Rattle.nq_service.specs.Formatting.{Formats};
+ghost use Rattle.nq_service.specs.Serving.{ServesDisk};
+
+use crate::disk::fates::say_nothing;
+use crate::disk::replaying::replay_disk;
+use crate::disk::storming::run_emptied;
+use crate::disk::without::{refuse, run_without};
+use nq_clock::Clock;
+use nq_command::{Command, Words};
+use nq_disk::Disk;
+use nq_io::{Sink, Source};
+use nq_link::Link;
+use nq_service::{Ended, format_disk, serve_disk};
+use nq_storm::fates::Fate;
+use std::alloc::Global;
+
+// The most bytes of a schedule that are read.
+const MOST_BYTES: usize = 16_777_216;
+
+/// Runs what the words say over a disk, as [`crate::run`] does over a keeper. `format` makes the disk an image in which nothing is kept.
+/// `serve` opens it as an image and serves what it keeps: whatever a stop at any moment may leave opens, and stands for what was kept at
+/// first, or after some of the steps. `replay`, `storm` and `loop` are for a disk that tells its bytes: they make it an empty image first,
+/// and run over that, so that the disk stands at the end for what the run keeps. A schedule is read, and a fate of the kind is looked for,
+/// before the disk is touched. All other words leave it as it was.
+///
+/// The answer is the exit status, with the disk. It is 6 only where the disk failed, and for `serve` 10 exactly where the image is wrong.
+/// `docs/commands.md` says when each status comes, and what is printed then.
+#[tactic(auto, using(crate::proofs::Commands::says_replay, crate::proofs::Commands::says_check, crate::proofs::Commands::says_staged, crate::proofs::Commands::says_names, crate::proofs::Saying::says_format), unfolding(crate::specs::Promised::most_bytes))]
+pub fn run_disk<S: Source, K: Sink, D: Disk + Drop, L: Link, C: Clock>(
+    alloc: Global,
+    words: &Words,
+    input: &mut S,
+    out: &mut K,
+    disk: D,
+    link: &mut L,
+    links: &mut [L],
+    clock: &mut C,
+    fates: &mut [Box<dyn Fate>],
+) -> Ended<D>
+    requires tells { makes_a_run (command_of words.now) ≡ true → (bytes : List ℕ) × (D.told disk ≡ Some bytes) }
+    requires links { (hosts turns : ℕ) → command_of words.now ≡ Some (Command.Loop hosts turns) → length links.old ≡ hosts + 1 }
+    ensures usage { result.status ≡ status_of Ending.Usage → SaysNothing (command_of words.now) (map (λ fate. (Fate-box fate).told fate.value) fates.old) }
+    ensures never { NeverSays (command_of words.now) (map (λ fate. (Fate-box fate).told fate.value) fates.old) → result.status ≡ status_of Ending.Usage }
+    ensures nothing { result.status ≡ status_of Ending.Usage
+        → (S.left input.new ≡ S.left input.old) × PrintsLine usage_line (K.held out.old) (K.held out.new) (K.faults out.old) (K.faults out.new) }
+    ensures formats { IsFormat words.now → Formats D.faults D.told D.may_leave result.status disk result.disk }
+    ensures quiet { IsFormat words.now → out.new ≡ out.old }
+    ensures serves { (turns longest : ℕ) → command_of words.now ≡ Some (Command.Serve turns longest)
+        → ServesDisk D.told D.faults D.may_leave D.follows D.leaves result.status longest turns disk result.disk
+        (clock_told C.floor C.readings clock.old) (clock_told C.floor C.readings clock.new)
+        (link_told L.sent L.waiting L.faults L.receives link.old)
+        (link_told L.sent L.waiting L.faults L.receives link.new)
+        (K.held out.old) (K.held out.new) (K.faults out.old) (K.faults out.new) }
+    ensures replays { IsReplay words.now
+        → ReplaysOn most_bytes result.status (S.left input.old) (S.left input.new) (K.held out.old) (K.held out.new)
+        (S.faults input.old) (S.faults input.new) (K.faults out.old) (K.faults out.new) (D.faults disk) (D.faults result.disk)
+        (D.told result.disk) disk result.disk }
+    ensures storms { (kind start events : ℕ) → command_of words.now ≡ Some (Command.Storm kind start events)
+        → StormsOn result.status kind start events (map (λ fate. (Fate-box fate).told fate.value) fates.old)
+        (map (λ fate. fate_told ((Fate-box fate).told fate.value) (asks fate)) fates.old) (map (λ fate. fate_told ((Fate-box fate).told fate.value) (asks fate)) fates.new)
+        (K.held out.old) (K.held out.new) (K.faults out.old) (K.faults out.new) (D.faults disk) (D.faults result.disk) (D.told result.disk) }
+    ensures loops { (hosts turns : ℕ) → command_of words.now ≡ Some (Command.Loop hosts turns)
+        → LoopsOn result.status hosts turns (clock_told C.floor C.readings clock.old) (clock_told C.floor C.readings clock.new)
+        (map (told_of L.sent L.waiting L.faults L.receives) links.old) (map (told_of L.sent L.waiting L.faults L.receives) links.new)
+        (K.held out.old) (K.held out.new) (K.faults out.old) (K.faults out.new) (D.faults disk) (D.faults result.disk) (D.told result.disk) }
+    ensures checks { IsCheck words.now
+        → ChecksFor most_bytes result.status (S.left input.old) (S.left input.new) (K.held out.old) (K.held out.new)
+        (S.faults input.old) (S.faults input.new) (K.faults out.old) (K.faults out.new) }
+    ensures stages { IsStaged words.now
+        → StagesFor most_bytes result.status (S.left input.old) (S.left input.new) (K.held out.old) (K.held out.new)
+        (S.faults input.old) (S.faults input.new) (K.faults out.old) (K.faults out.new) }
+    ensures names { IsNames words.now
+        → NamesFor most_bytes result.status (S.left input.old) (S.left input.new) (K.held out.old) (K.held out.new)
+        (S.faults input.old) (S.faults input.new) (K.faults out.old) (K.faults out.new) }
+    ensures attends { (host inc turns : ℕ) → command_of words.now ≡ Some (Command.Client host inc turns)
+        → Attends turns (record { host = host; inc = inc }) most_bytes result.status (S.left input.old) (S.left input.new) (S.faults input.old) (S.faults input.new)
+        (K.held out.old) (K.held out.new) (K.faults out.old) (K.faults out.new) (clock_told C.floor C.readings clock.old) (clock_told C.floor C.readings clock.new)
+        (link_told L.sent L.waiting L.faults L.receives link.old)
+        (link_told L.sent L.waiting L.faults L.receives link.new) }
+    ensures follows { D.follows disk result.disk }
+    ensures disk { uses_disk (command_of words.now) ≡ false → result.disk ≡ disk }
+    ensures untouched { NeverSays (command_of words.now) (map (λ fate. (Fate-box fate).told fate.value) fates.old) → result.disk ≡ disk }
+    ensures input { reads_input (command_of words.now) ≡ false → input.new ≡ input.old }
+    ensures link { uses_link (command_of words.now) ≡ false → link.new ≡ link.old }
+    ensures hosts { uses_links (command_of words.now) ≡ false → links.new ≡ links.old }
+    ensures clock { reads_clock (command_of words.now) ≡ false → clock.new ≡ clock.old }
+    ensures fates { uses_fates (command_of words.now) ≡ false → fates.new ≡ fates.old }
+{
+    if say_nothing(words, fates) {
+        return Ended {
+            status: refuse(out),
+            disk,
+        };
+    }
+    match words.command() {
+        Some(Command::Format) => format_disk(disk),
+        Some(Command::Serve { turns, longest }) => {
+            serve_disk(alloc, disk, turns, longest, link, clock, out)
+        }
+        Some(Command::Replay) => replay_disk(alloc, disk, input, out, MOST_BYTES),
+        Some(Command::Storm { .. }) => run_emptied(
+            alloc, words, input, out, disk, link, links, clock, fates,
+        ),
+        Some(Command::Loop { .. }) => run_emptied(
+            alloc, words, input, out, disk, link, links, clock, fates,
+        ),
+        Some(Command::Check | Command::Staged | Command::Names | Command::Client { .. }) | None => {
+            Ended {
+                status: run_without(alloc, words, input, out, link, links, clock, fates),
+                disk,
+            }
+        }
+    }
+}

@@ -1,3 +1,0 @@
-pub mod Outer
-pub mod Outside
-pub mod Theorem

@@ -1,4 +1,0 @@
-pub mod Menu
-pub mod Places
-pub mod Rules
-pub mod Stormy

@@ -1,4 +1,0 @@
-pub mod Calling
-pub mod Running
-pub mod Turning
-pub mod Using
