@@ -62,6 +62,12 @@ fn receive(link: &mut UdpLink<HostRuntime>, room: &mut [u8], page: &mut Page) {
     page.say("nothing\n");
 }
 
+/// Sends a datagram to a host, and tells whether it was taken.
+fn send(link: &mut UdpLink<HostRuntime>, host: u32, datagram: &[u8], page: &mut Page) {
+    let sent = link.send(Party::Client(Host(host)), datagram);
+    tell(page, "sent ", sent == Sent::All);
+}
+
 /// Sends a datagram to host 42 from a port that is nobody's.
 fn ask_as_stranger(rt: &HostRuntime) {
     let local = IpAddr::V4(Ipv4Addr::LOCALHOST);
@@ -79,14 +85,12 @@ fn strangers(rt: &HostRuntime, page: &mut Page) -> Option<()> {
     // The socket is bound in the first call.
     receive(&mut here, &mut room, page);
     ask_as_stranger(rt);
-    let me = Party::Client(Host(42));
-    tell(page, "sent ", there.send(me, b"") == Sent::All);
-    tell(page, "sent ", there.send(me, &long) == Sent::All);
+    send(&mut there, 42, b"", page);
+    send(&mut there, 42, &long, page);
     for _ in 0..3 {
         receive(&mut here, &mut room, page);
     }
-    let nobody = Party::Client(Host(64));
-    tell(page, "sent ", here.send(nobody, b"ask") == Sent::All);
+    send(&mut here, 64, b"ask", page);
     Some(())
 }
 
@@ -99,23 +103,23 @@ fn disk_of(rt: &HostRuntime, path: &str) -> Option<FileDisk> {
 fn disks(rt: &HostRuntime, page: &mut Page) -> Option<()> {
     let mut disk = disk_of(rt, PATH)?;
     page.say("write ");
-    page.debug(&disk.write_at(3, b"abc"));
+    page.debug(&disk.write_at(3, b"abc").ok());
     page.say("\nsync ");
-    page.debug(&disk.sync());
+    page.debug(&disk.sync().ok());
     let mut other = disk_of(rt, PATH)?;
     page.say("\nsize of another ");
-    page.debug(&other.size());
+    page.debug(&other.size().ok());
     drop(disk);
     let mut into = *b"------";
     page.say("\nread ");
-    page.debug(&other.read(2, &mut into));
+    page.debug(&other.read(2, &mut into).ok());
     page.say("\n");
     page.debug(&str::from_utf8(&into).unwrap_or("no text"));
     drop(other);
     fs::remove_file(rt, PATH).ok();
     let mut nowhere = disk_of(rt, "no_folder/none.img")?;
     page.say("\nsync ");
-    page.debug(&nowhere.sync());
+    page.debug(&nowhere.sync().ok());
     page.say("\n");
     Some(())
 }
