@@ -8,7 +8,7 @@ use nq_base::{Host, Party, Ticks};
 use nq_clock::MemClock;
 use nq_disk::{MemDisk, Room};
 use nq_link::MemLink;
-use nq_run::disk::{Command, CutFate, Fate, HostileFate, LossyFate, NoMemory, SteadyFate, Words};
+use nq_run::disk::{Command, NoMemory, Words};
 use std::alloc::Global;
 
 /// How much a disk takes: the bytes of the largest image, and as many calls and written bytes as can be counted.
@@ -54,24 +54,6 @@ pub(crate) fn disk_of(alloc: Global, scene: &str, left: Vec<u8>) -> Result<MemDi
 /// The clock of a scene. It shows 0, and from then on 1.
 pub(crate) fn clock_of(alloc: Global) -> Result<MemClock, NoMemory> {
     Ok(MemClock::new(vec![in alloc; Ticks(0), Ticks(1)]?))
-}
-
-/// The four fates of storms.
-pub(crate) fn fates_of(alloc: Global) -> Vec<Box<dyn Fate>> {
-    let mut fates: Vec<Box<dyn Fate>> = Vec::new(alloc);
-    if let Ok(fate) = Box::new(alloc, SteadyFate::new()) {
-        fates.push(fate).ok();
-    }
-    if let Ok(fate) = Box::new(alloc, LossyFate::new()) {
-        fates.push(fate).ok();
-    }
-    if let Ok(fate) = Box::new(alloc, CutFate::new()) {
-        fates.push(fate).ok();
-    }
-    if let Ok(fate) = Box::new(alloc, HostileFate::new()) {
-        fates.push(fate).ok();
-    }
-    fates
 }
 
 /// The link of a party in a scene.

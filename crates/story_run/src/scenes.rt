@@ -1,11 +1,11 @@
 //! What words do in a scene.
 
-use crate::parts::{clock_of, disk_of, fates_of, link_of, links_of};
+use crate::parts::{clock_of, disk_of, link_of, links_of};
 use crate::top::ran;
 use nq_base::{Host, Party};
 use nq_disk::MemDisk;
 use nq_io::{MemSink, MemSource};
-use nq_run::disk::{Ended, NoMemory, Words};
+use nq_run::disk::{CutFate, Ended, Fate, HostileFate, LossyFate, NoMemory, SteadyFate, Words};
 use std::alloc::Global;
 
 /// The status of a scene that was not played, for want of memory.
@@ -40,7 +40,7 @@ pub(crate) fn play(
     out: &mut MemSink,
     left: Vec<u8>,
 ) -> (u8, Vec<u8>) {
-    match ended(alloc, scene, words, source, out, left) {
+    match ended_by_fates(alloc, scene, words, source, out, left) {
         Ok(ended) => {
             let left = ended.disk.bytes().to_vec(alloc);
             (ended.status, left.unwrap_or(Vec::new(alloc)))
@@ -49,8 +49,8 @@ pub(crate) fn play(
     }
 }
 
-/// How it ends.
-fn ended(
+/// How it ends with the four fates of storms.
+fn ended_by_fates(
     alloc: Global,
     scene: &str,
     words: &Words,
@@ -58,11 +58,37 @@ fn ended(
     out: &mut MemSink,
     left: Vec<u8>,
 ) -> Result<Ended<MemDisk>, NoMemory> {
+    let mut fates: Vec<Box<dyn Fate>> = Vec::new(alloc);
+    if let Ok(fate) = Box::new(alloc, SteadyFate::new()) {
+        fates.push(fate).ok();
+    }
+    if let Ok(fate) = Box::new(alloc, LossyFate::new()) {
+        fates.push(fate).ok();
+    }
+    if let Ok(fate) = Box::new(alloc, CutFate::new()) {
+        fates.push(fate).ok();
+    }
+    if let Ok(fate) = Box::new(alloc, HostileFate::new()) {
+        fates.push(fate).ok();
+    }
+    let fates = fates.as_mut_slice();
+    ended(alloc, scene, words, source, out, left, fates)
+}
+
+/// How it ends with these fates.
+fn ended(
+    alloc: Global,
+    scene: &str,
+    words: &Words,
+    source: &mut MemSource,
+    out: &mut MemSink,
+    left: Vec<u8>,
+    fates: &mut [Box<dyn Fate>],
+) -> Result<Ended<MemDisk>, NoMemory> {
     let mut clock = clock_of(alloc)?;
     let mut link = link_of(alloc, scene, Party::Client(Host(0)))?;
     let mut links = links_of(alloc, scene, words)?;
     let disk = disk_of(alloc, scene, left)?;
-    let mut fates = fates_of(alloc);
     Ok(ran(
         alloc,
         words,
@@ -72,6 +98,6 @@ fn ended(
         &mut link,
         links.as_mut_slice(),
         &mut clock,
-        fates.as_mut_slice(),
+        fates,
     ))
 }
