@@ -40,7 +40,7 @@ pub(crate) fn play(
     out: &mut MemSink,
     left: Vec<u8>,
 ) -> (u8, Vec<u8>) {
-    match ended_by_fates(alloc, scene, words, source, out, left) {
+    match ended(alloc, scene, words, source, out, left) {
         Ok(ended) => {
             let left = ended.disk.bytes().to_vec(alloc);
             (ended.status, left.unwrap_or(Vec::new(alloc)))
@@ -49,33 +49,7 @@ pub(crate) fn play(
     }
 }
 
-/// How it ends with the four fates of storms.
-fn ended_by_fates(
-    alloc: Global,
-    scene: &str,
-    words: &Words,
-    source: &mut MemSource,
-    out: &mut MemSink,
-    left: Vec<u8>,
-) -> Result<Ended<MemDisk>, NoMemory> {
-    let mut fates: Vec<Box<dyn Fate>> = Vec::new(alloc);
-    if let Ok(fate) = Box::new(alloc, SteadyFate::new()) {
-        fates.push(fate).ok();
-    }
-    if let Ok(fate) = Box::new(alloc, LossyFate::new()) {
-        fates.push(fate).ok();
-    }
-    if let Ok(fate) = Box::new(alloc, CutFate::new()) {
-        fates.push(fate).ok();
-    }
-    if let Ok(fate) = Box::new(alloc, HostileFate::new()) {
-        fates.push(fate).ok();
-    }
-    let fates = fates.as_mut_slice();
-    ended(alloc, scene, words, source, out, left, fates)
-}
-
-/// How it ends with these fates.
+/// How it ends.
 fn ended(
     alloc: Global,
     scene: &str,
@@ -83,13 +57,12 @@ fn ended(
     source: &mut MemSource,
     out: &mut MemSink,
     left: Vec<u8>,
-    fates: &mut [Box<dyn Fate>],
 ) -> Result<Ended<MemDisk>, NoMemory> {
     let mut clock = clock_of(alloc)?;
     let mut link = link_of(alloc, scene, Party::Client(Host(0)))?;
     let mut links = links_of(alloc, scene, words)?;
     let disk = disk_of(alloc, scene, left)?;
-    Ok(ran(
+    ran(
         alloc,
         words,
         source,
@@ -98,6 +71,5 @@ fn ended(
         &mut link,
         links.as_mut_slice(),
         &mut clock,
-        fates,
-    ))
+    )
 }

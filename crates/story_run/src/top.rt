@@ -9,7 +9,9 @@ use nq_clock::Clock;
 use nq_disk::Disk;
 use nq_io::{Sink, Source};
 use nq_link::Link;
-use nq_run::disk::{Ended, Fate, Words, run_disk};
+use nq_run::disk::{
+    CutFate, Ended, Fate, HostileFate, LossyFate, NoMemory, SteadyFate, Words, run_disk,
+};
 use std::alloc::Global;
 
 /// Runs what the words say. What `run_disk` promises stays within: a story knows none of it, and so proves nothing of it either.
@@ -22,10 +24,25 @@ pub(crate) fn ran<S: Source, K: Sink, D: Disk + Drop, L: Link, C: Clock>(
     link: &mut L,
     links: &mut [L],
     clock: &mut C,
-    fates: &mut [Box<dyn Fate>],
-) -> Ended<D>
+) -> Result<Ended<D>, NoMemory>
     requires tells { makes_a_run (command_of words.now) ≡ true → (bytes : List ℕ) × (D.told disk ≡ Some bytes) }
     requires links { (hosts turns : ℕ) → command_of words.now ≡ Some (Command.Loop hosts turns) → length links.old ≡ hosts + 1 }
 {
-    run_disk(alloc, words, input, out, disk, link, links, clock, fates)
+    let mut fates: Vec<Box<dyn Fate>> = Vec::new(alloc);
+    fates.push(Box::new(alloc, SteadyFate::new())?)?;
+    fates.push(Box::new(alloc, LossyFate::new())?)?;
+    fates.push(Box::new(alloc, CutFate::new())?)?;
+    fates.push(Box::new(alloc, HostileFate::new())?)?;
+    let ended = run_disk(
+        alloc,
+        words,
+        input,
+        out,
+        disk,
+        link,
+        links,
+        clock,
+        fates.as_mut_slice(),
+    );
+    Ok(ended)
 }
