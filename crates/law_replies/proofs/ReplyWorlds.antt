@@ -1,136 +1,23 @@
 -- In every run each reply answers a request that was sent, and is of its procedure.
-use Rattle.std.proofs.Common.{◌≡◌, ◌⊎◌, ℕ, ◌+◌, true, List, [], ◌∷◌, ◌++◌, length, Option, Some, None, map, refl, sym, subst, ◌∙◌, inl, inr}
-use Rattle.std.specs.Prelude.{slice_get}
-use Rattle.nq_base.specs.declared.Event.{Event}
-use Rattle.nq_base.specs.declared.Party.{Party}
+use Rattle.std.proofs.Common.{◌≡◌, ℕ, true, List, Some, sym, subst, ◌∙◌}
 use Rattle.nq_base.specs.declared.Reply.{Reply}
 use Rattle.nq_base.specs.declared.Request.{Request}
 use Rattle.nq_base.specs.declared.Tag.{Tag}
 use Rattle.nq_base.specs.declared.Who.{Who}
-use Rattle.nq_model.specs.Client.{Client, ClientStep, Job, attaching, for_call, renewing, pushing, Ticket}
-use Rattle.nq_model.specs.ClientStep.{client_call, client_tick, restart}
-use Rattle.nq_model.specs.Hear.{hear, inc_of}
-use Rattle.nq_model.specs.Message.{Message, Packet, call, reply, error, asker, datagram_of, request}
-use Rattle.nq_model.specs.Server.{ServerStep, to_host, quiet}
-use Rattle.nq_model.specs.ServerStep.{receive, tick, crash, opens, ends_writing}
-use Rattle.nq_model.specs.World.{Head, World, from_host, after_server, after_client, at_client, after_hearing, sending_host, deliver_to_client, deliver_to, deliver, step, start, run}
+use Rattle.nq_model.specs.Client.{Client, Job, attaching, for_call, renewing, pushing, Ticket}
+use Rattle.nq_model.specs.Hear.{inc_of}
+use Rattle.nq_model.specs.Message.{Message, Packet, call, reply, error}
+use Rattle.nq_model.specs.World.{run}
 use Rattle.nq_wire.specs.Reply.{Answers, IsRefusable}
 use Rattle.nq_wire.specs.Request.{procedure_of}
 use Rattle.nq_datagrams.specs.Laws.{IsOfTicket}
 use Rattle.nq_datagrams.proofs.Readers.{client-reads-messages}
 use Rattle.walk_steps.proofs.ClientFacts.{fits_job}
-use Rattle.walk_steps.proofs.Mail.{none-to-host}
-use Rattle.walk_steps.proofs.Packets.{In, in-left, in-append, in-get, Asked, Told}
-use Rattle.walk_steps.proofs.Worlds.{IsAt, Holds, to-server, to-told, run-holds}
-use Rattle.walk_steps.proofs.ServerCases.{server-ticks}
+use Rattle.walk_steps.proofs.Packets.{In, in-get, Asked, Told}
+use Rattle.walk_steps.proofs.Worlds.{IsAt, to-told, run-holds}
 use Rattle.law_replies.specs.Replies.{RepliesAreOfTheirRequest, EachPacketIsHeard}
-use Rattle.law_replies.proofs.ServerReplies.{IsReplyOf, receive-tells}
-
--- a reply to a host answers a request that the host sent
-record AnswersOne (ps : List Packet) (host xid : ℕ) (a : Reply) : Type 0 where
-  asks : Request
-  who : Who
-  sent : Asked ps host xid asks
-  by : asker asks ≡ Some who
-  inc : inc_of a ≡ who.inc
-  of : IsReplyOf a asks
-
-EachAnswers : List Packet → Type 0
-EachAnswers ps = (host xid : ℕ) (a : Reply) → Told ps host (reply xid a) → AnswersOne ps host xid a
-
-more-packets : (ps qs : List Packet) (host xid : ℕ) (a : Reply) → AnswersOne ps host xid a → AnswersOne (ps ++ qs) host xid a
-more-packets ps qs host xid a k = record { asks = k.asks; who = k.who; sent = in-left ps qs _ k.sent; by = k.by; inc = k.inc; of = k.of }
-
--- after packets of the server
-more-told : (ps qs : List Packet) → EachAnswers ps → ((host xid : ℕ) (a : Reply) → In qs (to_host host (reply xid a)) → AnswersOne ps host xid a)
-    → EachAnswers (ps ++ qs)
-unfolding EachAnswers
-more-told ps qs each new host xid a i = by (in-append ps qs (to_host host (reply xid a)) i)
-  where
-    by : In ps (to_host host (reply xid a)) ⊎ In qs (to_host host (reply xid a)) → AnswersOne (ps ++ qs) host xid a
-    by (inl old) = more-packets ps qs host xid a (each host xid a old)
-    by (inr told) = more-packets ps qs host xid a (new host xid a told)
-
-none-new : (ps qs : List Packet) → qs ≡ [] → (host xid : ℕ) (a : Reply) → In qs (to_host host (reply xid a)) → AnswersOne ps host xid a
-none-new ps qs none host xid a i = let bad : In [] (to_host host (reply xid a)) = subst (λ xs. In xs (to_host host (reply xid a))) none i in absurd bad
-
--- ---- events
-
-of-server : (w : World) (t : ServerStep) → EachAnswers w.packets
-    → ((host xid : ℕ) (a : Reply) → In t.sends (to_host host (reply xid a)) → AnswersOne w.packets host xid a) → EachAnswers (after_server w t).packets
-unfolding after_server
-of-server w t each new = more-told w.packets t.sends each new
-
-of-client : (w : World) (host : ℕ) (t : ClientStep) → EachAnswers w.packets → EachAnswers (after_client w host t).packets
-unfolding after_client
-of-client w host t each =
-    more-told w.packets (map (from_host host) t.sends) each (λ other xid a i. absurd (none-to-host host other t.sends (reply xid a) i))
-
-of-at : (w : World) (host : ℕ) (f : Client → ClientStep) (o : Option Client) → EachAnswers w.packets → EachAnswers (at_client w host f o).packets
-of-at w host f None each = each
-of-at w host f (Some c) each = of-client w host (f c) each
-
-of-hearing : (w : World) (host : ℕ) (o : Option ClientStep) → EachAnswers w.packets → EachAnswers (after_hearing w host o).packets
-of-hearing w host None each = each
-of-hearing w host (Some t) each = of-client w host t each
-
-of-delivery : (w : World) (k host : ℕ) (m : Message) (o : Option Client) → EachAnswers w.packets → EachAnswers (deliver_to_client w k host m o).packets
-of-delivery w k host m None each = each
-of-delivery w k host m (Some c) each = of-hearing w host (hear c k m) each
-
-received : (w : World) (p : Packet) → Holds w → p.to ≡ Party.Server → In w.packets p → (host xid : ℕ) (a : Reply)
-    → In (receive w.server (sending_host p.sender) (length w.packets) (datagram_of p.message)).sends (to_host host (reply xid a))
-    → AnswersOne w.packets host xid a
-received w p h to i host xid a told =
-    let d = datagram_of p.message in
-    let no_null : (x : ℕ) → d ≡ request x Request.Null → ⊥ = λ x e. let some = (to-server w.packets p (h.sent p i) to i x Request.Null e).1 in absurd (cc) in
-    let t = receive-tells w.server (sending_host p.sender) (length w.packets) d no_null host xid a told in
-    record {
-      asks = t.asks;
-      who = t.who;
-      sent = subst (λ k. Asked w.packets k xid t.asks) (sym t.to) (to-server w.packets p (h.sent p i) to i xid t.asks t.is).0;
-      by = t.by;
-      inc = t.inc;
-      of = t.of;
-    }
-
-of-packet : (w : World) (k : ℕ) (p : Packet) (to : Party) → Holds w → p.to ≡ to → In w.packets p → EachAnswers w.packets
-    → EachAnswers (deliver_to w k p to).packets
-of-packet w k p Party.Server h to i each = of-server w _ each (received w p h to i)
-of-packet w k p (Party.Client host) h to i each = of-delivery w k host p.message (slice_get w.clients host) each
-
-of-deliver : (w : World) (k : ℕ) (o : Option Packet) → slice_get w.packets k ≡ o → Holds w → EachAnswers w.packets → EachAnswers (deliver w k o).packets
-of-deliver w k None is h each = each
-of-deliver w k (Some p) is h each = of-packet w k p p.to h refl (in-get w.packets k p is) each
-
-tick-none : (w : World) (now : ℕ) → (tick w.server now).sends ≡ []
-unfolding quiet opens ends_writing
-tick-none w now = server-ticks w.server now (λ t. t.sends ≡ []) (record {
-  waits = λ until heard last recovers early. refl;
-  opening = λ until heard last recovers late. refl;
-  ends_reading = λ serves none. refl;
-  ending_writing = λ row serves due. refl;
-})
-
-crash-none : (w : World) (longest : ℕ) → (crash w.server longest).sends ≡ []
-unfolding crash
-crash-none w longest = refl
-
-of-event : (w : World) (event : Event) → Holds w → EachAnswers w.packets → EachAnswers (step w event).packets
-of-event w (Event.Call host op) h each = of-at w host (λ c. client_call c op) (slice_get w.clients host) each
-of-event w (Event.Deliver k) h each = of-deliver w k (slice_get w.packets k) refl h each
-of-event w Event.ServerTick h each =
-    of-server w (tick w.server (w.server.now + 1)) each (none-new w.packets _ (tick-none w (w.server.now + 1)))
-of-event w (Event.ClientTick host) h each = of-at w host (λ c. client_tick c (c.now + 1)) (slice_get w.clients host) each
-of-event w (Event.Restart host) h each = of-at w host restart (slice_get w.clients host) each
-of-event w (Event.Crash longest) h each = of-server w (crash w.server longest) each (none-new w.packets _ (crash-none w longest))
-
-each-answers : (head : Head) (events : List Event) → EachAnswers (run head events).packets
-unfolding EachAnswers start
-each-answers head [] = λ host xid a i. absurd i
-each-answers head (event ∷ earlier) = of-event (run head earlier) event (run-holds head earlier) (each-answers head earlier)
-
--- ---- the request under way
+use Rattle.law_replies.proofs.ServerReplies.{IsReplyOf, kind}
+use Rattle.walk_steps.proofs.ReplyRuns.{AnswersOne, EachAnswers, each-answers}
 
 -- what is no client's request
 no-null : (job : Job) → fits_job job Request.Null ≡ true → ⊥
@@ -162,7 +49,7 @@ answers-it job (Reply.Refused inc status) r fits of = refusable job r fits
 answers-it job other r fits of = of
 
 -- a reply to a client's request under way
-ticket-answered : (ps : List Packet) (host xid : ℕ) (a : Reply) (c : Client) (t : Ticket) → IsAt host c ps → AnswersOne ps host xid a
+ticket-answered : (ps : List Packet) (host xid : ℕ) (a : Reply) (c : Client) (t : Ticket) → IsAt host c ps → AnswersOne IsReplyOf ps host xid a
     → c.ticket ≡ Some t → xid ≡ t.xid → inc_of a ≡ c.who.inc → Answers a (procedure_of t.request)
 ticket-answered ps host xid a c t at k has same inc =
     let asked = at.mail.asked xid k.asks k.who (subst (λ n. Asked ps n xid k.asks) (sym at.here) k.sent) k.by in
@@ -170,8 +57,7 @@ ticket-answered ps host xid a c t at k has same inc =
     let fits = (at.alone.asking.ticketed t has).fits in
     answers-it t.job a t.request fits (subst (λ r. IsReplyOf a r) (sym own) k.of)
 
-of-ticket : (ps : List Packet) (host : ℕ) (c : Client) (m : Message) → IsAt host c ps → EachAnswers ps → Told ps host m → IsOfTicket c m
-unfolding EachAnswers
+of-ticket : (ps : List Packet) (host : ℕ) (c : Client) (m : Message) → IsAt host c ps → EachAnswers IsReplyOf ps → Told ps host m → IsOfTicket c m
 of-ticket ps host c (reply xid a) at each told = λ t has same inc. ticket-answered ps host xid a c t at (each host xid a told) has same inc
 of-ticket ps host c (call xid r) at each told = tt
 of-ticket ps host c (error xid e) at each told = tt
@@ -186,7 +72,7 @@ replies-are-of-their-request head events number host p c for =
     c
     p.message
     (h.clients host c for.client)
-    (each-answers head events)
+    (each-answers kind head events)
     (to-told (run head events).packets p host (h.sent p i) for.to i)
 
 pub each-packet-is-heard : EachPacketIsHeard

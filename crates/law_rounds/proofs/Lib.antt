@@ -26,7 +26,6 @@ pub mod RowCount
 pub mod RowSteps
 pub mod AskSteps
 pub mod UsefulReplies
-pub mod UsefulWorlds
 pub mod Facts
 pub mod Forms
 pub mod ClientSteps

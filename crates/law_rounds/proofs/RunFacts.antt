@@ -46,8 +46,8 @@ use Rattle.law_rounds.proofs.SharingRows.{rows-to-go}
 use Rattle.law_rounds.proofs.Turns.{turns-fall}
 use Rattle.law_rounds.proofs.Facts.{asked_by, asked_for, wants_in, Takes, IsNamed, Facts, AskersHaveRows}
 use Rattle.law_rounds.proofs.RowCount.{few-rows}
-use Rattle.law_rounds.proofs.UsefulReplies.{NoWriter}
-use Rattle.law_rounds.proofs.UsefulWorlds.{each-answers}
+use Rattle.law_rounds.proofs.UsefulReplies.{NoWriter, kind}
+use Rattle.walk_steps.proofs.ReplyRuns.{each-answers}
 
 -- ---- lists
 
@@ -110,7 +110,7 @@ module _ (head : Head) (events : List Event) where
 
       no : is_idle grant ≡ true → ⊥
       no idle =
-          let k = each-answers head events host xid (Reply.GetLease inc grant) told in
+          let k = each-answers kind head events host xid (Reply.GetLease inc grant) told in
           let asked = is_at.mail.asked xid k.asks k.who (subst (λ n. Asked (run head events).packets n xid k.asks) (sym is_at.here) k.sent) k.by in
           let mine : ticket.request ≡ k.asks = asked.same (sym k.inc ∙ same) ticket asks (sym own) in
           let lease = lease-for inc grant ticket.request counts in

@@ -70,3 +70,5 @@ pub mod TickLines
 pub mod Unrowed
 pub mod WorldClocks
 pub mod BoundBefore
+pub mod ReplyTells
+pub mod ReplyRuns
