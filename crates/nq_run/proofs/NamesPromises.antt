@@ -1,5 +1,5 @@
 -- What a run with lists prints is lawful and sound.
-use Rattle.std.proofs.Common.{◌≡◌, ◌∙◌, ℕ, List, Option, subst, sym}
+use Rattle.std.proofs.Common.{◌≡◌, ℕ, List, Option, subst}
 use Rattle.nq_base.proofs.Ends.{one_end}
 use Rattle.nq_base.specs.Status.{status_of}
 use Rattle.nq_base.specs.declared.ending.ending.Ending.{Ending}
