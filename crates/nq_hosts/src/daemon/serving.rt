@@ -90,7 +90,7 @@ fn boot_and_run<K: Keeper, L: Link, C: Clock, W: Watcher<L>>(
 }
 
 /// What serving comes to where no server booted: the keeper is left.
-fn not_booted<K>(fault: BootFault<K>) -> Served<K>
+pub(crate) fn not_booted<K>(fault: BootFault<K>) -> Served<K>
     ensures why { result.ended ≡ Err (halt_of fault) }
     ensures keeper { result.keeper ≡ keeper_in (Err fault) }
 {
