@@ -1,7 +1,7 @@
 //! Serving for a number of turns.
 
 ghost use Rattle.std.specs.Prelude.{◌≡◌, ◌<◌, ◌≤◌, ◌^◌};
-ghost use Rattle.nq_hosts.specs.ServerLeaving.{LeavesRunning, LeavesRuns, LeavesServing};
+ghost use Rattle.nq_hosts.specs.ServerLeaving.{LeavesRuns, LeavesServing};
 ghost use Rattle.nq_hosts.specs.Serving.{EndsBy, Tells, TellsTurns, end_of};
 ghost use Rattle.nq_hosts.specs.Clocks.{clock_told};
 ghost use Rattle.nq_hosts.specs.Links.{link_told};
@@ -108,31 +108,16 @@ fn boot_and_run<K: Keeper, L: Link, C: Clock>(
     ensures follows { K.follows keeper result.keeper }
 {
     match Server::boot(alloc, keeper, longest, now) {
-        Ok(server) => run_server(alloc, server, turns, link, clock),
+        Ok(server) => {
+            let mut server = server;
+            let mut log = Journal::new(alloc).unwrap();
+            let mut next = 0;
+            let ended = take_turns(alloc, &mut server, link, clock, &mut next, &mut log, turns);
+            Turned {
+                ended,
+                keeper: server.into_keeper(),
+            }
+        }
         Err(fault) => not_booted(fault),
-    }
-}
-
-/// Takes so many turns of a server that has just booted.
-fn run_server<K: Keeper, L: Link, C: Clock>(
-    alloc: Global,
-    server: Server<K>,
-    turns: u32,
-    link: &mut L,
-    clock: &mut C,
-) -> Turned<K>
-    ensures ran { LeavesRunning K.content K.faults K.follows K.leaves turns server result.ended result.keeper
-        (clock_told C.floor C.readings clock.old) (clock_told C.floor C.readings clock.new)
-        (link_told L.sent L.waiting L.faults L.receives link.old)
-        (link_told L.sent L.waiting L.faults L.receives link.new) }
-    ensures follows { K.follows server.keeper result.keeper }
-{
-    let mut server = server;
-    let mut log = Journal::new(alloc).unwrap();
-    let mut next = 0;
-    let ended = take_turns(alloc, &mut server, link, clock, &mut next, &mut log, turns);
-    Turned {
-        ended,
-        keeper: server.into_keeper(),
     }
 }
