@@ -30,11 +30,23 @@ pub later : (turns : ℕ) (answered : Bool) (result : Result Unit Halt) (at afte
 later turns true result at after so took = absurd (cc)
 later turns false result at after so took = took
 
+-- what a start puts into an outbox that was empty
+letters-of : (who : Who) (time : ℕ) (letters first : Letters) → first ≡ [] → letters ≡ first ++ map to_server (starts who term_wanted time).sends
+    → letters ≡ map to_server (starts who term_wanted time).sends
+letters-of who time letters first none sent = sent ∙ ap (λ (ds : Letters). ds ++ map to_server (starts who term_wanted time).sends) none
+
+-- a client whose first datagrams were sent
+pub begun : (who : Who) (time : ℕ) (letters first : Letters) (link link' : LinkTold) → first ≡ []
+    → letters ≡ first ++ map to_server (starts who term_wanted time).sends → SendsOut letters (Ok tt) link link'
+    → SendsOut (map to_server (starts who term_wanted time).sends) (Ok tt) link link'
+begun who time letters first link link' none sent s =
+    subst (λ ds. SendsOut ds (Ok tt) link link') (letters-of who time letters first none sent) s
+
 -- a client whose first datagrams were not sent
 pub not_begun : (who : Who) (time : ℕ) (why : Halt) (letters first : Letters) (link link' : LinkTold) → first ≡ []
     → letters ≡ first ++ map to_server (starts who term_wanted time).sends → SendsOut letters (Err why) link link' → Begins who time (Err why) link link'
 not_begun who time Halt.Link letters first link link' none sent s =
-    subst (λ ds. SendsOut ds (Err Halt.Link) link link') (sent ∙ ap (λ (ds : Letters). ds ++ map to_server (starts who term_wanted time).sends) none) s
+    subst (λ ds. SendsOut ds (Err Halt.Link) link link') (letters-of who time letters first none sent) s
 not_begun who time Halt.Keep letters first link link' none sent s = absurd s
 not_begun who time Halt.Memory letters first link link' none sent s = absurd s
 not_begun who time Halt.Spent letters first link link' none sent s = absurd s

@@ -127,7 +127,6 @@ pub fn tell_script<K: Sink>(alloc: Global, number: u32, out: &mut K) -> Ending
 }
 
 /// Tells in which line the input passes the limit. The bytes are those up to the first beyond it.
-#[tactic(auto, unfolding(crate::specs::Telling::bytes_line))]
 pub fn tell_bytes<K: Sink>(alloc: Global, front: &[u8], out: &mut K) -> Ending
     requires { 0 < length front.now }
     ensures { TellsSo Ending.Limit (bytes_line (last_line front.now)) result (K.held out.old) (K.held out.new) (K.faults out.old) (K.faults out.new) }
