@@ -3,9 +3,9 @@
 use crate::daemon::Watcher;
 use crate::traffic::counted::CountedLink;
 use crate::traffic::counts::{Counts, PROCEDURES};
-use nq_base::{Entry, Journal, Ticks};
+use nq_base::{Entry, Journal, NoMemory, Ticks};
 use nq_io::{Put, Sink};
-use std::alloc::{AllocError, Global};
+use std::alloc::Global;
 
 /// Somebody who knows how much memory the program has.
 pub trait Gauge {
@@ -62,13 +62,6 @@ impl<S, G> Report<S, G> {
 }
 
 impl Told {
-    /// Counts the entries of a journal.
-    fn note_all(&mut self, log: &Journal) {
-        for entry in log.entries() {
-            self.note(entry);
-        }
-    }
-
     /// Counts an entry.
     fn note(&mut self, entry: &Entry) {
         match entry {
@@ -81,67 +74,68 @@ impl Told {
     }
 }
 
+/// A name and a number behind a space.
+fn push_count(alloc: Global, line: &mut String, name: &str, count: u64) -> Result<(), NoMemory> {
+    let Ok(words) = format!(in alloc; " {name} {count}") else {
+        return Err(NoMemory::Memory);
+    };
+    line.push_str(words.as_str())?;
+    Ok(())
+}
+
 /// The line of counts.
 fn line_of(
     alloc: Global,
     standing: &Standing,
     counts: &Counts,
     told: &Told,
-) -> Result<String, AllocError> {
-    let mut line = format!(in alloc; "after seconds {}: calls", standing.now.0)?;
-    push_calls(&mut line, counts)?;
-    push_answers(&mut line, counts)?;
-    push_told(&mut line, told)?;
-    push_rows(&mut line, standing)?;
+) -> Result<String, NoMemory> {
+    let mut line = String::new(alloc);
+    line.push_str("after")?;
+    push_count(alloc, &mut line, "seconds", standing.now.0)?;
+    line.push_str(": calls")?;
+    for (name, count) in PROCEDURES.iter().zip(counts.calls.iter()) {
+        if *count > 0 {
+            push_count(alloc, &mut line, name, *count)?;
+        }
+    }
+    push_answers(alloc, &mut line, counts)?;
+    push_told(alloc, &mut line, told)?;
+    push_count(alloc, &mut line, "rows", standing.rows as u64)?;
+    if let Some(kilobytes) = standing.kilobytes {
+        push_count(alloc, &mut line, "kilobytes", kilobytes)?;
+    }
+    line.push_str("\n")?;
     Ok(line)
 }
 
-/// The calls that came, by their procedures.
-fn push_calls(line: &mut String, counts: &Counts) -> Result<(), AllocError> {
-    for (name, count) in PROCEDURES.iter().zip(counts.calls.iter()) {
-        if *count > 0 {
-            write!(line, " {name} {count}")?;
-        }
-    }
-    Ok(())
-}
-
-/// The counts of what else came, and of what was sent.
-fn push_answers(line: &mut String, counts: &Counts) -> Result<(), AllocError> {
-    write!(
-        line,
-        " strange {}; replies ok {} later {} fenced {} refused {} errors {} notices {} unsent {}",
-        counts.strange,
-        counts.done,
-        counts.later,
-        counts.fenced,
-        counts.refused,
-        counts.errors,
-        counts.notices,
-        counts.unsent
-    )
-}
-
 /// What the journals told.
-fn push_told(line: &mut String, told: &Told) -> Result<(), AllocError> {
-    write!(
-        line,
-        "; told grants {} fences {} delayed-stored {} through-stored {}",
-        told.grants, told.fences, told.stored, told.through
-    )
+fn push_told(alloc: Global, line: &mut String, told: &Told) -> Result<(), NoMemory> {
+    line.push_str("; told")?;
+    push_count(alloc, line, "grants", told.grants)?;
+    push_count(alloc, line, "fences", told.fences)?;
+    push_count(alloc, line, "delayed-stored", told.stored)?;
+    push_count(alloc, line, "through-stored", told.through)
 }
 
-/// The rows of the server's table, and the program's memory where it is known.
-fn push_rows(line: &mut String, standing: &Standing) -> Result<(), AllocError> {
-    match standing.kilobytes {
-        Some(kilobytes) => writeln!(line, " rows {} kilobytes {kilobytes}", standing.rows),
-        None => writeln!(line, " rows {}", standing.rows),
-    }
+/// The counts of what was sent.
+fn push_answers(alloc: Global, line: &mut String, counts: &Counts) -> Result<(), NoMemory> {
+    push_count(alloc, line, "strange", counts.strange)?;
+    line.push_str("; replies")?;
+    push_count(alloc, line, "ok", counts.done)?;
+    push_count(alloc, line, "later", counts.later)?;
+    push_count(alloc, line, "fenced", counts.fenced)?;
+    push_count(alloc, line, "refused", counts.refused)?;
+    push_count(alloc, line, "errors", counts.errors)?;
+    push_count(alloc, line, "notices", counts.notices)?;
+    push_count(alloc, line, "unsent", counts.unsent)
 }
 
 impl<L, S: Sink, G: Gauge> Watcher<CountedLink<L>> for Report<S, G> {
     fn turned(&mut self, link: &CountedLink<L>, now: Ticks, rows: usize, log: &Journal) {
-        self.told.note_all(log);
+        for entry in log.entries() {
+            self.told.note(entry);
+        }
         let Some(every) = self.every else { return };
         if now.0.saturating_sub(self.last) < every {
             return;
