@@ -1,16 +1,13 @@
 -- What a stop within the stages of a server's turn leaves.
-use Rattle.std.proofs.Common.{◌≡◌, ◌<◌, if◌then◌else◌, arith, ◌⊎◌, ◌∙◌, ℕ, Bool, true, Option, Some, None, Result, Ok, Err, nat_lt, inl, inr, refl, sym, subst}
-use Rattle.std.proofs.lemmas.Bool.Decides.{nat_tests}
-use Rattle.nq_base.specs.Entries.{EntryList}
+use Rattle.std.proofs.Common.{◌≡◌, if◌then◌else◌, ◌⊎◌, ◌∙◌, ℕ, Bool, true, Option, Some, None, Result, Ok, Err, nat_lt, inl, inr, refl, sym, subst}
 use Rattle.nq_model.specs.Kept.{Kept}
 use Rattle.nq_hosts.specs.Clocks.{ClockTold, ReadsOnce}
 use Rattle.nq_hosts.specs.Leaving.{IsLeftAt, IsLeftBehind, LeavesOnly, LeavesReceiving, LeavesBehind, LeavesStages}
 use Rattle.nq_hosts.specs.Links.{Letter, LinkTold}
-use Rattle.nq_hosts.specs.ServerTurn.{Given, ticks, datagram, GoesOn, Moment, Receives, Sends, ServesTurn, Stages, Takes, TakesFrom, given_by, given_of, goes_on, step_on, taken, tick_due, turn_of}
+use Rattle.nq_hosts.specs.ServerTurn.{Given, ticks, datagram, Moment, Receives, Takes, TakesFrom, given_by, goes_on, step_on, taken, tick_due}
 use Rattle.nq_hosts.specs.declared.node.turns.Halt.{Halt}
-use Rattle.nq_hosts.specs.declared.node.turns.Turn.{Turn}
 use Rattle.nq_hosts.proofs.ServerTurns.{not_link}
-use Rattle.nq_server.specs.Holding.{Holding, IsTaken}
+use Rattle.nq_server.specs.Holding.{IsTaken}
 use Rattle.nq_server.specs.Stepping.{LeavesStep}
 use Rattle.nq_server.specs.declared.Received.{Received}
 
@@ -30,53 +27,10 @@ module _ {K : Type 0} (content : K → Option Kept) (faults : K → ℕ) where
   step-tells given Received.Spent at after so t kept told = absurd (cc)
 
   -- a keeper tells after a step that did not stop the turn
-  taken-tells : (given : Option Given) (at after : Moment K) → Takes content faults given (Ok tt) at after
+  pub taken_tells : (given : Option Given) (at after : Moment K) → Takes content faults given (Ok tt) at after
       → (kept : Kept) → content at.server.keeper ≡ Some kept → Tells (content after.server.keeper)
-  taken-tells None at after t kept told = subst (λ m. Tells (content m.server.keeper)) (sym t.1) (kept, told)
-  taken-tells (Some given) at after t kept told = step-tells given t.how at after (sym t.so) t.takes kept told
-
-  received-tells : (received : Result Bool Halt) (moved : Bool) (ticked : Bool) (link link' last : LinkTold) (at after : Moment K)
-      → Receives content faults received link link' at after → Sends received (Ok moved) ticked link' last after
-      → (kept : Kept) → content at.server.keeper ≡ Some kept → Tells (content after.server.keeper)
-  received-tells (Ok some) moved ticked link link' last at after r s kept told = taken-tells (given_of r.0) at after r.2.takes kept told
-  received-tells (Err why) moved ticked link link' last at after r s kept told = let same = s.0 in absurd (cc)
-
-  behind-tells : (goes : Result Unit Halt) (moved : Bool) (ticked : Bool) (link link' : LinkTold) (at after : Moment K)
-      → GoesOn content faults goes (Ok moved) ticked link link' at after → (given : Option Given) (first : Moment K) → Takes content faults given goes first at
-      → (kept : Kept) → content first.server.keeper ≡ Some kept → Tells (content after.server.keeper)
-  behind-tells (Ok tt) moved ticked link link' at after rest given first t kept told =
-      let between = taken-tells given first at t kept told in
-      received-tells rest.0 moved ticked link rest.1 link' at after rest.2 rest.3 between.0 between.1
-  behind-tells (Err why) moved ticked link link' at after rest given first t kept told = let same = rest.0 in absurd (cc)
-
-  stages-tell : (ended : Result Bool Halt) (moved : Bool) → ended ≡ Ok moved → (clock clock' : ClockTold) (link link' : LinkTold) (at after : Moment K)
-      → Stages content faults ended clock clock' link link' at after → (kept : Kept) → content at.server.keeper ≡ Some kept
-      → Tells (content after.server.keeper)
-  stages-tell (Ok moved) is same clock clock' link link' at after s kept told =
-      behind-tells s.goes moved (nat_lt at.server.beside.time s.reading) link link' s.between after s.rest
-      (tick_due at.server.beside.time s.reading) at s.ticks kept told
-  stages-tell (Err why) is same clock clock' link link' at after s kept told = absurd (cc)
-
-  neither : (turn other : Turn) → turn ≡ other → (turn ≡ Turn.Took) ⊎ (turn ≡ Turn.Quiet) → (other ≡ Turn.Took → ⊥) → (other ≡ Turn.Quiet → ⊥) → ⊥
-  neither turn other same (inl took) not_took not_quiet = not_took (sym same ∙ took)
-  neither turn other same (inr quiet) not_took not_quiet = not_quiet (sym same ∙ quiet)
-
-  moved-of : (turn : Turn) → (turn ≡ Turn.Took) ⊎ (turn ≡ Turn.Quiet) → (ended : Result Bool Halt) → turn ≡ turn_of ended → (moved : Bool) × (ended ≡ Ok moved)
-  moved-of turn one (Ok moved) same = (moved, refl)
-  moved-of turn one (Err Halt.Link) same = absurd (neither turn Turn.Link same one (λ e. cc) (λ e. cc))
-  moved-of turn one (Err Halt.Keep) same = absurd (neither turn Turn.Keep same one (λ e. cc) (λ e. cc))
-  moved-of turn one (Err Halt.Memory) same = absurd (neither turn Turn.Memory same one (λ e. cc) (λ e. cc))
-  moved-of turn one (Err Halt.Spent) same = absurd (neither turn Turn.Spent same one (λ e. cc) (λ e. cc))
-
-  -- a keeper that told before a turn that went on tells after it
-  pub turn_tells : (turn : Turn) → (turn ≡ Turn.Took) ⊎ (turn ≡ Turn.Quiet) → (next next' : ℕ) (clock clock' : ClockTold) (link link' : LinkTold)
-      (server server' : Holding K) (log log' : EntryList) → ServesTurn content faults turn next next' clock clock' link link' server server' log log'
-      → (kept : Kept) → content server.keeper ≡ Some kept → Tells (content server'.keeper)
-  turn_tells turn one next next' clock clock' link link' server server' log log' t kept told =
-      let so = moved-of turn one t.ended t.answer in
-      stages-tell t.ended so.0 so.1 clock clock' link link' (record { server = server; out = t.out; log = log })
-      (record { server = server'; out = t.out'; log = log' }) t.stages
-      kept told
+  taken_tells None at after t kept told = subst (λ m. Tells (content m.server.keeper)) (sym t.1) (kept, told)
+  taken_tells (Some given) at after t kept told = step-tells given t.how at after (sym t.so) t.takes kept told
 
 module _ {K : Type 0} (content : K → Option Kept) (faults : K → ℕ) (follows : K → K → Type 0) (leaves : K → K → Option Kept → Type 0)
     (on : (first second third : K) → follows first second → follows second third → follows first third)
@@ -97,16 +51,13 @@ module _ {K : Type 0} (content : K → Option Kept) (faults : K → ℕ) (follow
       split (inl earlier) = inl earlier
       split (inr here) = inr (one (step kept told found here))
 
-  due : (time reading : ℕ) → time < reading → nat_lt time reading ≡ true
-  due time reading above = grind (arith, nat_tests)
-
   -- the same of a tick that is due
-  pub tick_leaves : (reading : ℕ) (at after : Moment K) → at.server.beside.time < reading → follows at.server.keeper after.server.keeper
+  pub tick_leaves : (reading : ℕ) (at after : Moment K) → nat_lt at.server.beside.time reading ≡ true → follows at.server.keeper after.server.keeper
       → LeavesStep (step_on (ticks reading) at) (content at.server.keeper) (leaves at.server.keeper after.server.keeper)
       → LeavesOnly content follows leaves at.server.keeper after.server.keeper (IsLeftAt content (tick_due at.server.beside.time reading) at)
   tick_leaves reading at after above same step =
       subst (λ b. LeavesOnly content follows leaves at.server.keeper after.server.keeper (IsLeftAt content (if b then Some (ticks reading) else None) at))
-      (sym (due at.server.beside.time reading above)) (step_leaves (ticks reading) at after same step)
+      (sym above) (step_leaves (ticks reading) at after same step)
 
   -- where nothing was taken in, nothing else is left
   pub still_leaves : (received : Result Bool Halt) (link link' : LinkTold) (at : Moment K) → Receives content faults received link link' at at
@@ -169,7 +120,7 @@ module _ {K : Type 0} (content : K → Option Kept) (faults : K → ℕ) (follow
         stages = record { reading = reading; read = read; goes = Ok tt; between = between; ticks = takes; rest = b.rest };
         left =
             λ kept told first found before l.
-            let tells = taken-tells content faults (tick_due at.server.beside.time reading) at between takes kept told in
+            let tells = taken_tells content faults (tick_due at.server.beside.time reading) at between takes kept told in
             split kept told first found (IsLeftBehind content faults (Ok tt) ended
             (nat_lt at.server.beside.time reading) link link' between after b.rest found) before
             (b.left tells.0 tells.1 first found (on first at.server.keeper between.server.keeper before same) l);

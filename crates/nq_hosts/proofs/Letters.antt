@@ -1,5 +1,5 @@
 -- Sending the datagrams of an outbox one after the other.
-use Rattle.std.proofs.Common.{◌≡◌, ◌<◌, ◌≤◌, ℕ, zero, suc, ◌+◌, List, [], ◌∷◌, ◌++◌, Option, Some, None, length, take, drop, min, refl, sym, ap, ◌∙◌, append_assoc, append-nil, arith}
+use Rattle.std.proofs.Common.{◌≡◌, ◌<◌, ◌≤◌, ℕ, zero, suc, List, [], ◌∷◌, ◌++◌, Option, Some, None, length, take, drop, min, refl, sym, ap, ◌∙◌, append_assoc, arith}
 use Rattle.std.specs.Prelude.{slice_get}
 use Rattle.nq_base.specs.declared.Party.{Party}
 use Rattle.nq_link.specs.Link.{Letters, Comes, TakesFirst, with_last}
@@ -25,10 +25,6 @@ parted : {A : Type 0} (xs : List A) (k : ℕ) (x : A) → slice_get xs k ≡ Som
 parted [] k x e = absurd (cc)
 parted (y ∷ xs) zero x e = let one : y ≡ x = cc in ap (λ z. z ∷ xs) one
 parted (y ∷ xs) (suc k) x e = ap (λ zs. y ∷ zs) (parted xs k x e)
-
-pub all-none : (told : Option Letters) → told ≡ with_all told []
-all-none None = refl
-all-none (Some told) = ap Some (sym (append-nil told))
 
 one-more : (told : Option Letters) (front : Letters) (d : Letter) → with_last (with_all told front) d.0 d.1 ≡ with_all told (front ++ d ∷ [])
 one-more None front d = refl

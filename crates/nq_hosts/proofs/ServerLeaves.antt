@@ -7,7 +7,8 @@ use Rattle.nq_hosts.specs.ServerLeaving.{AreInOrder, IsLeftGoing, IsLeftInGoes, 
 use Rattle.nq_hosts.specs.Serving.{Between, Booted, Goes, GoesOn, NoBoot, between, halt_of}
 use Rattle.nq_model.specs.Kept.{Kept}
 use Rattle.nq_model.specs.ServerStep.{boot, booted}
-use Rattle.nq_hosts.proofs.Leaves.{Tells, turn_tells}
+use Rattle.nq_hosts.proofs.Leaves.{Tells}
+use Rattle.nq_hosts.proofs.Telling.{turn_tells}
 use Rattle.nq_hosts.specs.Clocks.{ClockTold}
 use Rattle.nq_hosts.specs.Leaving.{LeavesOnly, LeavesTurn}
 use Rattle.nq_hosts.specs.Links.{LinkTold}
@@ -21,11 +22,9 @@ module _ {K : Type 0} (content : K → Option Kept) (faults : K → ℕ) where
   goes-tells : (at after : Between K) → GoesOn content faults at after → (kept : Kept) → content at.server.keeper ≡ Some kept
       → Tells (content after.server.keeper)
   goes-tells at after (inl t) kept told =
-      turn_tells content faults Turn.Took
-      (inl refl) at.next after.next at.clock after.clock at.link after.link at.server after.server at.log after.log t kept told
+      turn_tells content faults Turn.Took refl at.next after.next at.clock after.clock at.link after.link at.server after.server at.log after.log t kept told
   goes-tells at after (inr t) kept told =
-      turn_tells content faults Turn.Quiet
-      (inr refl) at.next after.next at.clock after.clock at.link after.link at.server after.server at.log after.log t kept told
+      turn_tells content faults Turn.Quiet refl at.next after.next at.clock after.clock at.link after.link at.server after.server at.log after.log t kept told
 
 -- so many turns that did not stop, what a stop within them leaves, and that the keeper tells after them what it keeps
 pub record GoneOn {K : Type 0} (content : K → Option Kept) (faults : K → ℕ) (follows : K → K → Type 0) (leaves : K → K → Option Kept

@@ -1,8 +1,8 @@
 -- Lines that are stepped over.
-use Rattle.std.proofs.Common.{◌≡◌, ◌≢◌, true, false, Result, Ok, Err, ℕ, ◌+◌, ◌<◌, ◌≤◌, List, [], ◌∷◌, ◌++◌, Some, None, length, refl, ap, sym, subst, ◌∙◌, arith, append_assoc, append-nil, length-append}
+use Rattle.std.proofs.Common.{◌≡◌, ◌≢◌, true, false, Result, Ok, Err, ℕ, ◌+◌, ◌≤◌, List, [], ◌∷◌, ◌++◌, Some, None, length, refl, ap, sym, subst, ◌∙◌, arith, append_assoc, length-append}
 use Rattle.std.specs.Prelude.{is_ok}
 use Rattle.nq_base.specs.declared.Call.{Call}
-use Rattle.nq_hosts.specs.Lines.{AreCalls, FirstFault, IsCall, SoFar, StepsOver}
+use Rattle.nq_hosts.specs.Lines.{IsCall, SoFar, StepsOver}
 use Rattle.nq_script.specs.Calls.{SpellsCall}
 use Rattle.nq_script.specs.Faults.{Answers}
 use Rattle.nq_words.specs.Reading.{cut as cut_at}
@@ -12,10 +12,6 @@ use Rattle.nq_script.specs.declared.faults.ScriptFault.TheVariants.{Bad, Memory}
 use Rattle.nq_script.proofs.Cuts.{cut-found}
 use Rattle.nq_script.proofs.FileLines.{no-line, one-line, text_of-append}
 use Rattle.nq_script.proofs.Fitting.{each-append}
-
--- nothing was stepped over yet
-pub begun : (text : List ℕ) → SoFar text text 1
-begun text = record { before = []; each = tt; split = refl; place = refl }
 
 -- one line more was stepped over
 pub stepped : (text rest after : List ℕ) (number : ℕ) → SoFar text rest number → (line : List ℕ) → rest ≡ line ++ 10 ∷ after → IsCall line
@@ -31,10 +27,6 @@ stepped text rest after number so line here call = record {
   place = let more = length-append so.before (line ∷ []) in let place = so.place in omega arith;
 }
 
--- what is left is shorter by a line
-pub shorter : (rest after line : List ℕ) → rest ≡ line ++ 10 ∷ after → length after < length rest
-shorter rest after line here = let whole = ap length here in let long = length-append line (10 ∷ after) in omega arith
-
 long-enough : (lines : List (List ℕ)) → length lines ≤ length (text_of lines)
 long-enough [] = omega arith
 long-enough (line ∷ lines) = let long = length-append line (10 ∷ text_of lines) in let others = long-enough lines in omega arith
@@ -46,29 +38,6 @@ small text rest number so =
     let whole = ap length so.split in
     let long = length-append (text_of so.before) rest in
     let place = so.place in omega arith
-
--- the rest has no call in front
-pub faulty : (text rest : List ℕ) (number : ℕ) → SoFar text rest number → (rest ≡ [] → ⊥)
-    → ((line after : List ℕ) → rest ≡ line ++ 10 ∷ after → IsCall line → ⊥) → FirstFault text number
-faulty text rest number so more stuck = record {
-  before = so.before;
-  rest = rest;
-  each = so.each;
-  split = so.split;
-  place = so.place;
-  more = more;
-  stuck = stuck;
-}
-
--- nothing is left
-pub done : (text rest : List ℕ) (number : ℕ) → SoFar text rest number → rest ≡ [] → (lines : List (List ℕ)) × AreCalls lines text
-done text rest number so none = (
-  so.before,
-  record {
-    each = so.each;
-    split = so.split ∙ ap (λ r. text_of so.before ++ r) none ∙ append-nil (text_of so.before);
-  },
-)
 
 -- a text without a line has none that spells a call
 pub no-call : (text : List ℕ) → cut_at 10 text ≡ None → (line after : List ℕ) → text ≡ line ++ 10 ∷ after → IsCall line → ⊥

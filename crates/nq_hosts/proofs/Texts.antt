@@ -24,20 +24,6 @@ pub record Progress (turns : ℕ) (text rest : List ℕ) (number : ℕ) (at now 
   pub few : number + length rest ≤ length text + 1
   pub answered : AnswersAll turns before at now
 
--- nothing was run yet
-pub begun : (turns : ℕ) (text : List ℕ) (at : Between) → ((lines : List (List ℕ)) × AreCalls lines text) → Progress turns text text 1 at at
-begun turns text at known = record {
-  lines = known.0;
-  are = known.1;
-  before = [];
-  later = known.0;
-  parts = refl;
-  left = known.1.split;
-  place = refl;
-  few = omega arith;
-  answered = refl;
-}
-
 -- the line that comes next: it spells a call, and the others come behind it
 pub record Next (later : List (List ℕ)) (line after : List ℕ) : Type 0 where
   pub others : List (List ℕ)

@@ -1,13 +1,12 @@
 -- Turns and calls of a client, case by case.
-use Rattle.std.proofs.Common.{◌≡◌, ◌∙◌, ℕ, Bool, true, false, [], ◌++◌, map, Some, None, Result, Ok, Err, refl, ap, subst}
-use Rattle.nq_base.specs.declared.Answer.{Answer}
+use Rattle.std.proofs.Common.{◌≡◌, ◌∙◌, ℕ, Bool, true, false, [], ◌++◌, map, Result, Ok, Err, refl, ap, subst}
 use Rattle.nq_base.specs.declared.Who.{Who}
 use Rattle.nq_client.specs.Finishing.{to_server}
 use Rattle.nq_base.specs.declared.ending.halt.Halt.{Halt}
 use Rattle.nq_link.specs.Link.{Letters}
 use Rattle.nq_model.specs.ClientStep.{starts}
 use Rattle.nq_hosts.specs.Links.{LinkTold}
-use Rattle.nq_hosts.specs.Calling.{FollowsUp, SendsOut, Waits, refusal_of}
+use Rattle.nq_hosts.specs.Calling.{SendsOut, Waits}
 use Rattle.nq_hosts.specs.Running.{Begins, term_wanted}
 use Rattle.nq_hosts.specs.UserTurning.{Between, EndsWithin, TakesTurns}
 use Rattle.nq_hosts.specs.declared.user.aims.Aim.{Aim}
@@ -31,22 +30,23 @@ pub later : (turns : ℕ) (answered : Bool) (result : Result Unit Halt) (at afte
 later turns true result at after so took = absurd (cc)
 later turns false result at after so took = took
 
--- a call that was refused
-pub refused : (letters : Letters) (answer : Answer) (why : Halt) (link : LinkTold) → Some why ≡ refusal_of answer
-    → FollowsUp (refusal_of answer) letters (Err why) link link
-refused letters answer why link so =
-    subst (λ o. FollowsUp o letters (Err why) link link) so (refl, refl)
+-- what a start puts into an outbox that was empty
+letters-of : (who : Who) (time : ℕ) (letters first : Letters) → first ≡ [] → letters ≡ first ++ map to_server (starts who term_wanted time).sends
+    → letters ≡ map to_server (starts who term_wanted time).sends
+letters-of who time letters first none sent = sent ∙ ap (λ (ds : Letters). ds ++ map to_server (starts who term_wanted time).sends) none
 
--- a call that was not
-pub sent : (letters : Letters) (answer : Answer) (result : Result Unit Halt) (link link' : LinkTold) → None ≡ refusal_of answer
-    → SendsOut letters result link link' → FollowsUp (refusal_of answer) letters result link link'
-sent letters answer result link link' so sends = subst (λ o. FollowsUp o letters result link link') so sends
+-- a client whose first datagrams were sent
+pub begun : (who : Who) (time : ℕ) (letters first : Letters) (link link' : LinkTold) → first ≡ []
+    → letters ≡ first ++ map to_server (starts who term_wanted time).sends → SendsOut letters (Ok tt) link link'
+    → SendsOut (map to_server (starts who term_wanted time).sends) (Ok tt) link link'
+begun who time letters first link link' none sent s =
+    subst (λ ds. SendsOut ds (Ok tt) link link') (letters-of who time letters first none sent) s
 
 -- a client whose first datagrams were not sent
 pub not_begun : (who : Who) (time : ℕ) (why : Halt) (letters first : Letters) (link link' : LinkTold) → first ≡ []
     → letters ≡ first ++ map to_server (starts who term_wanted time).sends → SendsOut letters (Err why) link link' → Begins who time (Err why) link link'
 not_begun who time Halt.Link letters first link link' none sent s =
-    subst (λ ds. SendsOut ds (Err Halt.Link) link link') (sent ∙ ap (λ (ds : Letters). ds ++ map to_server (starts who term_wanted time).sends) none) s
+    subst (λ ds. SendsOut ds (Err Halt.Link) link link') (letters-of who time letters first none sent) s
 not_begun who time Halt.Keep letters first link link' none sent s = absurd s
 not_begun who time Halt.Memory letters first link link' none sent s = absurd s
 not_begun who time Halt.Spent letters first link link' none sent s = absurd s

@@ -56,11 +56,6 @@ abbrev pub Takes : {K : Type 0} → (content : K → Option Kept) → (faults : 
 Takes content faults None goes at after = (goes ≡ Ok tt) × (after ≡ at)
 Takes content faults (Some given) goes at after = Steps content faults given goes at after
 
--- whether a stage lets the turn go on
-abbrev pub outcome : {X : Type 0} → Result X Halt → Result Unit Halt
-outcome (Ok found) = Ok tt
-outcome (Err why) = Err why
-
 -- ---- the stages
 
 -- the tick that is due when the clock shows this time: one where it is above the server's time, else none

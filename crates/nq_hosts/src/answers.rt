@@ -7,4 +7,5 @@ mod telling;
 pub use ending::Stop;
 pub use lines::answers_text;
 pub use nq_base::NoMemory;
+pub(crate) use telling::numbered;
 pub use telling::{tell_bytes, tell_end, tell_script};

@@ -5,5 +5,6 @@ mod serving;
 mod turning;
 mod watching;
 
+pub(crate) use serving::not_booted;
 pub use serving::{MOST_TURNS, Served, keep_serving};
 pub use watching::{Nobody, Watcher};

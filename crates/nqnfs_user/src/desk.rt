@@ -18,6 +18,22 @@ const TERM: u32 = 30;
 /// After how many ticks without an answer the leases are not given back.
 const FAREWELL: u64 = 10;
 
+/// A client that begins an incarnation now. It asks the server to attach it.
+fn begin(
+    alloc: Global,
+    who: Who,
+    link: &mut UdpLink<HostRuntime>,
+    clock: &mut StdClock<HostRuntime>,
+) -> Result<Client, Halt> {
+    let now = clock.now();
+    let mut out = Outbox::new(alloc, 0).unwrap();
+    let Ok(client) = Client::start(alloc, who.host, who.inc, TERM, now, &mut out) else {
+        return Err(Halt::Memory);
+    };
+    let _sent = send_all(link, &out);
+    Ok(client)
+}
+
 /// A client at work, with its link and its clock. A turn that the link stopped is borne: what was not sent is sent again later.
 /// It has to be closed in the end.
 pub(crate) struct UserDesk {
@@ -44,12 +60,7 @@ impl UserDesk {
     ) -> Result<UserDesk, Halt> {
         let mut clock = clock;
         let mut link = link;
-        let now = clock.now();
-        let mut out = Outbox::new(alloc, 0).unwrap();
-        let Ok(client) = Client::start(alloc, who.host, who.inc, TERM, now, &mut out) else {
-            return Err(Halt::Memory);
-        };
-        let _sent = send_all(&mut link, &out);
+        let client = begin(alloc, who, &mut link, &mut clock)?;
         let mut desk = UserDesk {
             client,
             patience,
@@ -72,12 +83,8 @@ impl UserDesk {
     ///
     /// `NoAnswer` where it was not answered in time: it goes on, and no other call can be made. `Memory` where memory was wanting, and
     /// `Spent` where the client takes in no more.
-    pub(crate) fn ask(&mut self, alloc: Global, call: &Call) -> Result<Answer, Halt> {
-        let mut out = Outbox::new(alloc, 0).unwrap();
-        let mut log = Journal::new(alloc).unwrap();
-        let answer = self.client.call(call, &mut out, &mut log);
-        let _sent = send_all(&mut self.link, &out);
-        match answer {
+    pub(crate) fn ask(&mut self, alloc: Global, call: Call) -> Result<Answer, Halt> {
+        match self.make(alloc, call) {
             Answer::Pending => match self.wait(alloc)? {
                 Some(answer) => Ok(answer),
                 None => Err(Halt::NoAnswer),
@@ -88,19 +95,20 @@ impl UserDesk {
         }
     }
 
+    /// Makes a call, and sends what it pushes.
+    fn make(&mut self, alloc: Global, call: Call) -> Answer {
+        let mut out = Outbox::new(alloc, 0).unwrap();
+        let mut log = Journal::new(alloc).unwrap();
+        let answer = self.client.call(&call, &mut out, &mut log);
+        let _sent = send_all(&mut self.link, &out);
+        answer
+    }
+
     /// Takes turns until the call under way is answered or, where there is none, the client is attached.
     fn wait(&mut self, alloc: Global) -> Result<Option<Answer>, Halt> {
         let began = self.client.time().0;
         for _turn in 0..MOST_TURNS {
-            let mut log = Journal::new(alloc).unwrap();
-            match client_turn(
-                alloc,
-                &mut self.client,
-                &mut self.link,
-                &mut self.clock,
-                &mut self.next,
-                &mut log,
-            ) {
+            match self.turn(alloc) {
                 ClientTurn::Quiet | ClientTurn::Link => {}
                 ClientTurn::Answered(answer) => return Ok(Some(answer)),
                 ClientTurn::Memory => return Err(Halt::Memory),
@@ -114,6 +122,19 @@ impl UserDesk {
             }
         }
         Err(Halt::NoAnswer)
+    }
+
+    /// Takes a turn, with a journal that is dropped behind it.
+    fn turn(&mut self, alloc: Global) -> ClientTurn {
+        let mut log = Journal::new(alloc).unwrap();
+        client_turn(
+            alloc,
+            &mut self.client,
+            &mut self.link,
+            &mut self.clock,
+            &mut self.next,
+            &mut log,
+        )
     }
 
     /// Gives all leases back: the host begins this incarnation, and the server ends the leases of those before as it attaches it. What

@@ -99,7 +99,7 @@ pub(crate) fn get_file(
     name: Name,
 ) -> Result<Vec<u8>, FileFault> {
     let file = look_up(alloc, desk, name)?;
-    let blocks = match desk.ask(alloc, &Call::Attr { file })? {
+    let blocks = match desk.ask(alloc, Call::Attr { file })? {
         Answer::Ok(Value::Blocks(blocks)) => blocks,
         answer => return Err(FileFault::Answered(answer)),
     };
@@ -115,10 +115,10 @@ pub(crate) fn get_file(
 
 /// The file of this name with so many blocks; it is made where there is none.
 fn make(alloc: Global, desk: &mut UserDesk, name: Name, blocks: u32) -> Result<FileId, FileFault> {
-    match desk.ask(alloc, &Call::Create { name, blocks })? {
+    match desk.ask(alloc, Call::Create { name, blocks })? {
         Answer::Exists => {
             let file = look_up(alloc, desk, name)?;
-            done(desk.ask(alloc, &Call::Resize { file, blocks })?)?;
+            carry_out(alloc, desk, Call::Resize { file, blocks })?;
             Ok(file)
         }
         answer => file_in(answer),
@@ -127,8 +127,7 @@ fn make(alloc: Global, desk: &mut UserDesk, name: Name, blocks: u32) -> Result<F
 
 /// The file of this name.
 fn look_up(alloc: Global, desk: &mut UserDesk, name: Name) -> Result<FileId, FileFault> {
-    let answer = desk.ask(alloc, &Call::Lookup { name })?;
-    file_in(answer)
+    file_in(desk.ask(alloc, Call::Lookup { name })?)
 }
 
 /// The file that an answer brings.
@@ -147,9 +146,9 @@ fn file_of(answer: &Answer) -> Option<FileId> {
     }
 }
 
-/// Whether a call did what it says.
-fn done(answer: Answer) -> Result<(), FileFault> {
-    match answer {
+/// Makes a call that brings nothing.
+fn carry_out(alloc: Global, desk: &mut UserDesk, call: Call) -> Result<(), FileFault> {
+    match desk.ask(alloc, call)? {
         Answer::Ok(_) => Ok(()),
         answer => Err(FileFault::Answered(answer)),
     }
@@ -164,13 +163,13 @@ fn put(
     body: Block,
 ) -> Result<(), FileFault> {
     let block = BlockNo(block);
-    done(desk.ask(alloc, &Call::WriteSync { file, block, body })?)
+    carry_out(alloc, desk, Call::WriteSync { file, block, body })
 }
 
 /// A block of a file, as the server has it.
 fn fetch(alloc: Global, desk: &mut UserDesk, file: FileId, block: u32) -> Result<Block, FileFault> {
     let block = BlockNo(block);
-    match desk.ask(alloc, &Call::Fetch { file, block })? {
+    match desk.ask(alloc, Call::Fetch { file, block })? {
         Answer::Ok(Value::Body(body)) => Ok(body),
         answer => Err(FileFault::Answered(answer)),
     }

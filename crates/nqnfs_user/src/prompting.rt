@@ -4,7 +4,7 @@ use crate::desk::UserDesk;
 use crate::files::{FileFault, get_file, put_file};
 use crate::starts::write_synced;
 use nq_base::ending::Halt;
-use nq_base::{Answer, Call, Name};
+use nq_base::{Answer, Call, FileId, Name};
 use nq_command::prompt::{Line, MOST_BYTES, answer_text, line_of};
 use std::fs::{self, File};
 use std::io::{BufRead, BufReader, ErrorKind};
@@ -49,10 +49,10 @@ fn serve_line(rt: &HostRuntime, desk: &mut UserDesk, line: Line<'_>) -> Result<(
             Ok(())
         }
         Line::Unknown => {
-            let _told = println!(rt; "no such line; help tells what there is");
+            say(rt, "no such line; help tells what there is");
             Ok(())
         }
-        Line::Call(call) => serve_call(rt, desk, &call),
+        Line::Call(call) => serve_call(rt, desk, call),
         Line::Put { path, name } => match str::from_utf8(path) {
             Ok(path) => serve_put(rt, desk, path, name),
             Err(_) => Ok(()),
@@ -65,15 +65,25 @@ fn serve_line(rt: &HostRuntime, desk: &mut UserDesk, line: Line<'_>) -> Result<(
 }
 
 /// Makes a call and tells its answer. What a write delays is stored before the next line, and where that does not go well it is told.
-fn serve_call(rt: &HostRuntime, desk: &mut UserDesk, call: &Call) -> Result<(), Halt> {
+fn serve_call(rt: &HostRuntime, desk: &mut UserDesk, call: Call) -> Result<(), Halt> {
+    let written = match &call {
+        Call::Write { file, .. } => Some(*file),
+        _ => None,
+    };
     let answer = desk.ask(rt.alloc(), call)?;
     tell_answer(rt, &answer);
-    if let (Call::Write { file, .. }, Answer::Ok(_)) = (call, &answer) {
-        let stored = desk.ask(rt.alloc(), &Call::Sync { file: *file })?;
-        if !matches!(stored, Answer::Ok(_)) {
-            let _told = print!(rt; "file {}: ", file.0);
-            tell_answer(rt, &stored);
-        }
+    match (written, &answer) {
+        (Some(file), Answer::Ok(_)) => sync(rt, desk, file),
+        _ => Ok(()),
+    }
+}
+
+/// Stores what is delayed of a file, and tells where that does not go well.
+fn sync(rt: &HostRuntime, desk: &mut UserDesk, file: FileId) -> Result<(), Halt> {
+    let stored = desk.ask(rt.alloc(), Call::Sync { file })?;
+    if !matches!(stored, Answer::Ok(_)) {
+        let _told = print!(rt; "file {}: ", file.0);
+        tell_answer(rt, &stored);
     }
     Ok(())
 }
@@ -87,9 +97,14 @@ fn ask(rt: &HostRuntime) {
 fn tell_answer(rt: &HostRuntime, answer: &Answer) {
     if let Ok(line) = answer_text(rt.alloc(), answer) {
         if let Ok(words) = str::from_utf8(&line) {
-            let _told = println!(rt; "{words}");
+            say(rt, words);
         }
     }
+}
+
+/// Tells words on a line of their own.
+fn say(rt: &HostRuntime, words: &str) {
+    let _told = println!(rt; "{words}");
 }
 
 /// Tells why a file was not put or got; a halt ends the run.
@@ -100,12 +115,11 @@ fn tell_fault(rt: &HostRuntime, fault: FileFault) -> Result<(), Halt> {
         FileFault::TooLong => {
             let _told = println!(rt; "the file has more than {MOST_BYTES} bytes");
         }
-        FileFault::NotWhole => {
-            let _told = println!(rt; "it was not put as a whole file, or not to its end");
-        }
-        FileFault::Differs => {
-            let _told = println!(rt; "what was read back differs: somebody else wrote meanwhile");
-        }
+        FileFault::NotWhole => say(rt, "it was not put as a whole file, or not to its end"),
+        FileFault::Differs => say(
+            rt,
+            "what was read back differs: somebody else wrote meanwhile",
+        ),
     }
     Ok(())
 }
@@ -135,11 +149,7 @@ fn serve_get(rt: &HostRuntime, desk: &mut UserDesk, name: Name, path: &str) -> R
         Ok(bytes) => bytes,
         Err(fault) => return tell_fault(rt, fault),
     };
-    let written = match File::create_new(rt, path) {
-        Ok(file) => write_synced(file, &bytes),
-        Err(error) => Err(error),
-    };
-    match written {
+    match write_synced(File::create_new(rt, path), &bytes) {
         Ok(()) => {
             let count = bytes.len();
             let _told = println!(rt; "ok, {count} bytes");

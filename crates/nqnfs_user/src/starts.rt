@@ -5,8 +5,7 @@ use nq_command::prompt::{FIRST_START, next_start, start_text};
 use std::fs::{self, File};
 use std::io::{self, ErrorKind, Write};
 
-/// The next incarnation of a host. It is written down before anything is sent, in a file of its own that then takes the other's place,
-/// so that a stop leaves the old number or the new one.
+/// The next incarnation of a host. It is written down before anything is sent.
 ///
 /// # Errors
 ///
@@ -14,15 +13,21 @@ use std::io::{self, ErrorKind, Write};
 pub(crate) fn next_inc(rt: &HostRuntime, host: Host) -> io::Result<Inc> {
     let host = host.0;
     let name = format!(in rt.alloc(); "nqnfs-host-{host}")?;
-    let fresh = format!(in rt.alloc(); "nqnfs-host-{host}.new")?;
     let next = start_after(rt, name.as_str())?;
-    let Ok(line) = start_text(rt.alloc(), next) else {
+    put_down(rt, name.as_str(), next)?;
+    Ok(Inc(next))
+}
+
+/// Writes a start down in the file of this name: in a file of its own that then takes the other's place, so that a stop leaves the old
+/// number or the new one.
+fn put_down(rt: &HostRuntime, name: &str, start: u32) -> io::Result<()> {
+    let fresh = format!(in rt.alloc(); "{name}.new")?;
+    let Ok(line) = start_text(rt.alloc(), start) else {
         return Err(io::Error::from(ErrorKind::OutOfMemory));
     };
-    write_synced(File::create(rt, fresh.as_str())?, &line)?;
-    fs::rename(rt, fresh.as_str(), name.as_str())?;
-    File::open(rt, ".")?.sync_all()?;
-    Ok(Inc(next))
+    write_synced(File::create(rt, fresh.as_str()), &line)?;
+    fs::rename(rt, fresh.as_str(), name)?;
+    File::open(rt, ".")?.sync_all()
 }
 
 /// The start behind the one that the file of this name tells; the first one where there is no file.
@@ -38,9 +43,9 @@ fn start_after(rt: &HostRuntime, name: &str) -> io::Result<u32> {
     }
 }
 
-/// Writes a file and syncs it.
-pub(crate) fn write_synced(file: File, bytes: &[u8]) -> io::Result<()> {
-    let mut file = file;
+/// Writes a file, if it could be opened, and syncs it.
+pub(crate) fn write_synced(file: io::Result<File>, bytes: &[u8]) -> io::Result<()> {
+    let mut file = file?;
     file.write_all(bytes)?;
     file.sync_all()
 }

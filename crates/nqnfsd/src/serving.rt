@@ -76,15 +76,20 @@ fn is_bound(rt: &HostRuntime, link: &mut UdpLink<HostRuntime>) -> bool {
     }
 }
 
+/// Says what is wrong with an image.
+fn complain(rt: &HostRuntime, image: &str, words: &str) {
+    let _told = eprintln!(rt; "nqnfsd: {image}: {words}");
+}
+
 /// Says why an image was not opened.
 fn tell_fault(
     rt: &HostRuntime,
     image: &str,
-    fault: OpenFault<FileDisk>,
+    fault: &OpenFault<FileDisk>,
 ) -> Result<Ending, AllocError> {
     match fault {
         OpenFault::NotAnImage(_) => {
-            let _told = eprintln!(rt; "nqnfsd: {image}: the file is no image");
+            complain(rt, image, "the file is no image");
             Ok(Ending::Spent)
         }
         OpenFault::BadField(_, place) => {
@@ -92,8 +97,10 @@ fn tell_fault(
             Ok(Ending::Spent)
         }
         OpenFault::Failed(_) => {
-            let _told = eprintln!(rt;
-                "nqnfsd: {image}: the file cannot be opened, read or written, or another server has it"
+            complain(
+                rt,
+                image,
+                "the file cannot be opened, read or written, or another server has it",
             );
             Ok(Ending::KeepFault)
         }
@@ -135,7 +142,7 @@ fn serve_disk(
         &mut teller,
     ) {
         Ok(left) => tell_end(rt, image, left.ended),
-        Err(fault) => tell_fault(rt, image, fault),
+        Err(fault) => tell_fault(rt, image, &fault),
     }
 }
 
@@ -157,11 +164,11 @@ fn tell_end(rt: &HostRuntime, image: &str, ended: Result<(), Halt>) -> Result<En
     match ended {
         Ok(()) => Ok(Ending::Done),
         Err(Halt::Keep) => {
-            let _told = eprintln!(rt; "nqnfsd: {image}: the file cannot be read or written");
+            complain(rt, image, "the file cannot be read or written");
             Ok(Ending::KeepFault)
         }
         Err(Halt::Spent) => {
-            let _told = eprintln!(rt; "nqnfsd: {image}: no number is left for a boot, at byte 8");
+            complain(rt, image, "no number is left for a boot, at byte 8");
             Ok(Ending::Spent)
         }
         Err(Halt::Link | Halt::NoAnswer) => Ok(Ending::LinkFault),

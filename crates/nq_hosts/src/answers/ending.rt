@@ -3,7 +3,7 @@
 use nq_base::ending::Halt;
 
 /// Where calls stopped: at the call of a line, or at attaching, which is line 0.
-#[derive(Clone, Copy, PartialEq, Eq)]
+#[derive(Clone, Copy)]
 pub struct Stop {
     /// Why.
     pub why: Halt,

@@ -1,7 +1,7 @@
 //! Serving until something stops it.
 
 ghost use Rattle.std.specs.Prelude.{◌≡◌, ◌<◌, ◌≤◌, ◌^◌, Err};
-ghost use Rattle.nq_hosts.specs.DaemonLeaving.{LeavesRunning, LeavesRuns, LeavesServing};
+ghost use Rattle.nq_hosts.specs.DaemonLeaving.{LeavesRuns, LeavesServing};
 ghost use Rattle.nq_hosts.specs.DaemonServing.{EndsBy};
 ghost use Rattle.nq_hosts.specs.Serving.{halt_of};
 ghost use Rattle.nq_hosts.specs.Clocks.{clock_told};
@@ -84,13 +84,21 @@ fn boot_and_run<K: Keeper, L: Link, C: Clock, W: Watcher<L>>(
     ensures follows { K.follows keeper result.keeper }
 {
     match Server::boot(alloc, keeper, longest, now) {
-        Ok(server) => run_server(alloc, server, turns, link, clock, watcher),
+        Ok(server) => {
+            let mut server = server;
+            let mut next = 0;
+            let ended = take_turns(alloc, &mut server, link, clock, &mut next, watcher, turns);
+            Served {
+                ended,
+                keeper: server.into_keeper(),
+            }
+        }
         Err(fault) => not_booted(fault),
     }
 }
 
 /// What serving comes to where no server booted: the keeper is left.
-fn not_booted<K>(fault: BootFault<K>) -> Served<K>
+pub(crate) fn not_booted<K>(fault: BootFault<K>) -> Served<K>
     ensures why { result.ended ≡ Err (halt_of fault) }
     ensures keeper { result.keeper ≡ keeper_in (Err fault) }
 {
@@ -107,29 +115,5 @@ fn not_booted<K>(fault: BootFault<K>) -> Served<K>
             ended: Err(Halt::Spent),
             keeper,
         },
-    }
-}
-
-/// Takes turns of a server that has just booted, at most so many.
-fn run_server<K: Keeper, L: Link, C: Clock, W: Watcher<L>>(
-    alloc: Global,
-    server: Server<K>,
-    turns: u64,
-    link: &mut L,
-    clock: &mut C,
-    watcher: &mut W,
-) -> Served<K>
-    ensures ran { LeavesRunning K.content K.faults K.follows K.leaves turns server result.ended result.keeper
-        (clock_told C.floor C.readings clock.old) (clock_told C.floor C.readings clock.new)
-        (link_told L.sent L.waiting L.faults L.receives link.old)
-        (link_told L.sent L.waiting L.faults L.receives link.new) }
-    ensures follows { K.follows server.keeper result.keeper }
-{
-    let mut server = server;
-    let mut next = 0;
-    let ended = take_turns(alloc, &mut server, link, clock, &mut next, watcher, turns);
-    Served {
-        ended,
-        keeper: server.into_keeper(),
     }
 }

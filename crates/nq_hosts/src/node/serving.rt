@@ -1,11 +1,11 @@
 //! Turns of a server.
 
-ghost use Rattle.std.specs.Prelude.{◌≡◌, ◌<◌, ◌≤◌, ◌^◌, ◌||◌, length, nat_lt, IfOk, Ok};
+ghost use Rattle.std.specs.Prelude.{◌≡◌, ◌<◌, ◌≤◌, ◌^◌, ◌||◌, length, nat_lt, Ok};
 ghost use Rattle.nq_base.specs.declared.Party.{Party};
 ghost use Rattle.nq_hosts.specs.Clocks.{clock_told};
 ghost use Rattle.nq_hosts.specs.Links.{Letter, link_told, most_bytes};
 ghost use Rattle.nq_hosts.specs.Leaving.{IsLeftAt, LeavesBehind, LeavesOnly, LeavesReceiving, LeavesStages, LeavesTurn};
-ghost use Rattle.nq_hosts.specs.ServerTurn.{Moment, SendsOut, Takes, given_by, goes_on, outcome, taken, tick_due, turn_of};
+ghost use Rattle.nq_hosts.specs.ServerTurn.{Moment, SendsOut, Takes, given_by, goes_on, taken, tick_due, turn_of};
 
 use crate::node::sending::send_all;
 use crate::node::turns::{Halt, MOST_BYTES, Turn};
@@ -80,10 +80,18 @@ fn serve<K: Keeper, L: Link, C: Clock>(
     ensures follows { K.follows server.old.keeper server.new.keeper }
 {
     let reading = clock.now();
+    let rises = is_below(server, reading);
     match tick_to(server, reading, out, log) {
-        Ok(ticked) => go_on(alloc, server, link, ticked, out, log),
+        Ok(()) => go_on(alloc, server, link, rises, out, log),
         Err(why) => Err(why),
     }
+}
+
+/// Whether a server's clock shows less than this time.
+fn is_below<K: Keeper>(server: &Server<K>, time: Ticks) -> bool
+    ensures { result ≡ nat_lt server.now.beside.time time }
+{
+    server.time() < time
 }
 
 /// What a turn does after its tick: it receives, takes in, and sends.
@@ -127,28 +135,27 @@ fn send_out<L: Link>(link: &mut L, out: &Outbox, moved: bool) -> Result<bool, Ha
     }
 }
 
-/// Gives a server the tick to this time, where the time is above its own; answers whether it did.
+/// Gives a server the tick to this time, where the time is above its own.
 fn tick_to<K: Keeper>(
     server: &mut Server<K>,
     reading: Ticks,
     out: &mut Outbox,
     log: &mut Journal,
-) -> Result<bool, Halt>
+) -> Result<(), Halt>
     requires { reading < 2 ^ 62 }
-    ensures ticked { Takes K.content K.faults (tick_due server.old.beside.time reading) (outcome result)
+    ensures ticked { Takes K.content K.faults (tick_due server.old.beside.time reading) result
         (record { server = server.old; out = out.old; log = log.old })
         (record { server = server.new; out = out.new; log = log.new }) }
-    ensures rose { IfOk result (λ ticked. ticked ≡ nat_lt server.old.beside.time reading) }
     ensures leaves { LeavesOnly K.content K.follows K.leaves server.old.keeper server.new.keeper
         (IsLeftAt K.content (tick_due server.old.beside.time reading)
         (record { server = server.old; out = out.old; log = log.old })) }
     ensures follows { K.follows server.old.keeper server.new.keeper }
 {
-    if reading <= server.time() {
-        return Ok(false);
+    if is_below(server, reading) {
+        made(server.tick(reading, out, log))
+    } else {
+        Ok(())
     }
-    made(server.tick(reading, out, log))?;
-    Ok(true)
 }
 
 /// Receives once, and gives a server the datagram that came; answers whether one came.

@@ -6,7 +6,7 @@ use nq_base::Answer;
 pub(crate) const MOST_BYTES: usize = 4401;
 
 /// What came of a turn of a server.
-#[derive(Clone, Copy, Debug, PartialEq, Eq)]
+#[derive(Clone, Copy)]
 pub enum Turn {
     /// The clock rose or a datagram came, and all was taken in and sent.
     Took,
@@ -38,7 +38,7 @@ pub enum ClientTurn {
 }
 
 /// Why a turn of a server stops.
-#[derive(Clone, Copy, PartialEq, Eq)]
+#[derive(Clone, Copy)]
 pub(crate) enum Halt {
     /// The link failed.
     Link,
@@ -51,7 +51,7 @@ pub(crate) enum Halt {
 }
 
 /// Why a turn of a client stops.
-#[derive(Clone, Copy, PartialEq, Eq)]
+#[derive(Clone, Copy)]
 pub(crate) enum Stop {
     /// The link failed.
     Link,

@@ -1,21 +1,22 @@
 //! Serving for a number of turns.
 
-ghost use Rattle.std.specs.Prelude.{◌≡◌, ◌<◌, ◌≤◌, ◌^◌, Err, IfOk, string_bytes};
-ghost use Rattle.nq_hosts.specs.ServerLeaving.{LeavesRunning, LeavesRuns, LeavesServing};
-ghost use Rattle.nq_hosts.specs.Serving.{EndsBy, PrintsTurns, Tells, TellsTurns, end_of, halt_of, turns_line};
+ghost use Rattle.std.specs.Prelude.{◌≡◌, ◌<◌, ◌≤◌, ◌^◌};
+ghost use Rattle.nq_hosts.specs.ServerLeaving.{LeavesRuns, LeavesServing};
+ghost use Rattle.nq_hosts.specs.Serving.{EndsBy, Tells, TellsTurns, end_of};
 ghost use Rattle.nq_hosts.specs.Clocks.{clock_told};
 ghost use Rattle.nq_hosts.specs.Links.{link_told};
-ghost use Rattle.nq_server.specs.Holding.{keeper_in};
 
-use crate::server::served::{Served, Turned};
+use crate::answers::numbered;
+use crate::daemon::{Served as Turned, not_booted};
+use crate::server::served::Served;
 use crate::server::turning::take_turns;
 use nq_base::ending::{Ending, Halt};
-use nq_base::{Journal, NoMemory, Ticks};
+use nq_base::{Journal, Ticks};
 use nq_clock::Clock;
 use nq_io::{Put, Sink};
 use nq_keeper::Keeper;
 use nq_link::Link;
-use nq_server::{BootFault, Server};
+use nq_server::Server;
 use std::alloc::Global;
 
 /// Boots a server over a keeper at the time of one reading of the clock, takes so many turns of it over a link, and prints
@@ -50,7 +51,7 @@ pub fn serve<K: Keeper, L: Link, C: Clock, S: Sink>(
 {
     keeper.pause();
     let now = clock.now();
-    let Ok(line) = turns_text(alloc, turns) else {
+    let Ok(line) = numbered(alloc, "turns ", turns as u64, "\n") else {
         return Served {
             end: Ending::Memory,
             keeper,
@@ -61,23 +62,15 @@ pub fn serve<K: Keeper, L: Link, C: Clock, S: Sink>(
     Served { end, keeper }
 }
 
-/// The line that tells how many turns were taken.
-#[tactic(auto, unfolding(crate::specs::Serving::turns_line))]
-fn turns_text(alloc: Global, turns: u32) -> Result<String, NoMemory>
-    ensures { IfOk result (λ line. string_bytes line ≡ turns_line turns) }
-{
-    match format!(in alloc; "turns {turns}\n") {
-        Ok(line) => Ok(line),
-        Err(_) => Err(NoMemory::Memory),
-    }
-}
-
 /// Tells how turns ended, with this line where all were taken.
 fn tell<S: Sink>(out: &mut S, ended: Result<(), Halt>, line: &[u8]) -> Ending
     ensures { TellsTurns ended line.now result (S.held out.old) (S.held out.new) (S.faults out.old) (S.faults out.new) }
 {
     match ended {
-        Ok(()) => put_turns(out, line),
+        Ok(()) => match out.put(line) {
+            Put::All => Ending::Done,
+            Put::Failed => Ending::WriteFault,
+        },
         Err(why) => end_of(why),
     }
 }
@@ -92,16 +85,6 @@ fn end_of(why: Halt) -> Ending
         Halt::Memory => Ending::Memory,
         Halt::Spent => Ending::Spent,
         Halt::NoAnswer => Ending::NoAnswer,
-    }
-}
-
-/// Prints the line that tells how many turns were taken.
-fn put_turns<S: Sink>(out: &mut S, line: &[u8]) -> Ending
-    ensures { PrintsTurns result line.now (S.held out.old) (S.held out.new) (S.faults out.old) (S.faults out.new) }
-{
-    match out.put(line) {
-        Put::All => Ending::Done,
-        Put::Failed => Ending::WriteFault,
     }
 }
 
@@ -125,52 +108,16 @@ fn boot_and_run<K: Keeper, L: Link, C: Clock>(
     ensures follows { K.follows keeper result.keeper }
 {
     match Server::boot(alloc, keeper, longest, now) {
-        Ok(server) => run_server(alloc, server, turns, link, clock),
+        Ok(server) => {
+            let mut server = server;
+            let mut log = Journal::new(alloc).unwrap();
+            let mut next = 0;
+            let ended = take_turns(alloc, &mut server, link, clock, &mut next, &mut log, turns);
+            Turned {
+                ended,
+                keeper: server.into_keeper(),
+            }
+        }
         Err(fault) => not_booted(fault),
-    }
-}
-
-/// What serving comes to where no server booted: the keeper is left.
-fn not_booted<K>(fault: BootFault<K>) -> Turned<K>
-    ensures why { result.ended ≡ Err (halt_of fault) }
-    ensures keeper { result.keeper ≡ keeper_in (Err fault) }
-{
-    match fault {
-        BootFault::Failed(keeper) => Turned {
-            ended: Err(Halt::Keep),
-            keeper,
-        },
-        BootFault::Memory(keeper) => Turned {
-            ended: Err(Halt::Memory),
-            keeper,
-        },
-        BootFault::Spent(keeper) => Turned {
-            ended: Err(Halt::Spent),
-            keeper,
-        },
-    }
-}
-
-/// Takes so many turns of a server that has just booted.
-fn run_server<K: Keeper, L: Link, C: Clock>(
-    alloc: Global,
-    server: Server<K>,
-    turns: u32,
-    link: &mut L,
-    clock: &mut C,
-) -> Turned<K>
-    ensures ran { LeavesRunning K.content K.faults K.follows K.leaves turns server result.ended result.keeper
-        (clock_told C.floor C.readings clock.old) (clock_told C.floor C.readings clock.new)
-        (link_told L.sent L.waiting L.faults L.receives link.old)
-        (link_told L.sent L.waiting L.faults L.receives link.new) }
-    ensures follows { K.follows server.keeper result.keeper }
-{
-    let mut server = server;
-    let mut log = Journal::new(alloc).unwrap();
-    let mut next = 0;
-    let ended = take_turns(alloc, &mut server, link, clock, &mut next, &mut log, turns);
-    Turned {
-        ended,
-        keeper: server.into_keeper(),
     }
 }

@@ -1,7 +1,7 @@
 //! What kind of message a datagram is, as far as its first words tell.
 
 /// What came to a server.
-#[derive(Clone, Copy, Debug, PartialEq, Eq)]
+#[derive(Clone, Copy)]
 pub(crate) enum Heard {
     /// A call of this procedure of the program.
     Call(u32),
@@ -10,7 +10,7 @@ pub(crate) enum Heard {
 }
 
 /// What a server sent.
-#[derive(Clone, Copy, Debug, PartialEq, Eq)]
+#[derive(Clone, Copy)]
 pub(crate) enum Said {
     /// A notice.
     Notice,

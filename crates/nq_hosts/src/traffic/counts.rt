@@ -9,7 +9,7 @@ pub const PROCEDURES: [&str; 12] = [
 ];
 
 /// How many datagrams of each kind came to a server and went from it. Each count stands still at `u64::MAX`.
-#[derive(Clone, Copy, Debug, PartialEq, Eq)]
+#[derive(Clone, Copy)]
 pub struct Counts {
     /// Calls, by their procedures.
     pub calls: [u64; 12],

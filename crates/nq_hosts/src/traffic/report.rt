@@ -26,7 +26,7 @@ pub struct Report<S, G> {
 }
 
 /// What the journals of the turns told.
-#[derive(Clone, Copy, Drop)]
+#[derive(Drop)]
 struct Told {
     grants: u64,
     fences: u64,

@@ -1,7 +1,7 @@
 //! What turns are taken for.
 
 /// What turns are taken for.
-#[derive(Clone, Copy, PartialEq, Eq)]
+#[derive(Clone, Copy)]
 pub(crate) enum Aim {
     /// That the server attaches the client.
     Attached,

@@ -66,23 +66,15 @@ pub(crate) fn run<L: Link, C: Clock>(
                 next: 0,
             };
             let ended = attend(alloc, &mut session, link, clock, text, plan.turns);
-            stopped(session, ended)
+            let Session {
+                client,
+                log,
+                next: _,
+            } = session;
+            client.stop();
+            Ran { ended, log }
         }
     }
-}
-
-/// What came of a run of calls that ended so. The client is stopped.
-fn stopped(session: Session, ended: Result<(), Stop>) -> Ran
-    ensures ended { result.ended ≡ ended }
-    ensures log { result.log ≡ session.log }
-{
-    let Session {
-        client,
-        log,
-        next: _,
-    } = session;
-    client.stop();
-    Ran { ended, log }
 }
 
 /// A client that begins an incarnation. It asks the server to attach it.

@@ -5,7 +5,7 @@ ghost use Rattle.nq_hosts.specs.Lines.{AreCalls, Tells};
 ghost use Rattle.nq_base.specs.declared.ending.ending.Ending.{Ending};
 ghost use Rattle.nq_hosts.specs.Clocks.{clock_told};
 ghost use Rattle.nq_hosts.specs.Links.{link_told};
-ghost use Rattle.nq_hosts.specs.Using.{EndsBy, RunsAndTells, Uses, UsesText};
+ghost use Rattle.nq_hosts.specs.Using.{EndsBy, Uses, UsesText};
 
 use crate::answers::{tell_bytes, tell_end, tell_script};
 use crate::calls::find_fault;
@@ -56,7 +56,7 @@ pub fn client<S: Source, K: Sink, L: Link, C: Clock>(
     }
 }
 
-/// Runs the calls of a text that was read, or tells which of its lines spells none.
+/// Runs the calls of a text that was read and tells what came of them, or tells which of its lines spells none.
 fn use_text<K: Sink, L: Link, C: Clock>(
     alloc: Global,
     plan: Plan,
@@ -74,27 +74,9 @@ fn use_text<K: Sink, L: Link, C: Clock>(
 {
     match find_fault(alloc, text) {
         Some(number) => tell_script(alloc, number, out),
-        None => run_and_tell(alloc, plan, text, out, link, clock),
+        None => {
+            let Ran { ended, log } = run(alloc, plan, text, link, clock);
+            tell_end(alloc, ended, &log, out)
+        }
     }
-}
-
-/// Runs the calls of a text, and tells what came of them.
-fn run_and_tell<K: Sink, L: Link, C: Clock>(
-    alloc: Global,
-    plan: Plan,
-    text: &[u8],
-    out: &mut K,
-    link: &mut L,
-    clock: &mut C,
-) -> Ending
-    requires short { length text.now < 2 ^ 31 }
-    requires calls { (lines : List (List ℕ)) × AreCalls lines text.now }
-    ensures { RunsAndTells plan.turns plan.who text.now result
-        (K.held out.old) (K.held out.new) (K.faults out.old) (K.faults out.new)
-        (clock_told C.floor C.readings clock.old) (clock_told C.floor C.readings clock.new)
-        (link_told L.sent L.waiting L.faults L.receives link.old)
-        (link_told L.sent L.waiting L.faults L.receives link.new) }
-{
-    let Ran { ended, log } = run(alloc, plan, text, link, clock);
-    tell_end(alloc, ended, &log, out)
 }

@@ -1,6 +1,6 @@
 use Rattle.std.proofs.Common.{◌∙◌, inl, inr, refl, subst, arith}
 use Rattle.nq_hosts.specs.ServerLeaving.{LeavesServing}
-use Rattle.nq_hosts.specs.Serving.{TellsTurns}
+use Rattle.nq_hosts.specs.Serving.{TellsTurns, turns_line}
 use Rattle.nq_hosts.proofs.Causes.{ends_by, halts_by, tells}
 use Rattle.nq_model.specs.Profile.{most_taken_by_server}
 use Rattle.nq_hosts.specs.Clocks.{clock_told}
@@ -25,6 +25,7 @@ returns-in_default-clause-serves g c =
     )
 
 pub returns-clause-serves : goal.returns-clause-serves
+unfolding turns_line
 returns-clause-serves g c =
     let clock_of = clock_told g.C.Clock.floor g.C.Clock.readings in
     let link_of = link_told g.L.Link.sent g.L.Link.waiting g.L.Link.faults g.L.Link.receives in

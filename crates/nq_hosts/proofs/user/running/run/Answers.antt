@@ -1,7 +1,6 @@
-use Rattle.std.proofs.Common.{◌≡◌, [], IfOk, Ok, Err, refl, sym, subst}
+use Rattle.std.proofs.Common.{◌≡◌, [], IfOk, Ok, Err, refl, subst}
 use Rattle.nq_hosts.specs.Clocks.{clock_told}
 use Rattle.nq_hosts.specs.Links.{link_told}
-use Rattle.nq_hosts.specs.Running.{Attends}
 use Rattle.nq_hosts.specs.UserTurning.{Between, between}
 use Rattle.nq_hosts.proofs.user.running.run.Goals as goal
 
@@ -26,8 +25,6 @@ pub returns-in-Ok : goal.returns-in-Ok
 returns-in-Ok g c =
     let clock_of = clock_told g.C.Clock.floor g.C.Clock.readings in
     let link_of = link_told g.L.Link.sent g.L.Link.waiting g.L.Link.faults g.L.Link.receives in
-    let first : Between =
-    record { client = c.in-Ok.client; log = c.unwrap-log.result; next = 0; clock = clock_of c.now-now.new.self; link = link_of c.begin.new.link } in
     let last : Between = between c.attend-ended.new.session (clock_of c.attend-ended.new.clock) (link_of c.attend-ended.new.link) in (
       c.unwrap-log.result,
       subst (λ r. IfOk r (λ j. j.entries ≡ [])) c.unwrap-log.ensures c.new.ensures.empty,
@@ -40,8 +37,8 @@ returns-in-Ok g c =
         begins = c.in-Ok.ensures;
         rest = record {
           last = last;
-          attends = subst (λ r. Attends c.args.plan.turns c.args.text.now r first last) (sym c.stopped.ensures.ended) c.attend-ended.ensures;
-          logs = c.stopped.ensures.log;
+          attends = c.attend-ended.ensures;
+          logs = refl;
           clocks = refl;
           links = refl;
         };
