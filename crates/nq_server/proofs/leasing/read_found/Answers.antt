@@ -24,8 +24,7 @@ returns-in-Ok c =
     let table = c.args.state.now.table in
     subst
     (λ step. Does step (Ok Done) (beside_of c.args.state.now) (beside_of c.serve.new.state) c.args.out.now c.serve.new.out c.args.log.now c.serve.new.log)
-    (read-given (server_of (beside_of c.args.state.now) kept) c.args.xid (next_of c.args.out.now) c.args.found.call q (file_asked q) c.args.found.block c.args.found.body (sym c.in-None.ensures))
-    (
+    (read-given (server_of (beside_of c.args.state.now) kept) c.args.xid (next_of c.args.out.now) c.args.found.call q (file_asked q) c.args.found.block c.args.found.body (sym c.in-None.ensures)) (
       refl,
       after-room (serves (server_of (beside_of c.args.state.now) kept) q.who c.args.xid (next_of c.args.out.now) c.args.found.call (file_asked q) c.args.found.block c.args.found.body (ask table q).table (granted_in (ask table q).asked)) (beside_of c.serve.new.state) c.args.out.now c.make_room.new.out c.serve.new.out c.args.log.now c.make_room.new.log c.serve.new.log c.in-Ok.ensures.room.nothing
           (subst
