@@ -1,12 +1,11 @@
 //! Changes of rows together with the times at which they end. None takes memory.
 
-ghost use Rattle.std.specs.Prelude.{◌≡◌, ◌<◌, ◌≤◌, ◌↔◌, length, slice_set, insert, vec_len, vec_capacity, Some, None, OnOk, OnErr, IsErr};
-ghost use Rattle.std.specs.List.{prefix_len};
+ghost use Rattle.std.specs.Prelude.{◌≡◌, ◌<◌, ◌≤◌, ◌↔◌, length, slice_set, insert, vec_len, vec_capacity, None, OnOk, OnErr, IsErr};
 ghost use Rattle.nq_model.specs.Ask.{marked};
 ghost use Rattle.nq_model.specs.Profile.{most_rows};
 ghost use Rattle.nq_model.specs.Table.{find_row, put_row, drop_row, drop_host, drop_rows_of};
 ghost use Rattle.nq_model.specs.ServerStep.{end_reading, is_over as is_row_over};
-ghost use Rattle.nq_lease.specs.Rows.{AreInOrder, is_before};
+ghost use Rattle.nq_lease.specs.Rows.{AreInOrder};
 ghost use Rattle.nq_lease.specs.Kept.{IsKept};
 
 use crate::ends::End;
@@ -14,7 +13,7 @@ use crate::{ends, rows};
 use nq_base::{Access, FileId, Host, Mode, Row, Ticks};
 
 /// The most rows.
-pub const MOST_ROWS: usize = 2048;
+pub(crate) const MOST_ROWS: usize = 2048;
 
 /// The table has the most rows that it can have.
 #[derive(Clone, Copy)]
@@ -39,32 +38,6 @@ fn add(rows: &mut Vec<Row>, place: usize, row: &Row)
     rows.insert(place, *row).unwrap();
 }
 
-/// Puts a row in place of the old one of its file and host.
-fn replace(rows: &mut Vec<Row>, ends: &mut Vec<End>, place: usize, old: &Row, row: &Row)
-    requires kept { IsKept rows.old.items (vec_capacity rows.old) ends.old.items (vec_capacity ends.old) }
-    requires place { place ≡ prefix_len (is_before row.now.file row.now.who.host) rows.old.items }
-    requires there { find_row row.now.file row.now.who.host rows.old.items ≡ Some old.now }
-    ensures rows { rows.new.items ≡ put_row row.now rows.old.items }
-    ensures kept { IsKept rows.new.items (vec_capacity rows.new) ends.new.items (vec_capacity ends.new) }
-{
-    ends::take(ends, ends::end_of(old));
-    ends::add(ends, ends::end_of(row));
-    write(rows, place, row);
-}
-
-/// Puts a row in whose file and host have none.
-fn put_new(rows: &mut Vec<Row>, ends: &mut Vec<End>, place: usize, row: &Row)
-    requires kept { IsKept rows.old.items (vec_capacity rows.old) ends.old.items (vec_capacity ends.old) }
-    requires place { place ≡ prefix_len (is_before row.now.file row.now.who.host) rows.old.items }
-    requires none { find_row row.now.file row.now.who.host rows.old.items ≡ None }
-    requires room { length rows.old.items < most_rows }
-    ensures rows { rows.new.items ≡ put_row row.now rows.old.items }
-    ensures kept { IsKept rows.new.items (vec_capacity rows.new) ends.new.items (vec_capacity ends.new) }
-{
-    ends::add(ends, ends::end_of(row));
-    add(rows, place, row);
-}
-
 /// Puts a row in, in place of the one of its file and host.
 pub(crate) fn put(rows: &mut Vec<Row>, ends: &mut Vec<End>, row: &Row) -> Result<(), Full>
     requires { IsKept rows.old.items (vec_capacity rows.old) ends.old.items (vec_capacity ends.old) }
@@ -76,36 +49,20 @@ pub(crate) fn put(rows: &mut Vec<Row>, ends: &mut Vec<End>, row: &Row) -> Result
     let place = rows::place_of(rows.as_slice(), row.file, row.who.host);
     match rows::at_place(rows.as_slice(), place, row.file, row.who.host) {
         Some(old) => {
-            replace(rows, ends, place, &old, row);
+            ends::take(ends, ends::end_of(&old));
+            ends::add(ends, ends::end_of(row));
+            write(rows, place, row);
             Ok(())
         }
         None => {
             if rows.len() >= MOST_ROWS {
                 return Err(Full);
             }
-            put_new(rows, ends, place, row);
+            ends::add(ends, ends::end_of(row));
+            add(rows, place, row);
             Ok(())
         }
     }
-}
-
-/// Takes the row of a file and a host out, which stands at this place.
-fn take_at(
-    rows: &mut Vec<Row>,
-    ends: &mut Vec<End>,
-    place: usize,
-    old: &Row,
-    file: FileId,
-    host: Host,
-)
-    requires kept { IsKept rows.old.items (vec_capacity rows.old) ends.old.items (vec_capacity ends.old) }
-    requires place { place ≡ prefix_len (is_before file host) rows.old.items }
-    requires there { find_row file host rows.old.items ≡ Some old.now }
-    ensures rows { rows.new.items ≡ drop_row file host rows.old.items }
-    ensures kept { IsKept rows.new.items (vec_capacity rows.new) ends.new.items (vec_capacity ends.new) }
-{
-    ends::take(ends, ends::end_of(old));
-    rows.remove(place);
 }
 
 /// Takes the row of a file and a host out, if there is one.
@@ -116,7 +73,10 @@ pub(crate) fn take(rows: &mut Vec<Row>, ends: &mut Vec<End>, file: FileId, host:
 {
     let place = rows::place_of(rows.as_slice(), file, host);
     match rows::at_place(rows.as_slice(), place, file, host) {
-        Some(old) => take_at(rows, ends, place, &old, file, host),
+        Some(old) => {
+            ends::take(ends, ends::end_of(&old));
+            rows.remove(place);
+        }
         None => {}
     }
 }

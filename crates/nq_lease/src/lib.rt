@@ -14,6 +14,6 @@ pub mod grant;
 mod rows;
 mod table;
 
-pub use changes::{Full, MOST_ROWS};
+pub use changes::Full;
 pub use rows::is_in_the_way;
 pub use table::Table;

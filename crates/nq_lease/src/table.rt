@@ -118,7 +118,7 @@ impl Table {
     }
 
     /// The tag that is drawn next.
-    pub fn peek_tag(&self) -> Tag
+    pub(crate) fn peek_tag(&self) -> Tag
         requires { self.now.drawn < 2 ^ 63 }
         ensures { result ≡ next_tag self.now }
     {
@@ -129,7 +129,7 @@ impl Table {
     }
 
     /// Draws a tag: the numbers are 1, 2, 3 and so on.
-    pub fn next_tag(&mut self) -> Tag
+    pub(crate) fn next_tag(&mut self) -> Tag
         requires { self.old.drawn < 2 ^ 63 }
         ensures tag { result ≡ next_tag self.old }
         ensures drawn { self.new ≡ after_draw self.old self.old.rows }

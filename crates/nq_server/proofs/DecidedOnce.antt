@@ -19,7 +19,6 @@ use Rattle.nq_model.specs.Server.{Server, ServerStep, drops, says}
 use Rattle.nq_server.specs.Deciding.{Concludes}
 use Rattle.nq_server.specs.State.{Beside, server_of}
 use Rattle.nq_server.specs.Stepping.{SaysNothing, Takes}
-use Rattle.nq_server.specs.Ticking.{halt_of}
 use Rattle.nq_server.specs.declared.received.Taken.{Taken}
 use Rattle.nq_wire.specs.Outbox.{Datagrams}
 
@@ -72,7 +71,7 @@ module _ (held : Beside) (who : Who) (xid : ℕ) (r : Request) where
   )
 
 -- nothing was decided, and the datagrams were taken back
-pub takes-given-up : (fault : KeepFault) (step : Kept → ServerStep) (decision : Kept → Decided) (change : Kept → Option Change) (told between tells : Option Kept) (before middle count : ℕ) (held : Beside) (out out' : Datagrams) (log log' : EntryList) → between ≡ told → middle ≡ before → Gives decision change (Err fault) between tells middle count → SaysNothing out out' log log' → Takes step (Err (halt_of fault)) told tells before count held held out out' log log'
+pub takes-given-up : (fault : KeepFault) (step : Kept → ServerStep) (decision : Kept → Decided) (change : Kept → Option Change) (told between tells : Option Kept) (before middle count : ℕ) (held : Beside) (out out' : Datagrams) (log log' : EntryList) → between ≡ told → middle ≡ before → Gives decision change (Err fault) between tells middle count → SaysNothing out out' log log' → Takes step (Err fault) told tells before count held held out out' log log'
 takes-given-up keep.Failed step decision change told between tells before middle count held out out' log log' stays same gives nothing =
     (subst (λ o. StaysOrEnds o tells) stays gives.0, subst (λ n. Rose n count) same gives.1, refl, nothing)
 takes-given-up keep.Memory step decision change told between tells before middle count held out out' log log' stays same gives nothing =

@@ -1,5 +1,5 @@
 -- Requests that are decided once: what is done beside the kept state, and what is sent.
-use Rattle.std.proofs.Common.{◌≡◌, ◌≤◌, ◌+◌, Result, Ok, Err, length, map, take, arith, ◌==◌, ℕ, true, List, [], ◌∷◌, Option, Some, None, not, refl, sym, ap, subst, ◌∙◌}
+use Rattle.std.proofs.Common.{◌≡◌, ◌≤◌, ◌+◌, Result, Ok, Err, length, map, take, arith, ◌==◌, ℕ, true, List, [], ◌∷◌, Option, Some, None, not, refl, sym, ap, subst, ◌∙◌, append-nil}
 use Rattle.std.specs.Result.{is_ok, is_err}
 use Rattle.std.proofs.lemmas.List.{length-append, take_at}
 use Rattle.nq_datagrams.specs.Sent.{sent}
@@ -21,7 +21,7 @@ use Rattle.nq_server.proofs.TickedRows.{some-run}
 use Rattle.nq_server.specs.declared.state.Phase.{Phase as Held}
 use Rattle.nq_server.specs.declared.state.Phase.TheVariants.{Recovering}
 use Rattle.nq_base.specs.Entries.{EntryList}
-use Rattle.nq_server.specs.State.{Beside}
+use Rattle.nq_server.specs.State.{Beside, beside}
 use Rattle.nq_server.specs.Stepping.{Enters, SaysNothing, Sends}
 use Rattle.nq_server.specs.Deciding.{DoesAside, file_to_tell, length_in, heard_rows, is_later, warnings, warnings_if, rows_serving, entries_serving, recovery_after, entries_recovering}
 use Rattle.nq_server.specs.Sound.{Runs, RowsRun, IsOfBoot}
@@ -133,6 +133,17 @@ does-recovering s phase recovery new last who r held after log log' recovers own
     (λ a. DoesAside a held after log log')
     (sym (ap (λ p. done_aside s p who r) recovers ∙ done-recovering s recovery.until recovery.heard last recovery who r refl refl (own ∙ recovers) empty))
     (record { table = table; phase = becomes ∙ ap (λ x. recovering x.until x.heard last) is; notice = notice; longest = longest; time = time; entries = entries })
+
+-- where a request was refused nothing is done
+pub does-nothing : (s : Server) (who : Who) (r : Request) (verdict : Verdict) (log : EntryList) → (verdict ≡ Done → ⊥) → (verdict ≡ TryLater → ⊥) → DoesAside (aside s who r verdict) (beside s) (beside s) log log
+unfolding nothing_aside
+does-nothing s who r Done log not-done not-later = absurd (not-done refl)
+does-nothing s who r TryLater log not-done not-later = absurd (not-later refl)
+does-nothing s who r Fenced log not-done not-later = record { table = refl; phase = refl; notice = refl; longest = refl; time = refl; entries = sym (append-nil _) }
+does-nothing s who r Exist log not-done not-later = record { table = refl; phase = refl; notice = refl; longest = refl; time = refl; entries = sym (append-nil _) }
+does-nothing s who r NoSpace log not-done not-later = record { table = refl; phase = refl; notice = refl; longest = refl; time = refl; entries = sym (append-nil _) }
+does-nothing s who r Invalid log not-done not-later = record { table = refl; phase = refl; notice = refl; longest = refl; time = refl; entries = sym (append-nil _) }
+does-nothing s who r Stale log not-done not-later = record { table = refl; phase = refl; notice = refl; longest = refl; time = refl; entries = sym (append-nil _) }
 
 -- a recovery keeps the longest term of its boot
 pub recovery-keeps : (r : Request) (now : ℕ) (recovery : Recovery) → (recovery_after r now recovery).longest ≡ recovery.longest

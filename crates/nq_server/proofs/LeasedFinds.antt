@@ -22,21 +22,25 @@ use Rattle.nq_server.proofs.LeasedSteps.{read-alike}
 use Rattle.nq_server.specs.Leasing.{asks, file_asked}
 use Rattle.nq_server.specs.State.{Beside, server_of}
 
--- ---- what is kept
+-- ---- what a question leaves
 
-pub lease-keeps : (s : Server) (who : Who) (xid file : ℕ) (access : Access) (table : Table) (asked : Asked) → (lease_asked s who xid file access table asked).server.kept ≡ s.kept
+-- a server that was asked has another table, and may have another number of the next notice
+abbrev pub with_asked : Server → Table → (notice : ℕ) → Server
+with_asked s table notice = record s { table = table; notice = notice }
+
+pub lease-leaves : (s : Server) (who : Who) (xid file : ℕ) (access : Access) (table : Table) (asked : Asked) → (lease_asked s who xid file access table asked).server ≡ with_asked s table (lease_asked s who xid file access table asked).server.notice
 unfolding tells_later leases after_notices with_table
-lease-keeps s who xid file access table (Asked.TryLater clash) = refl
-lease-keeps s who xid file access table (Asked.Granted grant) = refl
-lease-keeps s who xid file access table Asked.Free = refl
-lease-keeps s who xid file access table Asked.NoLease = refl
+lease-leaves s who xid file access table (Asked.TryLater clash) = refl
+lease-leaves s who xid file access table (Asked.Granted grant) = refl
+lease-leaves s who xid file access table Asked.Free = refl
+lease-leaves s who xid file access table Asked.NoLease = refl
 
-pub read-keeps : (s : Server) (who : Who) (xid next call : ℕ) (file : File) (block : ℕ) (body : List ℕ) (access : Access) (table : Table) (asked : Asked) → (read_asked s who xid next call file block body access table asked).server.kept ≡ s.kept
+pub read-leaves : (s : Server) (who : Who) (xid next call : ℕ) (file : File) (block : ℕ) (body : List ℕ) (access : Access) (table : Table) (asked : Asked) → (read_asked s who xid next call file block body access table asked).server ≡ with_asked s table (read_asked s who xid next call file block body access table asked).server.notice
 unfolding tells_later serves after_notices with_table
-read-keeps s who xid next call file block body access table (Asked.TryLater clash) = refl
-read-keeps s who xid next call file block body access table (Asked.Granted grant) = refl
-read-keeps s who xid next call file block body access table Asked.Free = refl
-read-keeps s who xid next call file block body access table Asked.NoLease = refl
+read-leaves s who xid next call file block body access table (Asked.TryLater clash) = refl
+read-leaves s who xid next call file block body access table (Asked.Granted grant) = refl
+read-leaves s who xid next call file block body access table Asked.Free = refl
+read-leaves s who xid next call file block body access table Asked.NoLease = refl
 
 -- ---- GETLEASE
 

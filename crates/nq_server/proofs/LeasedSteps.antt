@@ -20,8 +20,8 @@ use Rattle.nq_model.specs.Profile.{most_rows}
 use Rattle.nq_model.specs.Server.{Server, ServerStep, serving}
 use Rattle.nq_model.specs.ServerStep.{noticed, lease_asked, leases, read_asked, serves, tells_later}
 use Rattle.nq_model.specs.Table.{Table, caches, find_row}
-use Rattle.nq_server.specs.declared.received.Halt.{Halt}
-use Rattle.nq_server.specs.declared.received.Halt.TheVariants.{Fault, Memory}
+use Rattle.nq_keeper.specs.declared.KeepFault.{KeepFault}
+use Rattle.nq_keeper.specs.declared.KeepFault.TheVariants.{Failed, Memory}
 use Rattle.nq_server.specs.declared.received.Taken.{Taken}
 use Rattle.nq_server.specs.declared.state.Phase.{Phase as Held}
 use Rattle.nq_server.specs.declared.state.Phase.TheVariants.{Serving, Recovering}
@@ -159,7 +159,7 @@ pub some-kept : Kept
 some-kept = record { files = []; hosts = []; boot = 0; opened = 0; longest = 0; next = 0 }
 
 -- a step that keeps what is kept is made, after that was read
-pub takes-does : (step base : Kept → ServerStep) (result : Result Taken Halt) (told tells : Option Kept) (before count : ℕ) (held after : Beside) (out out' : Datagrams) (log log' : EntryList) → tells ≡ told → count ≡ before → ((kept : Kept) → Does (base kept) result held after out out' log log') → ((kept : Kept) → told ≡ Some kept → step kept ≡ base kept) → ((kept : Kept) → (base kept).server.kept ≡ kept) → Takes step result told tells before count held after out out' log log'
+pub takes-does : (step base : Kept → ServerStep) (result : Result Taken KeepFault) (told tells : Option Kept) (before count : ℕ) (held after : Beside) (out out' : Datagrams) (log log' : EntryList) → tells ≡ told → count ≡ before → ((kept : Kept) → Does (base kept) result held after out out' log log') → ((kept : Kept) → told ≡ Some kept → step kept ≡ base kept) → ((kept : Kept) → (base kept).server.kept ≡ kept) → Takes step result told tells before count held after out out' log log'
 takes-does step base (Ok how) told tells before count held after out out' log log' stays same does is keeps = (
   λ kept e.
       subst
@@ -170,7 +170,7 @@ takes-does step base (Ok how) told tells before count held after out out' log lo
 )
 takes-does step base (Err Memory) told tells before count held after out out' log log' stays same does is keeps =
     (stays, same, (does some-kept).0, (does some-kept).1)
-takes-does step base (Err Fault) told tells before count held after out out' log log' stays same does is keeps =
+takes-does step base (Err Failed) told tells before count held after out out' log log' stays same does is keeps =
     absurd (does some-kept)
 
 -- a boot that serves may have any rows

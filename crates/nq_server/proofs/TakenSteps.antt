@@ -7,8 +7,8 @@ use Rattle.nq_base.specs.Entries.{EntryList}
 use Rattle.nq_keeper.specs.Keeping.{StaysOrEnds}
 use Rattle.nq_model.specs.Kept.{Kept}
 use Rattle.nq_model.specs.Server.{ServerStep, drops}
-use Rattle.nq_server.specs.declared.received.Halt.{Halt}
-use Rattle.nq_server.specs.declared.received.Halt.TheVariants.{Fault, Memory}
+use Rattle.nq_keeper.specs.declared.KeepFault.{KeepFault}
+use Rattle.nq_keeper.specs.declared.KeepFault.TheVariants.{Failed, Memory}
 use Rattle.nq_server.specs.declared.received.Reason.{Reason}
 use Rattle.nq_server.specs.declared.received.Taken.{Taken}
 use Rattle.nq_server.specs.declared.received.Taken.TheVariants.{Dropped}
@@ -17,7 +17,7 @@ use Rattle.nq_server.specs.Stepping.{Takes, Makes, cause_of, outcome_of}
 use Rattle.nq_wire.specs.Outbox.{Datagrams}
 
 -- the same step, told in other words, after what is kept was read
-pub takes-after : (step base : Kept → ServerStep) (result : Result Taken Halt) (told between tells : Option Kept) (before middle count : ℕ) (held after : Beside) (out out' : Datagrams) (log log' : EntryList) → between ≡ told → middle ≡ before → ((kept : Kept) → told ≡ Some kept → step kept ≡ base kept) → Takes base result between tells middle count held after out out' log log' → Takes step result told tells before count held after out out' log log'
+pub takes-after : (step base : Kept → ServerStep) (result : Result Taken KeepFault) (told between tells : Option Kept) (before middle count : ℕ) (held after : Beside) (out out' : Datagrams) (log log' : EntryList) → between ≡ told → middle ≡ before → ((kept : Kept) → told ≡ Some kept → step kept ≡ base kept) → Takes base result between tells middle count held after out out' log log' → Takes step result told tells before count held after out out' log log'
 takes-after step base (Ok how) told between tells before middle count held after out out' log log' stays same is h = (
   λ kept e.
       subst
@@ -28,7 +28,7 @@ takes-after step base (Ok how) told between tells before middle count held after
 )
 takes-after step base (Err Memory) told between tells before middle count held after out out' log log' stays same is h =
     (h.0 ∙ stays, h.1 ∙ same, h.2, h.3)
-takes-after step base (Err Fault) told between tells before middle count held after out out' log log' stays same is h =
+takes-after step base (Err Failed) told between tells before middle count held after out out' log log' stays same is h =
     (subst (λ o. StaysOrEnds o tells) stays h.0, subst (λ n. Rose n count) same h.1, h.2, h.3)
 
 -- a datagram is dropped, after what is kept was read

@@ -1,6 +1,6 @@
 -- What a tick does is the protocol's step.
 use Rattle.std.proofs.Common.{◌≡◌, ◌⊎◌, ◌<◌, ◌≤◌, ℕ, Bool, true, false, List, [], ◌∷◌, ◌++◌, Option, Some, None, Ok, Err, if◌then◌else◌, refl, sym, ◌∙◌, ap, subst, arith, append-nil, inl, inr}
-use Rattle.std.specs.Prelude.{IfOk, IsSome, OnErr, Result, nat_le, reverse}
+use Rattle.std.specs.Prelude.{IfOk, OnErr, Result, nat_le, reverse}
 use Rattle.std.specs.List.{find}
 use Rattle.std.specs.Option.{ForSome, IfSome, option_map}
 use Rattle.std.proofs.lemmas.Bool.Decides.{nat_tests}
@@ -29,7 +29,7 @@ use Rattle.nq_server.specs.Sound.{IsOfBoot, IsThere, RowsRun}
 use Rattle.nq_server.specs.State.{Beside, beside_of, server_of, phase_of}
 use Rattle.nq_server.specs.declared.state.State.{State}
 use Rattle.nq_server.specs.Stepping.{LeavesStep, Takes, Makes, outcome_of}
-use Rattle.nq_server.specs.Ticking.{EndsRow, EndsFirst, OpensAt, at_tick, at_tick_opened, ended, fence_entries, halt_of}
+use Rattle.nq_server.specs.Ticking.{EndsRow, EndsFirst, OpensAt, at_tick, at_tick_opened, ended, fence_entries}
 use Rattle.nq_server.proofs.TickedRows.{due-after-reading, filters-commute, run-later, some-run}
 use Rattle.nq_wire.specs.Outbox.{Datagrams}
 
@@ -129,13 +129,6 @@ ends-first now (Some row) key result table after told tells before count e fence
     stays
     (subst (λ k. Fences k.file (has_ended result) told tells before count) same fences)
 
--- nothing changed at a fault
-pub takes-no-end : (s after : Beside) (now : ℕ) (due : Option Row) (fault : KeepFault) (table : Table) (told tells : Option Kept) (before count : ℕ) (log : EntryList) → EndsFirst now due (Err fault) s.table table told tells before count → after ≡ at_tick s table s.time → (step : Kept → ServerStep) (out : Datagrams) → Takes step (Err (halt_of fault)) told tells before count s after out out log log
-takes-no-end s after now due Failed table told tells before count log h holds step out =
-    (h.1, h.2, holds ∙ ap (λ t. at_tick s t s.time) h.0, record { first = refl; datagrams = refl; entries = refl })
-takes-no-end s after now due Memory table told tells before count log h holds step out =
-    (h.1, h.2, holds ∙ ap (λ t. at_tick s t s.time) h.0, record { first = refl; datagrams = refl; entries = refl })
-
 -- what is kept after a tick while the server serves
 pub kept-ended : (s : Beside) (kept : Kept) (now : ℕ) → s.phase ≡ serving → (tick (server_of s kept) now).server.kept ≡ ended (find (is_due now) s.table.rows) kept
 kept-ended s kept now is = by (find (is_due now) s.table.rows) refl
@@ -187,10 +180,6 @@ serves-of-boot longest (held.Recovering recovery last) rows is = absurd (cc)
 -- one that recovers has its recovery, with its longest term, and no row
 pub of-recovering : (longest : ℕ) (phase : Held) (recovery : Option Recovery) (last : Option Table) (rows : List Row) → phase ≡ held.Recovering recovery last → IsOfBoot longest phase rows → IsThere longest recovery × (rows ≡ [])
 of-recovering longest phase recovery last rows is h = subst (λ p. IsOfBoot longest p rows) is h
-
-pub is-some-there : (longest : ℕ) (recovery : Option Recovery) → IsThere longest recovery → IsSome recovery
-is-some-there longest None there = absurd there
-is-some-there longest (Some r) there = refl
 
 -- ---- while the server recovers
 

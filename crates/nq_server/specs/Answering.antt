@@ -1,23 +1,16 @@
--- What requests are answered that change nothing. Below, `told` is what the keeper told of its content before a call and `tells`
--- is what it tells after it; `before` and `count` are its counts of faults.
-use Rattle.std.specs.Prelude.{◌≡◌, ℕ, Option, Some, None, Result, Ok, Err}
+-- What requests are answered that change nothing.
+use Rattle.std.specs.Prelude.{◌≡◌, Option, Some, None}
 use Rattle.nq_base.specs.declared.FileRow.{FileRow}
 use Rattle.nq_base.specs.declared.Refusal.{Refusal}
 use Rattle.nq_base.specs.declared.Reply.{Reply}
 use Rattle.nq_base.specs.declared.Who.{Who}
-use Rattle.nq_io.specs.Faults.{Rose}
-use Rattle.nq_keeper.specs.Keeping.{StaysOrEnds}
-use Rattle.nq_model.specs.Kept.{Kept}
-use Rattle.nq_server.specs.declared.received.Halt.{Halt}
-use Rattle.nq_server.specs.declared.received.Halt.TheVariants as halt
+use Rattle.nq_datagrams.specs.declared.to_server.Incoming.{Incoming}
 use Rattle.nq_wire.specs.Outbox.{Datagrams}
 
--- a call that reads what is kept changes nothing. One that fails raises the count of faults, and the keeper may tell nothing
--- from then on
-abbrev pub Finds : {X : Type 0} → Result X Halt → (told tells : Option Kept) → (before count : ℕ) → Type 0
-Finds (Ok found) told tells before count = (tells ≡ told) × (count ≡ before)
-Finds (Err halt.Memory) told tells before count = (tells ≡ told) × (count ≡ before)
-Finds (Err halt.Fault) told tells before count = StaysOrEnds told tells × Rose before count
+-- a datagram that is no request
+abbrev pub IsNoRequest : Incoming → Type 0
+IsNoRequest (Incoming.Request xid r) = ⊥
+IsNoRequest other = Unit {0}
 
 -- the datagrams of an outbox are as before
 abbrev pub IsSilent : (old new : Datagrams) → Type 0

@@ -1,15 +1,16 @@
 -- The boot of a server. Below, `told` is what the keeper told of its content before the call and `tells` is what it tells after
 -- it; `before` and `count` are its counts of faults.
-use Rattle.std.specs.Prelude.{◌≡◌, ◌<◌, ℕ, ◌+◌, Option, Some, Result, Ok, Err}
+use Rattle.std.specs.Prelude.{◌≡◌, ◌<◌, ◌≤◌, ◌^◌, ℕ, ◌+◌, Option, Some, Result, Ok, Err}
 use Rattle.std.specs.Option.{ForSome}
 use Rattle.nq_boot.specs.declared.StartFault.{StartFault}
 use Rattle.nq_boot.specs.declared.StartFault.TheVariants as start
 use Rattle.nq_boot.specs.declared.Started.{Started}
 use Rattle.nq_boot.specs.declared.Started.TheVariants as begins
-use Rattle.nq_boot.specs.Booting.{last_boot, started_of}
+use Rattle.nq_boot.specs.Booting.{IsOfTerm, last_boot, started_of}
 use Rattle.nq_io.specs.Faults.{Rose}
 use Rattle.nq_keeper.specs.Keeping.{StaysOrEnds}
 use Rattle.nq_model.specs.Kept.{Kept}
+use Rattle.nq_model.specs.Profile.{shortest_term, longest_term}
 use Rattle.nq_model.specs.ServerStep.{booted}
 use Rattle.nq_model.specs.Table.{Table, empty_table}
 use Rattle.nq_server.specs.declared.booting.Begun.{Begun}
@@ -24,6 +25,14 @@ pub record BeginsOver (longest time : ℕ) (begun : Begun) (kept : Kept) (tells 
   pub table : begun.table ≡ empty_table (kept.boot + 1)
   pub waits : begun.waits ≡ (booted kept longest).longest
   pub keeps : tells ≡ Some (booted kept longest)
+
+-- a boot began at a time that a clock shows, with a longest term that there may be, and has no row
+pub record IsFitToBegin (longest time : ℕ) (begun : Begun) : Type 0 where
+  pub long : shortest_term ≤ longest
+  pub short : longest ≤ longest_term
+  pub early : time < 2 ^ 62
+  pub term : IsOfTerm longest begun.started
+  pub empty : begun.table ≡ empty_table begun.table.boot
 
 -- how a boot begins, by the answer: it is spent where no number is left
 abbrev pub Begins : (longest time : ℕ) → Result Begun StartFault → (told tells : Option Kept) → (before count : ℕ) → Type 0

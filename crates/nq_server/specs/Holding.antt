@@ -7,7 +7,7 @@ use Rattle.nq_io.specs.Faults.{Rose}
 use Rattle.nq_base.specs.Entries.{EntryList}
 use Rattle.nq_keeper.specs.Keeping.{StaysOrEnds}
 use Rattle.nq_model.specs.Kept.{Kept}
-use Rattle.nq_model.specs.Server.{Phase, serving, recovering, Server, ServerStep, Outcome, taken, dropped}
+use Rattle.nq_model.specs.Server.{Server, ServerStep, Outcome, taken, dropped}
 use Rattle.nq_model.specs.ServerStep.{at_time, boot, crash}
 use Rattle.nq_model.specs.Table.{Table}
 use Rattle.nq_server.specs.declared.received.Received.{Received}
@@ -28,11 +28,6 @@ pub record Holding (K : Type 0) : Type 0 where
 pub record IsUntouched {K : Type 0} (old new : Holding K) : Type 0 where
   pub beside : new.beside ≡ old.beside
   pub taken : new.taken ≡ old.taken
-
--- the table with which the last boot served, where the server recovers and knows it
-abbrev pub last_known : Phase → Option Table
-last_known serving = None
-last_known (recovering until heard last) = last
 
 -- a server was made, and is one of the protocol with this kept state
 pub record IsServer {K : Type 0} (server : Server) (s : Holding K) (tells : Option Kept) : Type 0 where

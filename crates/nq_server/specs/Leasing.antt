@@ -15,8 +15,8 @@ use Rattle.nq_model.specs.Kept.{File}
 use Rattle.nq_model.specs.Server.{ServerStep, serving}
 use Rattle.nq_model.specs.ServerStep.{access_of}
 use Rattle.nq_model.specs.Table.{Table, find_row}
-use Rattle.nq_server.specs.declared.received.Halt.{Halt}
-use Rattle.nq_server.specs.declared.received.Halt.TheVariants as halt
+use Rattle.nq_keeper.specs.declared.KeepFault.{KeepFault}
+use Rattle.nq_keeper.specs.declared.KeepFault.TheVariants as keep
 use Rattle.nq_server.specs.declared.received.Taken.{Taken}
 use Rattle.nq_server.specs.declared.state.State.{State}
 use Rattle.nq_server.specs.Sound.{IsSound}
@@ -31,10 +31,10 @@ pub record MakesBeside (step : ServerStep) (after : Beside) (out out' : Datagram
   pub enters : Enters step.entries log log'
 
 -- what a call does that makes a step which keeps what is kept, by its answer: where memory is wanting nothing changed
-abbrev pub Does : (step : ServerStep) → Result Taken Halt → (held after : Beside) (out out' : Datagrams) (log log' : EntryList) → Type 0
+abbrev pub Does : (step : ServerStep) → Result Taken KeepFault → (held after : Beside) (out out' : Datagrams) (log log' : EntryList) → Type 0
 Does step (Ok how) held after out out' log log' = (step.outcome ≡ outcome_of how) × MakesBeside step after out out' log log'
-Does step (Err halt.Memory) held after out out' log log' = (after ≡ held) × SaysNothing out out' log log'
-Does step (Err halt.Fault) held after out out' log log' = ⊥
+Does step (Err keep.Memory) held after out out' log log' = (after ≡ held) × SaysNothing out out' log log'
+Does step (Err keep.Failed) held after out out' log log' = ⊥
 
 -- what the ask table is asked about a file of this row
 abbrev pub asks : Beside → Who → FileRow → Option Want → Question

@@ -3,10 +3,12 @@ use Rattle.std.specs.Prelude.{◌≡◌, ◌<◌, ◌≤◌, ◌^◌, ℕ, ◌+�
 use Rattle.nq_base.specs.declared.Row.{Row}
 use Rattle.nq_boot.specs.Recovery.{Recovery}
 use Rattle.nq_model.specs.Profile.{shortest_term, longest_term, most_taken_by_server}
+use Rattle.nq_model.specs.Server.{serving}
 use Rattle.nq_model.specs.Table.{caches}
 use Rattle.nq_server.specs.declared.state.Phase.{Phase}
 use Rattle.nq_server.specs.declared.state.Phase.TheVariants.{Serving, Recovering}
 use Rattle.nq_server.specs.declared.state.State.{State}
+use Rattle.nq_server.specs.State.{phase_of}
 
 -- a row of a lease that lets nobody cache ends later than this time, by less than 2^32 ticks
 abbrev pub Runs : (time : ℕ) → Row → Type 0
@@ -36,7 +38,18 @@ pub record IsSound (s : State) : Type 0 where
   pub run : RowsRun s.time s.table.rows
   pub of_boot : IsOfBoot s.longest s.phase s.table.rows
 
--- and it has drawn no more tags than it has taken in datagrams and ticks
+-- it stays sound in a call, which draws one tag at most
+pub record StaysSound (old new : State) : Type 0 where
+  pub sound : IsSound new
+  pub drawn : new.table.drawn ≤ old.table.drawn + 1
+
+-- it serves, and tags are left
+pub record MayServe (s : State) : Type 0 where
+  pub sound : IsSound s
+  pub serves : phase_of s.phase ≡ serving
+  pub drawn : s.table.drawn < 2 ^ 62
+
+-- a sound one that has drawn no more tags than it has taken in datagrams and ticks
 pub record IsSoundAfter (taken : ℕ) (s : State) : Type 0 where
   pub sound : IsSound s
   pub drawn : s.table.drawn ≤ taken

@@ -13,8 +13,8 @@ use Rattle.nq_model.specs.Kept.{Kept}
 use Rattle.nq_model.specs.Message.{Packet, Reason as Cause, was_too_long, was_no_message, was_no_call, wrong_host, old_incarnation, out_of_bounds, no_reply_owed}
 use Rattle.nq_model.specs.Server.{ServerStep, Outcome, taken, dropped}
 use Rattle.nq_rpc.specs.Fault.{fault_number}
-use Rattle.nq_server.specs.declared.received.Halt.{Halt}
-use Rattle.nq_server.specs.declared.received.Halt.TheVariants as halt
+use Rattle.nq_keeper.specs.declared.KeepFault.{KeepFault}
+use Rattle.nq_keeper.specs.declared.KeepFault.TheVariants as keep
 use Rattle.nq_server.specs.declared.received.Reason.{Reason}
 use Rattle.nq_server.specs.declared.received.Reason.TheVariants as reason
 use Rattle.nq_server.specs.declared.received.Received.{Received}
@@ -70,21 +70,21 @@ pub record SaysNothing (out out' : Datagrams) (log log' : EntryList) : Type 0 wh
   pub entries : log'.entries ≡ log.entries
 
 -- what a call does, by its answer: it makes the step of the kept state that was told, or changes nothing
-abbrev pub Takes : (step : Kept → ServerStep) → Result Taken Halt → (told tells : Option Kept) (before count : ℕ) (held after : Beside) (out out' : Datagrams) (log log' : EntryList) → Type 0
+abbrev pub Takes : (step : Kept → ServerStep) → Result Taken KeepFault → (told tells : Option Kept) (before count : ℕ) (held after : Beside) (out out' : Datagrams) (log log' : EntryList) → Type 0
 Takes step (Ok how) told tells before count held after out out' log log' =
     ForSome told (λ kept. ((step kept).outcome ≡ outcome_of how) × Makes (step kept) tells after out out' log log')
     × (count ≡ before)
-Takes step (Err halt.Memory) told tells before count held after out out' log log' =
+Takes step (Err keep.Memory) told tells before count held after out out' log log' =
     (tells ≡ told) × (count ≡ before) × (after ≡ held) × SaysNothing out out' log log'
-Takes step (Err halt.Fault) told tells before count held after out out' log log' =
+Takes step (Err keep.Failed) told tells before count held after out out' log log' =
     StaysOrEnds told tells × Rose before count × (after ≡ held) × SaysNothing out out' log log'
 
 -- a packet was sent and nothing else happened; or memory was wanting, and the outbox is as before
-abbrev pub Says : Packet → Result Taken Halt → (out out' : Datagrams) → Type 0
+abbrev pub Says : Packet → Result Taken KeepFault → (out out' : Datagrams) → Type 0
 Says packet (Ok took.Done) out out' = Sends (packet ∷ []) out out'
 Says packet (Ok (took.Dropped reason)) out out' = ⊥
-Says packet (Err halt.Memory) out out' = (out'.first ≡ out.first) × (out'.datagrams ≡ out.datagrams)
-Says packet (Err halt.Fault) out out' = ⊥
+Says packet (Err keep.Memory) out out' = (out'.first ≡ out.first) × (out'.datagrams ≡ out.datagrams)
+Says packet (Err keep.Failed) out out' = ⊥
 
 -- a stop leaves what was kept before the step, or after it
 abbrev pub LeavesStep : (step : Kept → ServerStep) → (told : Option Kept) → (Option Kept → Type 0) → Type 0
@@ -97,6 +97,6 @@ done_of took.Done = Received.Done
 done_of (took.Dropped reason) = Received.Dropped reason
 
 -- why an event was not taken in, for those who sent it
-abbrev pub halted_of : Halt → Received
-halted_of halt.Fault = Received.Fault
-halted_of halt.Memory = Received.Memory
+abbrev pub halted_of : KeepFault → Received
+halted_of keep.Failed = Received.Fault
+halted_of keep.Memory = Received.Memory

@@ -15,15 +15,8 @@ use Rattle.nq_keeper.specs.declared.KeepFault.TheVariants as keep
 use Rattle.nq_model.specs.Kept.{Kept, can_rise, find_file}
 use Rattle.nq_model.specs.Server.{serving}
 use Rattle.nq_model.specs.Table.{Table, drop_row, with_rows}
-use Rattle.nq_server.specs.declared.received.Halt.{Halt}
-use Rattle.nq_server.specs.declared.received.Halt.TheVariants as halt
 use Rattle.nq_server.specs.declared.ticks.Opened.{Opened}
 use Rattle.nq_server.specs.State.{Beside}
-
--- what a keeper's fault means for a step
-abbrev pub halt_of : KeepFault → Halt
-halt_of keep.Failed = halt.Fault
-halt_of keep.Memory = halt.Memory
 
 -- a writing row ended, or none was due, or the revision of its file can not rise and the row stays
 abbrev pub EndsRow : (time : ℕ) → Option Row → Option Fence → (table after : Table) → (told tells : Option Kept) → Type 0

@@ -2,11 +2,11 @@
 
 ghost use Rattle.std.specs.Prelude.{◌≡◌, ◌<◌, ◌≤◌, ◌^◌, [], ◌∷◌, Some, length, true};
 ghost use Rattle.nq_base.specs.declared.Entry.{Entry as Line};
-ghost use Rattle.nq_model.specs.Decided.{aside, done_aside, file_to_change as changed_file, later_aside};
+ghost use Rattle.nq_model.specs.Decided.{done_aside, file_to_change as changed_file, later_aside};
 ghost use Rattle.nq_model.specs.Kept.{Kept};
 ghost use Rattle.nq_model.specs.Table.{find_row, with_rows};
 ghost use Rattle.nq_server.specs.Deciding.{DoesAside, DoesIfFresh, entries_recovering, entries_serving, file_to_tell as told_file, heard_rows, length_in, recovery_after, rows_serving};
-ghost use Rattle.nq_server.specs.Sound.{IsSound};
+ghost use Rattle.nq_server.specs.Sound.{IsSound, StaysSound};
 ghost use Rattle.nq_server.specs.State.{beside_of, phase_of, server_of};
 ghost use Rattle.nq_server.specs.Stepping.{Enters};
 
@@ -174,8 +174,7 @@ fn done_recovering(
 fn done(state: &mut State, who: Who, request: &Request, length: u32, log: &mut Journal)
     requires line { 1 ≤ log.old.spare }
     requires sound { IsSound state.old }
-    ensures sound { IsSound state.new }
-    ensures drawn { state.new.table.drawn ≡ state.old.table.drawn }
+    ensures stays { StaysSound state.old state.new }
     ensures does { (kept : Kept) → length ≡ length_in kept (told_file request.now) → DoesAside (done_aside (server_of (beside_of state.old) kept) (phase_of state.old.phase) who request.now) (beside_of state.old) (beside_of state.new) log.old log.new }
 {
     let now = state.time;
@@ -193,8 +192,7 @@ fn done(state: &mut State, who: Who, request: &Request, length: u32, log: &mut J
 #[tactic(auto, unfolding(nq_model::specs::Decided::put_off_aside, nq_model::specs::Decided::nothing_aside, nq_model::specs::Table::with_rows))]
 fn put_off(state: &mut State, who: Who, file: Option<FileId>, notice: u32, log: &Journal)
     requires { IsSound state.old }
-    ensures sound { IsSound state.new }
-    ensures drawn { state.new.table.drawn ≡ state.old.table.drawn }
+    ensures stays { StaysSound state.old state.new }
     ensures does { (kept : Kept) → notice ≡ (later_aside (server_of (beside_of state.old) kept) (phase_of state.old.phase) who file).notice → DoesAside (later_aside (server_of (beside_of state.old) kept) (phase_of state.old.phase) who file) (beside_of state.old) (beside_of state.new) log.now log.now }
 {
     match (&state.phase, file) {
@@ -206,31 +204,7 @@ fn put_off(state: &mut State, who: Who, file: Option<FileId>, notice: u32, log: 
     }
 }
 
-/// What is done beside the kept state, by the verdict of a fresh request.
-#[tactic(auto, unfolding(nq_model::specs::Decided::nothing_aside))]
-fn do_aside(
-    state: &mut State,
-    who: Who,
-    request: &Request,
-    verdict: Verdict,
-    length: u32,
-    notice: u32,
-    log: &mut Journal,
-)
-    requires line { 1 ≤ log.old.spare }
-    requires sound { IsSound state.old }
-    ensures sound { IsSound state.new }
-    ensures drawn { state.new.table.drawn ≡ state.old.table.drawn }
-    ensures does { (kept : Kept) → length ≡ length_in kept (told_file request.now) → notice ≡ (later_aside (server_of (beside_of state.old) kept) (phase_of state.old.phase) who (changed_file request.now)).notice → DoesAside (aside (server_of (beside_of state.old) kept) who request.now verdict) (beside_of state.old) (beside_of state.new) log.old log.new }
-{
-    match verdict {
-        Verdict::Done => done(state, who, request, length, log),
-        Verdict::TryLater => put_off(state, who, file_to_change(request), notice, log),
-        _ => {}
-    }
-}
-
-/// What is done beside the kept state, where a request is fresh.
+/// What is done beside the kept state, where a request is fresh, by its verdict.
 pub(crate) fn do_if_fresh(
     state: &mut State,
     who: Who,
@@ -242,14 +216,15 @@ pub(crate) fn do_if_fresh(
 )
     requires line { 1 ≤ log.old.spare }
     requires sound { IsSound state.old }
-    ensures sound { IsSound state.new }
-    ensures drawn { state.new.table.drawn ≡ state.old.table.drawn }
+    ensures stays { StaysSound state.old state.new }
     ensures does { (kept : Kept) → length ≡ length_in kept (told_file request.now) → notice ≡ (later_aside (server_of (beside_of state.old) kept) (phase_of state.old.phase) who (changed_file request.now)).notice → DoesIfFresh (server_of (beside_of state.old) kept) who request.now decided.now (beside_of state.old) (beside_of state.new) log.old log.new }
 {
     match decided {
-        Decided::Fresh { verdict, .. } => {
-            do_aside(state, who, request, *verdict, length, notice, log);
-        }
+        Decided::Fresh { verdict, .. } => match verdict {
+            Verdict::Done => done(state, who, request, length, log),
+            Verdict::TryLater => put_off(state, who, file_to_change(request), notice, log),
+            _ => {}
+        },
         Decided::Again { .. }
         | Decided::Old
         | Decided::OldIncarnation

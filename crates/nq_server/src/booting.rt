@@ -1,13 +1,13 @@
 //! The boot of a server over a keeper: at its beginning, and after a crash.
 
-ghost use Rattle.std.specs.Prelude.{◌≡◌, ◌<◌, ◌≤◌, ◌^◌, ◌+◌, [], ◌∷◌, ◌++◌, IfOk};
-ghost use Rattle.nq_boot.specs.Booting.{IsOfTerm, LeavesThen, start_fault, started_of};
+ghost use Rattle.std.specs.Prelude.{◌≡◌, ◌<◌, ◌≤◌, ◌^◌, ◌+◌, [], ◌∷◌, ◌++◌, IfOk, None};
+ghost use Rattle.nq_boot.specs.Booting.{LeavesThen, start_fault, started_of};
 ghost use Rattle.nq_model.specs.Change.{heads_of};
 ghost use Rattle.nq_model.specs.Kept.{Kept};
 ghost use Rattle.nq_model.specs.Server.{last_in};
 ghost use Rattle.nq_model.specs.ServerStep.{boot as booted_server, booted};
 ghost use Rattle.nq_model.specs.Table.{empty_table};
-ghost use Rattle.nq_server.specs.Booting.{Begins, phase_begun, with_last};
+ghost use Rattle.nq_server.specs.Booting.{Begins, IsFitToBegin, phase_begun, with_last};
 ghost use Rattle.nq_server.specs.Sound.{IsSoundAfter};
 ghost use Rattle.nq_server.specs.State.{beside, beside_of, phase_of};
 
@@ -62,8 +62,7 @@ pub(crate) fn begin<K: Keeper>(
     requires short { longest ≤ 600 }
     requires now { now < 2 ^ 62 }
     ensures begins { Begins longest now result (K.content keeper.old) (K.content keeper.new) (K.faults keeper.old) (K.faults keeper.new) }
-    ensures empty { IfOk result (λ begun. begun.table ≡ empty_table begun.table.boot) }
-    ensures term { IfOk result (λ begun. IsOfTerm longest begun.started) }
+    ensures fit { IfOk result (IsFitToBegin longest now) }
     ensures follows { K.follows keeper.old keeper.new }
     ensures leaves { LeavesThen (λ kept. booted kept longest) (K.content keeper.old) (K.leaves keeper.old keeper.new) }
 {
@@ -85,27 +84,23 @@ pub(crate) fn begin<K: Keeper>(
     })
 }
 
-/// The phase of a boot that began; `last` is the table with which the last boot served, where it is known.
-fn phase_after(started: Started, last: Option<Table>) -> Phase
-    ensures { result ≡ phase_begun started last }
+/// The phase of a boot that began, and that knows no table with which the last boot served.
+fn phase_after(started: Started) -> Phase
+    ensures { result ≡ phase_begun started None }
 {
     match started {
         Started::Serving(serving) => Phase::Serving(serving),
         Started::Recovering(recovery) => Phase::Recovering {
             recovery: Some(recovery),
-            last,
+            last: None,
         },
     }
 }
 
 /// What a server holds once a boot began.
-pub(crate) fn state_after(begun: Begun, last: Option<Table>, longest: u32, now: Ticks) -> State
-    requires long { 5 ≤ longest }
-    requires short { longest ≤ 600 }
-    requires early { now < 2 ^ 62 }
-    requires term { IsOfTerm longest begun.started }
-    requires empty { begun.table ≡ empty_table begun.table.boot }
-    ensures boots { (kept : Kept) → begun.started ≡ started_of kept longest now → begun.table ≡ empty_table (kept.boot + 1) → beside_of result ≡ beside (booted_server kept longest now last) }
+pub(crate) fn state_after(begun: Begun, longest: u32, now: Ticks) -> State
+    requires { IsFitToBegin longest now begun }
+    ensures boots { (kept : Kept) → begun.started ≡ started_of kept longest now → begun.table ≡ empty_table (kept.boot + 1) → beside_of result ≡ beside (booted_server kept longest now None) }
     ensures sound { IsSoundAfter 0 result }
 {
     let Begun {
@@ -114,7 +109,7 @@ pub(crate) fn state_after(begun: Begun, last: Option<Table>, longest: u32, now: 
         waits: _,
     } = begun;
     State {
-        phase: phase_after(started, last),
+        phase: phase_after(started),
         table,
         longest,
         notice: 1,
@@ -156,15 +151,11 @@ fn remember(phase: &mut Phase, table: Option<Table>)
 
 /// Puts what a boot begins with in place of what a server held when it crashed.
 pub(crate) fn replace_state(state: &mut State, begun: Begun, longest: u32, now: Ticks)
-    requires long { 5 ≤ longest }
-    requires short { longest ≤ 600 }
-    requires early { now < 2 ^ 62 }
-    requires term { IsOfTerm longest begun.started }
-    requires empty { begun.table ≡ empty_table begun.table.boot }
+    requires { IsFitToBegin longest now begun }
     ensures boots { (kept : Kept) → begun.started ≡ started_of kept longest now → begun.table ≡ empty_table (kept.boot + 1) → beside_of state.new ≡ beside (booted_server kept longest now (last_in (phase_of state.old.phase) state.old.table)) }
     ensures sound { IsSoundAfter 0 state.new }
 {
-    let fresh = state_after(begun, None, longest, now);
+    let fresh = state_after(begun, longest, now);
     let State { phase, table, .. } = mem::replace(state, fresh);
     remember(&mut state.phase, last_of(phase, table));
 }

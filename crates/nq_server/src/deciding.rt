@@ -1,32 +1,29 @@
 //! Requests that are decided once.
 
-ghost use Rattle.std.specs.Prelude.{◌≡◌, ◌≤◌, ◌+◌, ◌++◌, ℕ, List, true, length, map, take, OnOk, OnErr, IfOk, IsSome};
+ghost use Rattle.std.specs.Prelude.{◌≡◌, ◌≤◌, ◌+◌, ◌++◌, ℕ, List, true, length, map, OnOk, OnErr, IfOk, IsSome};
 ghost use Rattle.std.specs.Option.{ForSome};
 ghost use Rattle.nq_base.specs.declared.Party.{Party as Receiver};
 ghost use Rattle.nq_datagrams.specs.Sent.{sent};
 ghost use Rattle.nq_files.specs.Deciding.{IsOfHost};
 ghost use Rattle.nq_base.specs.Entries.{EntryList};
-ghost use Rattle.nq_keeper.specs.Keeping.{LeavesOne};
+ghost use Rattle.nq_keeper.specs.Keeping.{LeavesOne, Reads};
 ghost use Rattle.nq_model.specs.Change.{heads_of};
 ghost use Rattle.nq_model.specs.Decided.{decided as decided_of, decided_step, gate_of, is_decided_once, later_aside};
 ghost use Rattle.nq_model.specs.Kept.{Kept};
 ghost use Rattle.nq_model.specs.Message.{Packet};
-ghost use Rattle.nq_server.specs.Answering.{Finds, IsSilent};
+ghost use Rattle.nq_server.specs.Answering.{IsSilent};
 ghost use Rattle.nq_server.specs.Deciding.{Concludes, IsReady, Warns, as_told, file_to_tell as told_file, is_put_off, length_in, warnings_if};
-ghost use Rattle.nq_server.specs.Sound.{IsSound};
+ghost use Rattle.nq_server.specs.Sound.{IsSound, StaysSound};
 ghost use Rattle.nq_server.specs.State.{beside_of, phase_of, server_of};
 ghost use Rattle.nq_server.specs.Stepping.{LeavesStep, SaysNothing, Sends, Takes};
-ghost use Rattle.nq_server.specs.Ticking.{halt_of as as_halt};
 ghost use Rattle.nq_wire.specs.Outbox.{Datagrams};
 
 use crate::aside::do_if_fresh;
-use crate::finding;
 use crate::gates::{file_to_change, file_to_tell, gate};
 use crate::leasing::make_room;
-use crate::received::{Halt, Taken};
+use crate::received::Taken;
 use crate::replying::{Caller, end_reply};
 use crate::state::{Phase, State};
-use crate::ticks::halt_of;
 use crate::verdicts::{answer_to, drop_reason};
 use nq_base::{Access, Block, Decided, FileId, Heads, Journal, NoMemory, Request, Verdict, Who};
 use nq_datagrams::BegunReply;
@@ -49,9 +46,9 @@ struct Before {
 }
 
 /// The kept length of a file, if there is one; 0 where it is not kept.
-fn length_of<K: Keeper>(keeper: &mut K, file: Option<FileId>) -> Result<u32, Halt>
+fn length_of<K: Keeper>(keeper: &mut K, file: Option<FileId>) -> Result<u32, KeepFault>
     ensures told { ForSome (K.content keeper.old) (λ kept. IfOk result (λ blocks. blocks ≡ length_in kept file)) }
-    ensures finds { Finds result (K.content keeper.old) (K.content keeper.new) (K.faults keeper.old) (K.faults keeper.new) }
+    ensures reads { Reads result (K.content keeper.old) (K.content keeper.new) (K.faults keeper.old) (K.faults keeper.new) }
     ensures follows { K.follows keeper.old keeper.new }
     ensures leaves { LeavesOne (K.content keeper.old) (K.leaves keeper.old keeper.new) }
 {
@@ -59,21 +56,21 @@ fn length_of<K: Keeper>(keeper: &mut K, file: Option<FileId>) -> Result<u32, Hal
         keeper.pause();
         return Ok(0);
     };
-    match finding::file(keeper, file)? {
+    match keeper.file(file)? {
         Some(row) => Ok(row.blocks),
         None => Ok(0),
     }
 }
 
 /// Reads what a step has to know before it decides a request.
-fn read_before<K: Keeper>(keeper: &mut K, request: &Request) -> Result<Before, Halt>
+fn read_before<K: Keeper>(keeper: &mut K, request: &Request) -> Result<Before, KeepFault>
     ensures heads { ForSome (K.content keeper.old) (λ kept. IfOk result (λ b. b.heads ≡ heads_of kept)) }
     ensures length { ForSome (K.content keeper.old) (λ kept. IfOk result (λ b. b.length ≡ length_in kept (told_file request.now))) }
-    ensures finds { Finds result (K.content keeper.old) (K.content keeper.new) (K.faults keeper.old) (K.faults keeper.new) }
+    ensures reads { Reads result (K.content keeper.old) (K.content keeper.new) (K.faults keeper.old) (K.faults keeper.new) }
     ensures follows { K.follows keeper.old keeper.new }
     ensures leaves { LeavesOne (K.content keeper.old) (K.leaves keeper.old keeper.new) }
 {
-    let heads = finding::heads(keeper)?;
+    let heads = keeper.heads()?;
     let length = length_of(keeper, file_to_tell(request))?;
     Ok(Before { heads, length })
 }
@@ -197,8 +194,7 @@ fn conclude(
     requires datagram { 1 ≤ out.old.spare }
     requires line { 1 ≤ log.old.spare }
     ensures makes { (kept : Kept) (before : Datagrams) (entries : EntryList) → IsReady caller.xid ready before out.old entries log.old → Warns (server_of (beside_of state.old) kept) caller.who request.now ready.notice before out.old → ready.length ≡ length_in kept (told_file request.now) → Concludes (decided_step (server_of (beside_of state.old) kept) caller.who caller.xid request.now decided.now) result (beside_of state.new) before out.new entries log.new }
-    ensures sound { IsSound state.new }
-    ensures drawn { state.new.table.drawn ≡ state.old.table.drawn }
+    ensures stays { StaysSound state.old state.new }
 {
     let Ready {
         len,
@@ -214,17 +210,6 @@ fn conclude(
     end_reply(who.host, begun, &said, out);
     do_if_fresh(state, who, request, decided, length, notice, log);
     Taken::Done
-}
-
-/// Takes the datagrams back behind the first `len`, and gives up.
-fn give_up(fault: KeepFault, len: usize, out: &mut Outbox) -> Halt
-    requires { len ≤ length out.old.datagrams }
-    ensures fault { result ≡ as_halt fault }
-    ensures first { out.new.first ≡ out.old.first }
-    ensures kept { out.new.datagrams ≡ take len out.old.datagrams }
-{
-    out.cut(len);
-    halt_of(fault)
 }
 
 /// A second RESIZE or REMOVE of the same words.
@@ -305,48 +290,6 @@ fn without_body(request: &Request) -> Request
     }
 }
 
-/// A request, and what is told of it.
-#[derive(Drop)]
-struct Asked {
-    /// The request.
-    request: Request,
-    /// The same, with a block that repeats its value in place of its body.
-    told: Request,
-}
-
-/// Decides a request, and answers it by what is told of it.
-fn decide_told<K: Keeper>(
-    alloc: Global,
-    keeper: &mut K,
-    state: &mut State,
-    caller: Caller,
-    asked: Asked,
-    out: &mut Outbox,
-    log: &mut Journal,
-) -> Result<Taken, Halt>
-    requires sound { IsSound state.old }
-    requires once { is_decided_once asked.request ≡ true }
-    requires host { IsOfHost asked.request }
-    requires told { asked.told ≡ as_told asked.request }
-    ensures takes { Takes (λ kept. decided_step (server_of (beside_of state.old) kept) caller.who caller.xid asked.request (decided_of kept (gate_of (server_of (beside_of state.old) kept) caller.who asked.request) asked.request)) result (K.content keeper.old) (K.content keeper.new) (K.faults keeper.old) (K.faults keeper.new) (beside_of state.old) (beside_of state.new) out.old out.new log.old log.new }
-    ensures sound { IsSound state.new }
-    ensures drawn { state.new.table.drawn ≡ state.old.table.drawn }
-    ensures follows { K.follows keeper.old keeper.new }
-    ensures leaves { LeavesStep (λ kept. decided_step (server_of (beside_of state.old) kept) caller.who caller.xid asked.request (decided_of kept (gate_of (server_of (beside_of state.old) kept) caller.who asked.request) asked.request)) (K.content keeper.old) (K.leaves keeper.old keeper.new) }
-{
-    let Asked { request, told } = asked;
-    let before = read_before(keeper, &told)?;
-    let gate = gate(state, &before.heads, &caller.who, file_to_change(&request));
-    let ready = match prepare(alloc, state, caller, &told, before.length, out, log) {
-        Ok(ready) => ready,
-        Err(NoMemory::Memory) => return Err(Halt::Memory),
-    };
-    match decide(keeper, request, gate) {
-        Err(fault) => Err(give_up(fault, ready.len, out)),
-        Ok(decided) => Ok(conclude(state, caller, &told, &decided, ready, out, log)),
-    }
-}
-
 /// Decides a request that is decided once, and answers it. At most one change is kept, and all memory is taken before it.
 pub(crate) fn decide_once<K: Keeper>(
     alloc: Global,
@@ -356,17 +299,27 @@ pub(crate) fn decide_once<K: Keeper>(
     request: Request,
     out: &mut Outbox,
     log: &mut Journal,
-) -> Result<Taken, Halt>
+) -> Result<Taken, KeepFault>
     requires sound { IsSound state.old }
     requires once { is_decided_once request ≡ true }
     requires host { IsOfHost request }
     ensures takes { Takes (λ kept. decided_step (server_of (beside_of state.old) kept) caller.who caller.xid request (decided_of kept (gate_of (server_of (beside_of state.old) kept) caller.who request) request)) result (K.content keeper.old) (K.content keeper.new) (K.faults keeper.old) (K.faults keeper.new) (beside_of state.old) (beside_of state.new) out.old out.new log.old log.new }
-    ensures sound { IsSound state.new }
-    ensures drawn { state.new.table.drawn ≡ state.old.table.drawn }
+    ensures stays { StaysSound state.old state.new }
     ensures follows { K.follows keeper.old keeper.new }
     ensures leaves { LeavesStep (λ kept. decided_step (server_of (beside_of state.old) kept) caller.who caller.xid request (decided_of kept (gate_of (server_of (beside_of state.old) kept) caller.who request) request)) (K.content keeper.old) (K.leaves keeper.old keeper.new) }
 {
     let told = without_body(&request);
-    let asked = Asked { request, told };
-    decide_told(alloc, keeper, state, caller, asked, out, log)
+    let before = read_before(keeper, &told)?;
+    let gate = gate(state, &before.heads, &caller.who, file_to_change(&request));
+    let ready = match prepare(alloc, state, caller, &told, before.length, out, log) {
+        Ok(ready) => ready,
+        Err(NoMemory::Memory) => return Err(KeepFault::Memory),
+    };
+    match decide(keeper, request, gate) {
+        Err(fault) => {
+            out.cut(ready.len);
+            Err(fault)
+        }
+        Ok(decided) => Ok(conclude(state, caller, &told, &decided, ready, out, log)),
+    }
 }

@@ -1,23 +1,19 @@
 //! READ and GETLEASE while serving.
 
-ghost use Rattle.std.specs.Prelude.{◌≡◌, ◌<◌, ◌≤◌, ◌+◌, ◌^◌, ℕ, OnOk, OnErr, IfOk};
-ghost use Rattle.std.specs.Option.{ForSome};
+ghost use Rattle.std.specs.Prelude.{◌≡◌, ◌≤◌, ◌+◌, ℕ, OnOk, OnErr, IfOk};
 ghost use Rattle.nq_lease.specs.Telling.{told_rows};
-ghost use Rattle.nq_files.specs.Reading.{read_out};
 ghost use Rattle.nq_base.specs.Entries.{EntryList};
 ghost use Rattle.nq_keeper.specs.Keeping.{LeavesOne};
 ghost use Rattle.nq_model.specs.Ask.{ask as asked_of};
 ghost use Rattle.nq_model.specs.Kept.{Kept, find_file};
-ghost use Rattle.nq_model.specs.Server.{Server, serving};
+ghost use Rattle.nq_model.specs.Server.{Server};
 ghost use Rattle.nq_model.specs.ServerStep.{access_of as access_as, get_lease as gets_lease, grants, lease_asked, leases, read as reads, read_asked, serves, tells_later};
-ghost use Rattle.nq_server.specs.Answering.{Finds};
 ghost use Rattle.nq_server.specs.Leasing.{Does, HasRoom, MakesBeside, MayAsk, asks, file_asked, granted_in as grant_of, to_tell as to_tell_of};
-ghost use Rattle.nq_server.specs.Sound.{IsSound};
-ghost use Rattle.nq_server.specs.State.{beside_of, phase_of, server_of};
+ghost use Rattle.nq_server.specs.Sound.{MayServe, StaysSound};
+ghost use Rattle.nq_server.specs.State.{beside_of, server_of};
 ghost use Rattle.nq_server.specs.Stepping.{Enters, SaysNothing, Takes, next_of};
 
-use crate::finding;
-use crate::received::{Halt, Taken};
+use crate::received::Taken;
 use crate::replying::{Caller, end_reply, put_off, refuse};
 use crate::state::State;
 use nq_base::{
@@ -171,11 +167,9 @@ fn later(
     to: NoticeTo,
     xid: u32,
     out: &mut Outbox,
-) -> Result<Taken, Halt>
+) -> Result<Taken, KeepFault>
     requires { MayAsk state.old question.now }
-    ensures does { (kept : Kept) (log : EntryList) → Does (tells_later (server_of (beside_of state.old) kept) question.now.who xid (asked_of state.old.table question.now).table (told_rows question.now.file to state.old.table.rows)) result (beside_of state.old) (beside_of state.new) out.old out.new log log }
-    ensures sound { IsSound state.new }
-    ensures drawn { state.new.table.drawn ≤ state.old.table.drawn + 1 }
+    ensures { (kept : Kept) (log : EntryList) → Does (tells_later (server_of (beside_of state.old) kept) question.now.who xid (asked_of state.old.table question.now).table (told_rows question.now.file to state.old.table.rows)) result (beside_of state.old) (beside_of state.new) out.old out.new log log }
 {
     let mut notice = state.notice;
     let caller = Caller {
@@ -189,13 +183,13 @@ fn later(
             state.notice = notice;
             Ok(Taken::Done)
         }
-        Err(NoMemory::Memory) => Err(Halt::Memory),
+        Err(NoMemory::Memory) => Err(KeepFault::Memory),
     }
 }
 
 /// Grants a lease, where nobody is put off, and ends the reply, for which there is room. It takes no memory.
 #[tactic(auto, unfolding(nq_model::specs::ServerStep::leases, nq_model::specs::Server::with_table))]
-fn give_in_room(
+fn give(
     state: &mut State,
     question: &Question,
     begun: BegunReply,
@@ -206,9 +200,7 @@ fn give_in_room(
     requires room { 56 ≤ begun.room }
     requires datagram { 1 ≤ out.old.spare }
     requires line { 1 ≤ log.old.spare }
-    ensures makes { (kept : Kept) → MakesBeside (leases (server_of (beside_of state.old) kept) question.now.who begun.xid question.now.file (asked_of state.old.table question.now).table (grant_of (asked_of state.old.table question.now).asked)) (beside_of state.new) out.old out.new log.old log.new }
-    ensures sound { IsSound state.new }
-    ensures drawn { state.new.table.drawn ≤ state.old.table.drawn + 1 }
+    ensures { (kept : Kept) → MakesBeside (leases (server_of (beside_of state.old) kept) question.now.who begun.xid question.now.file (asked_of state.old.table question.now).table (grant_of (asked_of state.old.table question.now).asked)) (beside_of state.new) out.old out.new log.old log.new }
 {
     let who = question.who;
     let grant = granted_in(ask(&mut state.table, question));
@@ -220,30 +212,6 @@ fn give_in_room(
     enter_grant(log, question, &grant);
 }
 
-/// Answers a GETLEASE, where nobody is put off.
-#[tactic(auto, unfolding(nq_model::specs::ServerStep::leases))]
-fn give(
-    alloc: Global,
-    state: &mut State,
-    question: &Question,
-    xid: u32,
-    out: &mut Outbox,
-    log: &mut Journal,
-) -> Result<Taken, Halt>
-    requires { MayAsk state.old question.now }
-    ensures does { (kept : Kept) → Does (leases (server_of (beside_of state.old) kept) question.now.who xid question.now.file (asked_of state.old.table question.now).table (grant_of (asked_of state.old.table question.now).asked)) result (beside_of state.old) (beside_of state.new) out.old out.new log.old log.new }
-    ensures sound { IsSound state.new }
-    ensures drawn { state.new.table.drawn ≤ state.old.table.drawn + 1 }
-{
-    match make_room(alloc, xid, LONGEST_LEASE, 1, out, log) {
-        Err(NoMemory::Memory) => Err(Halt::Memory),
-        Ok(begun) => {
-            give_in_room(state, question, begun, out, log);
-            Ok(Taken::Done)
-        }
-    }
-}
-
 /// Answers a GETLEASE of a file.
 fn lease(
     alloc: Global,
@@ -252,15 +220,19 @@ fn lease(
     xid: u32,
     out: &mut Outbox,
     log: &mut Journal,
-) -> Result<Taken, Halt>
+) -> Result<Taken, KeepFault>
     requires { MayAsk state.old question.now }
-    ensures does { (kept : Kept) → Does (lease_asked (server_of (beside_of state.old) kept) question.now.who xid question.now.file question.now.access (asked_of state.old.table question.now).table (asked_of state.old.table question.now).asked) result (beside_of state.old) (beside_of state.new) out.old out.new log.old log.new }
-    ensures sound { IsSound state.new }
-    ensures drawn { state.new.table.drawn ≤ state.old.table.drawn + 1 }
+    ensures { (kept : Kept) → Does (lease_asked (server_of (beside_of state.old) kept) question.now.who xid question.now.file question.now.access (asked_of state.old.table question.now).table (asked_of state.old.table question.now).asked) result (beside_of state.old) (beside_of state.new) out.old out.new log.old log.new }
 {
     match to_tell(&state.table, question) {
         Some(to) => later(alloc, state, question, to, xid, out),
-        None => give(alloc, state, question, xid, out, log),
+        None => match make_room(alloc, xid, LONGEST_LEASE, 1, out, log) {
+            Err(NoMemory::Memory) => Err(KeepFault::Memory),
+            Ok(begun) => {
+                give(state, question, begun, out, log);
+                Ok(Taken::Done)
+            }
+        },
     }
 }
 
@@ -273,17 +245,14 @@ pub(crate) fn get_lease<K: Keeper>(
     wish: LeaseWish,
     out: &mut Outbox,
     log: &mut Journal,
-) -> Result<Taken, Halt>
-    requires sound { IsSound state.old }
-    requires serves { phase_of state.old.phase ≡ serving }
-    requires drawn { state.old.table.drawn < 2 ^ 62 }
+) -> Result<Taken, KeepFault>
+    requires { MayServe state.old }
     ensures takes { Takes (λ kept. gets_lease (server_of (beside_of state.old) kept) caller.who caller.xid wish.want (find_file wish.file kept.files)) result (K.content keeper.old) (K.content keeper.new) (K.faults keeper.old) (K.faults keeper.new) (beside_of state.old) (beside_of state.new) out.old out.new log.old log.new }
-    ensures sound { IsSound state.new }
-    ensures drawn { state.new.table.drawn ≤ state.old.table.drawn + 1 }
+    ensures stays { StaysSound state.old state.new }
     ensures follows { K.follows keeper.old keeper.new }
     ensures leaves { LeavesOne (K.content keeper.old) (K.leaves keeper.old keeper.new) }
 {
-    match finding::file(keeper, wish.file)? {
+    match keeper.file(wish.file)? {
         None => refuse(alloc, caller.who, caller.xid, Refusal::Stale, out),
         Some(row) => {
             let question = question(state, caller.who, &row, Some(wish.want));
@@ -292,23 +261,9 @@ pub(crate) fn get_lease<K: Keeper>(
     }
 }
 
-/// Reads a block of a file.
-fn find_block<K: Keeper>(keeper: &mut K, file: FileId, block: BlockNo) -> Result<ReadOut, Halt>
-    ensures told { ForSome (K.content keeper.old) (λ kept. IfOk result (λ out. out ≡ read_out block (find_file file kept.files))) }
-    ensures finds { Finds result (K.content keeper.old) (K.content keeper.new) (K.faults keeper.old) (K.faults keeper.new) }
-    ensures follows { K.follows keeper.old keeper.new }
-    ensures leaves { LeavesOne (K.content keeper.old) (K.leaves keeper.old keeper.new) }
-{
-    match read_block(keeper, file, block) {
-        Ok(out) => Ok(out),
-        Err(KeepFault::Failed) => Err(Halt::Fault),
-        Err(KeepFault::Memory) => Err(Halt::Memory),
-    }
-}
-
 /// Serves a block, where nobody is put off, and ends the reply, for which there is room. It takes no memory.
 #[tactic(auto, unfolding(nq_model::specs::ServerStep::serves, nq_model::specs::Server::with_table))]
-fn serve_in_room(
+fn serve(
     state: &mut State,
     question: &Question,
     found: Found,
@@ -320,9 +275,7 @@ fn serve_in_room(
     requires room { 4164 ≤ begun.room }
     requires datagram { 1 ≤ out.old.spare }
     requires lines { 2 ≤ log.old.spare }
-    ensures makes { (kept : Kept) → MakesBeside (serves (server_of (beside_of state.old) kept) question.now.who begun.xid (next_of out.old) found.call (file_asked question.now) found.block found.body (asked_of state.old.table question.now).table (grant_of (asked_of state.old.table question.now).asked)) (beside_of state.new) out.old out.new log.old log.new }
-    ensures sound { IsSound state.new }
-    ensures drawn { state.new.table.drawn ≤ state.old.table.drawn + 1 }
+    ensures { (kept : Kept) → MakesBeside (serves (server_of (beside_of state.old) kept) question.now.who begun.xid (next_of out.old) found.call (file_asked question.now) found.block found.body (asked_of state.old.table question.now).table (grant_of (asked_of state.old.table question.now).asked)) (beside_of state.new) out.old out.new log.old log.new }
 {
     let Found { call, block, body } = found;
     let value = body.value();
@@ -348,31 +301,6 @@ fn serve_in_room(
     log.push(entry).unwrap();
 }
 
-/// Answers a READ, where nobody is put off.
-#[tactic(auto, unfolding(nq_model::specs::ServerStep::serves))]
-fn serve(
-    alloc: Global,
-    state: &mut State,
-    question: &Question,
-    xid: u32,
-    found: Found,
-    out: &mut Outbox,
-    log: &mut Journal,
-) -> Result<Taken, Halt>
-    requires may { MayAsk state.old question.now }
-    ensures does { (kept : Kept) → Does (serves (server_of (beside_of state.old) kept) question.now.who xid (next_of out.old) found.call (file_asked question.now) found.block found.body (asked_of state.old.table question.now).table (grant_of (asked_of state.old.table question.now).asked)) result (beside_of state.old) (beside_of state.new) out.old out.new log.old log.new }
-    ensures sound { IsSound state.new }
-    ensures drawn { state.new.table.drawn ≤ state.old.table.drawn + 1 }
-{
-    match make_room(alloc, xid, LONGEST_RESULTS, 2, out, log) {
-        Err(NoMemory::Memory) => Err(Halt::Memory),
-        Ok(begun) => {
-            serve_in_room(state, question, found, begun, out, log);
-            Ok(Taken::Done)
-        }
-    }
-}
-
 /// Answers a READ of a block that is there.
 fn read_found(
     alloc: Global,
@@ -382,15 +310,19 @@ fn read_found(
     found: Found,
     out: &mut Outbox,
     log: &mut Journal,
-) -> Result<Taken, Halt>
-    requires may { MayAsk state.old question.now }
-    ensures does { (kept : Kept) → Does (read_asked (server_of (beside_of state.old) kept) question.now.who xid (next_of out.old) found.call (file_asked question.now) found.block found.body question.now.access (asked_of state.old.table question.now).table (asked_of state.old.table question.now).asked) result (beside_of state.old) (beside_of state.new) out.old out.new log.old log.new }
-    ensures sound { IsSound state.new }
-    ensures drawn { state.new.table.drawn ≤ state.old.table.drawn + 1 }
+) -> Result<Taken, KeepFault>
+    requires { MayAsk state.old question.now }
+    ensures { (kept : Kept) → Does (read_asked (server_of (beside_of state.old) kept) question.now.who xid (next_of out.old) found.call (file_asked question.now) found.block found.body question.now.access (asked_of state.old.table question.now).table (asked_of state.old.table question.now).asked) result (beside_of state.old) (beside_of state.new) out.old out.new log.old log.new }
 {
     match to_tell(&state.table, question) {
         Some(to) => later(alloc, state, question, to, xid, out),
-        None => serve(alloc, state, question, xid, found, out, log),
+        None => match make_room(alloc, xid, LONGEST_RESULTS, 2, out, log) {
+            Err(NoMemory::Memory) => Err(KeepFault::Memory),
+            Ok(begun) => {
+                serve(state, question, found, begun, out, log);
+                Ok(Taken::Done)
+            }
+        },
     }
 }
 
@@ -403,18 +335,15 @@ pub(crate) fn read<K: Keeper>(
     wish: &Wish,
     out: &mut Outbox,
     log: &mut Journal,
-) -> Result<Taken, Halt>
-    requires sound { IsSound state.old }
-    requires serves { phase_of state.old.phase ≡ serving }
-    requires drawn { state.old.table.drawn < 2 ^ 62 }
+) -> Result<Taken, KeepFault>
+    requires { MayServe state.old }
     ensures takes { Takes (λ kept. reads (server_of (beside_of state.old) kept) caller.who caller.xid (next_of out.old) wish.now.call wish.now.block wish.now.want (find_file wish.now.file kept.files)) result (K.content keeper.old) (K.content keeper.new) (K.faults keeper.old) (K.faults keeper.new) (beside_of state.old) (beside_of state.new) out.old out.new log.old log.new }
-    ensures sound { IsSound state.new }
-    ensures drawn { state.new.table.drawn ≤ state.old.table.drawn + 1 }
+    ensures stays { StaysSound state.old state.new }
     ensures follows { K.follows keeper.old keeper.new }
     ensures leaves { LeavesOne (K.content keeper.old) (K.leaves keeper.old keeper.new) }
 {
     let who = caller.who;
-    match find_block(keeper, wish.file, wish.block)? {
+    match read_block(keeper, wish.file, wish.block)? {
         ReadOut::Stale => refuse(alloc, who, caller.xid, Refusal::Stale, out),
         ReadOut::Invalid => refuse(alloc, who, caller.xid, Refusal::Inval, out),
         ReadOut::Got { row, body } => {

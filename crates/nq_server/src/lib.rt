@@ -8,7 +8,6 @@
 mod aside;
 mod booting;
 mod deciding;
-mod finding;
 mod gates;
 mod leasing;
 mod looking;

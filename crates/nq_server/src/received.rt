@@ -3,7 +3,7 @@
 use nq_rpc::RpcFault;
 
 /// Why a datagram was dropped.
-#[derive(Clone, Copy, PartialEq, Eq, Drop)]
+#[derive(Clone, Copy, PartialEq, Drop)]
 pub enum Reason {
     /// It has more than 4400 bytes.
     TooLong,
@@ -22,7 +22,7 @@ pub enum Reason {
 }
 
 /// How an event was taken.
-#[derive(Clone, Copy, PartialEq, Eq)]
+#[derive(Clone, Copy, PartialEq)]
 pub enum Received {
     /// It was taken in.
     Done,
@@ -37,19 +37,10 @@ pub enum Received {
 }
 
 /// How an event was taken in.
-#[derive(Clone, Copy, PartialEq, Eq)]
+#[derive(Clone, Copy)]
 pub(crate) enum Taken {
     /// It was answered, or needs no answer.
     Done,
     /// The datagram was dropped.
     Dropped(Reason),
-}
-
-/// Why an event was not taken in.
-#[derive(Clone, Copy, PartialEq, Eq)]
-pub(crate) enum Halt {
-    /// The keeper failed.
-    Fault,
-    /// Memory was wanting.
-    Memory,
 }

@@ -13,9 +13,10 @@ ghost use Rattle.nq_server.specs.Answering.{IsSilent};
 ghost use Rattle.nq_server.specs.Stepping.{Says, Sends};
 ghost use Rattle.nq_wire.specs.Reply.{results_len};
 
-use crate::received::{Halt, Taken};
+use crate::received::Taken;
 use nq_base::{FileId, Host, NoMemory, Party, Refusal, Reply, Who};
 use nq_datagrams::{BegunReply, ErrorReply, error_bytes, reply_bytes};
+use nq_keeper::KeepFault;
 use nq_lease::Table;
 use nq_lease::evict::{NoticeTo, notices};
 use nq_wire::Outbox;
@@ -52,12 +53,12 @@ pub(crate) fn answer(
     xid: u32,
     said: &Reply,
     out: &mut Outbox,
-) -> Result<Taken, Halt>
+) -> Result<Taken, KeepFault>
     ensures { Says (to_host host (reply_to xid said.now)) result out.old out.new }
 {
     match reply(alloc, host, xid, said, out) {
         Ok(()) => Ok(Taken::Done),
-        Err(NoMemory::Memory) => Err(Halt::Memory),
+        Err(NoMemory::Memory) => Err(KeepFault::Memory),
     }
 }
 
@@ -68,7 +69,7 @@ pub(crate) fn refuse(
     xid: u32,
     status: Refusal,
     out: &mut Outbox,
-) -> Result<Taken, Halt>
+) -> Result<Taken, KeepFault>
     ensures { Says (to_host who.host (reply_to xid (Answer.Refused who.inc status))) result out.old out.new }
 {
     let said = Reply::Refused {
@@ -85,12 +86,12 @@ pub(crate) fn say_error(
     xid: u32,
     said: ErrorReply,
     out: &mut Outbox,
-) -> Result<Taken, Halt>
+) -> Result<Taken, KeepFault>
     ensures { Says (to_host host (error_to xid (told_error said))) result out.old out.new }
 {
     match push_error(alloc, host, xid, said, out) {
         Ok(()) => Ok(Taken::Done),
-        Err(NoMemory::Memory) => Err(Halt::Memory),
+        Err(NoMemory::Memory) => Err(KeepFault::Memory),
     }
 }
 

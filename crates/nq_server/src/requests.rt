@@ -1,6 +1,6 @@
 //! Requests to a server.
 
-ghost use Rattle.std.specs.Prelude.{◌≡◌, ◌<◌, ◌≤◌, ◌+◌, ◌^◌, ◌==◌, ◌&&◌, ℕ, false, nat_lt};
+ghost use Rattle.std.specs.Prelude.{◌≡◌, ◌<◌, ◌^◌, ◌==◌, ◌&&◌, ℕ, false, nat_lt};
 ghost use Rattle.nq_base.specs.declared.HostRow.{HostRow as Line};
 ghost use Rattle.nq_base.specs.Entries.{EntryList};
 ghost use Rattle.nq_model.specs.Decided.{is_decided_once as decided_once};
@@ -11,19 +11,18 @@ ghost use Rattle.nq_model.specs.Server.{serving};
 ghost use Rattle.nq_model.specs.Kept.{Kept, host_row};
 ghost use Rattle.nq_keeper.specs.Keeping.{LeavesOne};
 ghost use Rattle.nq_server.specs.Leasing.{Does};
-ghost use Rattle.nq_server.specs.Sound.{IsSound};
-ghost use Rattle.nq_server.specs.State.{Beside, beside_of, phase_of, server_of};
+ghost use Rattle.nq_server.specs.Sound.{IsSound, MayServe, StaysSound};
+ghost use Rattle.nq_server.specs.State.{Beside, beside_of, server_of};
 ghost use Rattle.nq_server.specs.Stepping.{LeavesStep, Takes, next_of};
 
 use crate::deciding::decide_once;
-use crate::finding;
 use crate::leasing::{LeaseWish, Wish, get_lease, read};
 use crate::looking::{get_attr, look_up};
-use crate::received::{Halt, Reason, Taken};
+use crate::received::{Reason, Taken};
 use crate::replying::{self, Caller, refuse};
 use crate::state::{Phase, State};
 use nq_base::{Host, HostRow, Journal, Refusal, Reply, Request, Who};
-use nq_keeper::Keeper;
+use nq_keeper::{KeepFault, Keeper};
 use nq_lease::evict::vacated;
 use nq_wire::Outbox;
 use std::alloc::Global;
@@ -69,7 +68,7 @@ fn not_attached(
     caller: Caller,
     request: &Request,
     out: &mut Outbox,
-) -> Result<Taken, Halt>
+) -> Result<Taken, KeepFault>
     ensures { (held : Beside) (kept : Kept) (log : EntryList) → Does (is_not_attached (server_of held kept) caller.who caller.xid request.now) result held held out.old out.new log log }
 {
     match request {
@@ -88,13 +87,10 @@ fn look<K: Keeper>(
     request: &Request,
     out: &mut Outbox,
     log: &mut Journal,
-) -> Result<Taken, Halt>
-    requires sound { IsSound state.old }
-    requires serves { phase_of state.old.phase ≡ serving }
-    requires drawn { state.old.table.drawn < 2 ^ 62 }
+) -> Result<Taken, KeepFault>
+    requires { MayServe state.old }
     ensures takes { Takes (λ kept. looks (server_of (beside_of state.old) kept) serving caller.who caller.xid (next_of out.old) request.now) result (K.content keeper.old) (K.content keeper.new) (K.faults keeper.old) (K.faults keeper.new) (beside_of state.old) (beside_of state.new) out.old out.new log.old log.new }
-    ensures sound { IsSound state.new }
-    ensures drawn { state.new.table.drawn ≤ state.old.table.drawn + 1 }
+    ensures stays { StaysSound state.old state.new }
     ensures follows { K.follows keeper.old keeper.new }
     ensures leaves { LeavesOne (K.content keeper.old) (K.leaves keeper.old keeper.new) }
 {
@@ -144,13 +140,12 @@ fn perform<K: Keeper>(
     request: &Request,
     out: &mut Outbox,
     log: &mut Journal,
-) -> Result<Taken, Halt>
+) -> Result<Taken, KeepFault>
     requires sound { IsSound state.old }
     requires drawn { state.old.table.drawn < 2 ^ 62 }
     requires other { decided_once request.now ≡ false }
     ensures takes { (line : Kept → Line) → Takes (λ kept. performs (server_of (beside_of state.old) kept) caller.who caller.xid (next_of out.old) (line kept) request.now) result (K.content keeper.old) (K.content keeper.new) (K.faults keeper.old) (K.faults keeper.new) (beside_of state.old) (beside_of state.new) out.old out.new log.old log.new }
-    ensures sound { IsSound state.new }
-    ensures drawn { state.new.table.drawn ≤ state.old.table.drawn + 1 }
+    ensures stays { StaysSound state.old state.new }
     ensures follows { K.follows keeper.old keeper.new }
     ensures leaves { LeavesOne (K.content keeper.old) (K.leaves keeper.old keeper.new) }
 {
@@ -195,19 +190,18 @@ fn admit<K: Keeper>(
     request: &Request,
     out: &mut Outbox,
     log: &mut Journal,
-) -> Result<Taken, Halt>
+) -> Result<Taken, KeepFault>
     requires sound { IsSound state.old }
     requires drawn { state.old.table.drawn < 2 ^ 62 }
     requires few { caller.who.host < most_hosts }
     requires other { decided_once request.now ≡ false }
     ensures takes { Takes (λ kept. admits (server_of (beside_of state.old) kept) caller.who caller.xid (next_of out.old) request.now (host_row kept caller.who.host)) result (K.content keeper.old) (K.content keeper.new) (K.faults keeper.old) (K.faults keeper.new) (beside_of state.old) (beside_of state.new) out.old out.new log.old log.new }
-    ensures sound { IsSound state.new }
-    ensures drawn { state.new.table.drawn ≤ state.old.table.drawn + 1 }
+    ensures stays { StaysSound state.old state.new }
     ensures follows { K.follows keeper.old keeper.new }
     ensures leaves { LeavesOne (K.content keeper.old) (K.leaves keeper.old keeper.new) }
 {
     let who = caller.who;
-    let line = finding::host(keeper, who.host)?;
+    let line = keeper.host(who.host)?;
     if is_older(&who, &line) {
         return Ok(Taken::Dropped(Reason::OldIncarnation));
     }
@@ -252,12 +246,11 @@ pub(crate) fn answer<K: Keeper>(
     request: Request,
     out: &mut Outbox,
     log: &mut Journal,
-) -> Result<Taken, Halt>
+) -> Result<Taken, KeepFault>
     requires sound { IsSound state.old }
     requires drawn { state.old.table.drawn < 2 ^ 62 }
     ensures takes { Takes (λ kept. answer_request (server_of (beside_of state.old) kept) origin.host origin.xid (next_of out.old) request (asked_by request)) result (K.content keeper.old) (K.content keeper.new) (K.faults keeper.old) (K.faults keeper.new) (beside_of state.old) (beside_of state.new) out.old out.new log.old log.new }
-    ensures sound { IsSound state.new }
-    ensures drawn { state.new.table.drawn ≤ state.old.table.drawn + 1 }
+    ensures stays { StaysSound state.old state.new }
     ensures follows { K.follows keeper.old keeper.new }
     ensures leaves { LeavesStep (λ kept. answer_request (server_of (beside_of state.old) kept) origin.host origin.xid (next_of out.old) request (asked_by request)) (K.content keeper.old) (K.leaves keeper.old keeper.new) }
 {

@@ -1,7 +1,7 @@
 //! The server.
 
 ghost use Rattle.std.specs.Prelude.{◌≡◌, ◌<◌, ◌≤◌, ◌^◌, ◌↔◌, IfOk, IsTrue};
-ghost use Rattle.std.specs.Option.{ForSome, option_copied};
+ghost use Rattle.std.specs.Option.{ForSome};
 ghost use Rattle.nq_boot.specs.Booting.{LeavesThen};
 ghost use Rattle.nq_datagrams.specs.Incoming.{datagram_in};
 ghost use Rattle.nq_keeper.specs.Keeping.{LeavesOne, Reads};
@@ -11,13 +11,13 @@ ghost use Rattle.nq_model.specs.Profile.{most_hosts, most_taken_by_server};
 ghost use Rattle.nq_model.specs.Server.{serving};
 ghost use Rattle.nq_model.specs.ServerStep.{booted, receive as received, tick as ticked};
 ghost use Rattle.nq_server.specs.Booting.{after_fault};
-ghost use Rattle.nq_server.specs.Holding.{Boots, IsTaken, IsUntouched, Reboots, keeper_in, last_known};
+ghost use Rattle.nq_server.specs.Holding.{Boots, IsTaken, IsUntouched, Reboots, keeper_in};
 ghost use Rattle.nq_server.specs.State.{server_of};
 ghost use Rattle.nq_server.specs.Stepping.{LeavesStep, done_of, halted_of, next_of};
 
 use crate::booting::{begin, replace_state, state_after, tell_crash};
 use crate::reading::take;
-use crate::received::{Halt, Received, Taken};
+use crate::received::{Received, Taken};
 use crate::state::{Phase, State};
 use crate::ticks::tick;
 use nq_base::{FileId, FileRow, Host, Inc, Journal, Spare, Ticks};
@@ -85,12 +85,12 @@ fn done(taken: Taken) -> Received
 }
 
 /// Why an event was not taken in, for those who sent it.
-fn halted(halt: Halt) -> Received
-    ensures { result ≡ halted_of halt }
+fn halted(fault: KeepFault) -> Received
+    ensures { result ≡ halted_of fault }
 {
-    match halt {
-        Halt::Fault => Received::Fault,
-        Halt::Memory => Received::Memory,
+    match fault {
+        KeepFault::Failed => Received::Fault,
+        KeepFault::Memory => Received::Memory,
     }
 }
 
@@ -118,7 +118,7 @@ impl<K: Keeper> Server<K> {
         match begin(alloc, &mut keeper, longest, now) {
             Ok(begun) => Ok(Server {
                 keeper,
-                state: state_after(begun, None, longest, now),
+                state: state_after(begun, longest, now),
                 taken: 0,
                 room: Spare::none(),
             }),
@@ -163,7 +163,7 @@ impl<K: Keeper> Server<K> {
                 self.taken += 1;
                 done(taken)
             }
-            Err(halt) => halted(halt),
+            Err(fault) => halted(fault),
         }
     }
 
@@ -194,7 +194,7 @@ impl<K: Keeper> Server<K> {
                 self.taken += 1;
                 done(taken)
             }
-            Err(halt) => halted(halt),
+            Err(fault) => halted(fault),
         }
     }
 
@@ -268,17 +268,6 @@ impl<K: Keeper> Server<K> {
         ensures { IsTrue result ↔ (self.now.beside.phase ≡ serving) }
     {
         matches!(self.state.phase, Phase::Serving(_))
-    }
-
-    /// While the server recovers, the table with which it last served; None where it serves, or has not served yet. No answer
-    /// rests on it.
-    pub fn last(&self) -> Option<&Table>
-        ensures { option_copied result ≡ last_known self.now.beside.phase }
-    {
-        match &self.state.phase {
-            Phase::Serving(_) => None,
-            Phase::Recovering { last, .. } => last.as_ref(),
-        }
     }
 
     /// The row of the file with the least id above this one; None where there is none.

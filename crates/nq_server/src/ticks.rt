@@ -6,29 +6,19 @@ ghost use Rattle.nq_boot.specs.Booting.{LeavesThen, ended_at};
 ghost use Rattle.nq_model.specs.Profile.{shortest_term, longest_term};
 ghost use Rattle.nq_model.specs.Server.{serving};
 ghost use Rattle.nq_model.specs.ServerStep.{is_due, tick as ticked};
-ghost use Rattle.nq_server.specs.Sound.{IsSound};
+ghost use Rattle.nq_server.specs.Sound.{IsSound, StaysSound};
 ghost use Rattle.nq_server.specs.State.{beside_of, phase_of, server_of};
 ghost use Rattle.nq_server.specs.Stepping.{LeavesStep, Takes};
-ghost use Rattle.nq_server.specs.Ticking.{EndsFirst, LeavesEnded, OpensAt, at_tick_opened, fence_entries, halt_of, left_of};
+ghost use Rattle.nq_server.specs.Ticking.{EndsFirst, LeavesEnded, OpensAt, at_tick_opened, fence_entries, left_of};
 ghost use Rattle.nq_wire.specs.Outbox.{Datagrams};
 
-use crate::received::{Halt, Taken};
+use crate::received::Taken;
 use crate::state::{Phase, State};
 use nq_base::{Entry, Journal, Ticks};
 use nq_boot::{Finish, Recovering, Serving};
 use nq_keeper::{KeepFault, Keeper};
 use nq_lease::Table;
 use nq_lease::expire::{Fence, due, end_reading, end_writing};
-
-/// What a keeper's fault means for a step.
-pub(crate) fn halt_of(fault: KeepFault) -> Halt
-    ensures { result ≡ halt_of fault }
-{
-    match fault {
-        KeepFault::Failed => Halt::Fault,
-        KeepFault::Memory => Halt::Memory,
-    }
-}
 
 /// Ends the writing row that is due first, if one is and the revision of its file can rise.
 fn end_first<K: Keeper>(
@@ -129,27 +119,22 @@ fn end_leases<K: Keeper>(
     state: &mut State,
     now: Ticks,
     log: &mut Journal,
-) -> Result<Taken, Halt>
+) -> Result<Taken, KeepFault>
     requires serves { phase_of state.old.phase ≡ serving }
     requires room { 1 ≤ log.old.spare }
     requires sound { IsSound state.old }
     requires later { state.old.time ≤ now }
     requires early { now < 2 ^ 62 }
     ensures takes { (out : Datagrams) → Takes (λ kept. ticked (server_of (beside_of state.old) kept) now) result (K.content keeper.old) (K.content keeper.new) (K.faults keeper.old) (K.faults keeper.new) (beside_of state.old) (beside_of state.new) out out log.old log.new }
-    ensures sound { IsSound state.new }
-    ensures drawn { state.new.table.drawn ≡ state.old.table.drawn }
+    ensures stays { StaysSound state.old state.new }
     ensures follows { K.follows keeper.old keeper.new }
     ensures leaves { LeavesStep (λ kept. ticked (server_of (beside_of state.old) kept) now) (K.content keeper.old) (K.leaves keeper.old keeper.new) }
 {
-    match end_first(keeper, &mut state.table, now) {
-        Err(fault) => Err(halt_of(fault)),
-        Ok(fence) => {
-            end_reading(&mut state.table, now);
-            state.time = now;
-            tell_fence(fence, log);
-            Ok(Taken::Done)
-        }
-    }
+    let fence = end_first(keeper, &mut state.table, now)?;
+    end_reading(&mut state.table, now);
+    state.time = now;
+    tell_fence(fence, log);
+    Ok(Taken::Done)
 }
 
 /// Serves from now on, as the recovery has ended.
@@ -161,8 +146,7 @@ fn begin_serving(state: &mut State, opened: Opened, now: Ticks, log: &mut Journa
     requires early { now < 2 ^ 62 }
     ensures holds { beside_of state.new ≡ at_tick_opened (beside_of state.old) now }
     ensures entries { log.new.entries ≡ log.old.entries ++ opened.entry ∷ [] }
-    ensures sound { IsSound state.new }
-    ensures drawn { state.new.table.drawn ≡ state.old.table.drawn }
+    ensures stays { StaysSound state.old state.new }
 {
     let Opened { serving, entry } = opened;
     state.time = now;
@@ -176,26 +160,24 @@ pub(crate) fn tick<K: Keeper>(
     state: &mut State,
     now: Ticks,
     log: &mut Journal,
-) -> Result<Taken, Halt>
+) -> Result<Taken, KeepFault>
     requires room { 1 ≤ log.old.spare }
     requires sound { IsSound state.old }
     requires later { state.old.time ≤ now }
     requires early { now < 2 ^ 62 }
     ensures takes { (out : Datagrams) → Takes (λ kept. ticked (server_of (beside_of state.old) kept) now) result (K.content keeper.old) (K.content keeper.new) (K.faults keeper.old) (K.faults keeper.new) (beside_of state.old) (beside_of state.new) out out log.old log.new }
-    ensures sound { IsSound state.new }
-    ensures drawn { state.new.table.drawn ≡ state.old.table.drawn }
+    ensures stays { StaysSound state.old state.new }
     ensures follows { K.follows keeper.old keeper.new }
     ensures leaves { LeavesStep (λ kept. ticked (server_of (beside_of state.old) kept) now) (K.content keeper.old) (K.leaves keeper.old keeper.new) }
 {
     match &mut state.phase {
         Phase::Serving(_) => end_leases(keeper, state, now, log),
-        Phase::Recovering { recovery, .. } => match open(keeper, recovery, now) {
-            Err(fault) => Err(halt_of(fault)),
-            Ok(None) => {
+        Phase::Recovering { recovery, .. } => match open(keeper, recovery, now)? {
+            None => {
                 state.time = now;
                 Ok(Taken::Done)
             }
-            Ok(Some(opened)) => {
+            Some(opened) => {
                 begin_serving(state, opened, now, log);
                 Ok(Taken::Done)
             }

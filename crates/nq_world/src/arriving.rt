@@ -19,7 +19,7 @@ pub(crate) struct Arrival {
 }
 
 /// Why no packet arrives.
-#[derive(Clone, Copy, PartialEq, Eq)]
+#[derive(Clone, Copy)]
 pub(crate) enum Missing {
     /// It was not sent.
     NoPacket,

@@ -12,7 +12,7 @@ use nq_wire::Outbox;
 use std::alloc::Global;
 
 /// Why an event was not taken in.
-#[derive(Clone, Copy, PartialEq, Eq)]
+#[derive(Clone, Copy)]
 pub(crate) enum Halt {
     /// The keeper failed.
     Fault,

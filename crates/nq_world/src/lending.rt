@@ -101,14 +101,6 @@ impl<K: Keeper> World<K> {
         self.server.table().boot()
     }
 
-    /// The incarnation of a host that is there.
-    pub fn inc(&self, host: Host) -> Inc
-        requires { host < length self.now.clients }
-        ensures { IfSome (slice_get self.now.clients host) (λ c. result ≡ c.client.who.inc) }
-    {
-        self.client(host).inc()
-    }
-
     /// The term that clients want, in ticks.
     pub fn term(&self) -> u32
         ensures { result ≡ self.now.term }

@@ -16,7 +16,7 @@ use nq_wire::Outbox;
 use std::alloc::Global;
 
 /// Whose holders are asked to give their leases on a file up.
-#[derive(Clone, Copy, PartialEq, Eq)]
+#[derive(Clone, Copy)]
 pub enum NoticeTo {
     /// Those whose rows are in the way of what this host is about to do with the file.
     Others {

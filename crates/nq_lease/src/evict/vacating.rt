@@ -5,21 +5,13 @@ ghost use Rattle.nq_model.specs.ServerStep.{vacated_rows};
 ghost use Rattle.nq_model.specs.Table.{find_row, with_rows, same_tag};
 
 use crate::Table;
-use nq_base::{FileId, Host, RowKey, Tag, Who};
+use nq_base::{FileId, RowKey, Tag, Who};
 
 /// Whether two tags are one.
 fn is_same(tag: Tag, other: Tag) -> bool
     ensures { result ≡ same_tag tag other }
 {
     tag.boot == other.boot && tag.number == other.number
-}
-
-/// What the row of a file and a host is looked up by.
-fn key_of(file: FileId, host: Host) -> RowKey
-    ensures file { result.file ≡ file }
-    ensures host { result.host ≡ host }
-{
-    RowKey { file, host }
 }
 
 /// Drops the row of a file and a holder where the holder is this incarnation and the tag is the row's latest, and says
@@ -29,11 +21,12 @@ pub fn vacated(table: &mut Table, who: Who, file: FileId, tag: Tag) -> bool
     ensures table { table.new ≡ with_rows table.old (vacated_rows who file tag table.old.rows (find_row file who.host table.old.rows)) }
     ensures gone { IsTrue result ↔ IsSomeAnd (find_row file who.host table.old.rows) (λ row. (row.who.inc ≡ who.inc) × (row.tag ≡ tag)) }
 {
-    match table.row(key_of(file, who.host)) {
+    let host = who.host;
+    match table.row(RowKey { file, host }) {
         Some(row) => {
             let holds = row.who.inc == who.inc && is_same(row.tag, tag);
             if holds {
-                table.drop_row(key_of(file, who.host));
+                table.drop_row(RowKey { file, host });
             }
             holds
         }

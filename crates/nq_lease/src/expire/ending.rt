@@ -15,7 +15,7 @@ use nq_base::{Change, FileId, FileRow, Row, RowKey, Ticks, Who};
 use nq_keeper::{KeepFault, Keeper, can_rise, raised};
 
 /// A writing lease that ended in silence.
-#[derive(Clone, Copy, PartialEq, Eq)]
+#[derive(Clone, Copy)]
 pub struct Fence {
     /// Its holder.
     pub who: Who,

@@ -2,13 +2,14 @@
 
 ghost use Rattle.std.specs.Prelude.{◌≡◌, ◌+◌, ◌^◌, ◌<◌, ◌≤◌, Some, None, IsSome, length, false};
 ghost use Rattle.std.specs.Option.{ForSome};
-ghost use Rattle.nq_model.specs.Ask.{ask as asked_of, ask_freely as asked_freely, ask_for, put_off as told_to_wait, with_waiting, begin as begun, renew as renews, share_again as shares_again, granted as grants};
+ghost use Rattle.nq_model.specs.Ask.{ask as asked_of, ask_freely as asked_freely, ask_for, put_off as told_to_wait, with_waiting, begin as begun, share_again as shares_again, granted as grants};
 ghost use Rattle.nq_base.specs.declared.Asked.{Asked};
 ghost use Rattle.nq_model.specs.Profile.{most_rows};
 ghost use Rattle.nq_model.specs.Table.{after_draw, put_row, find_row, caches};
 
+use crate::Table;
+use crate::changes::MOST_ROWS;
 use crate::grant::{rows, scan};
-use crate::{MOST_ROWS, Table};
 use nq_base::{Asked, Clash, Question, Row, RowKey, Want};
 
 /// Clocks show times below this, in ticks.
@@ -80,24 +81,8 @@ fn share_again(table: &mut Table, question: &Question, own: &Row) -> Asked
     granted(table, question, &row, (until - time) as u32)
 }
 
-/// Cases 5 and 6 where there is room: a non-caching row where the file is shared, else one of the wanted kind.
-fn begin_in_room(table: &mut Table, question: &Question, want: &Want) -> Asked
-    requires drawn { table.old.drawn < 2 ^ 63 }
-    requires early { question.now.time < 2 ^ 62 }
-    requires room { length table.old.rows < most_rows }
-    ensures table { table.new ≡ (begun table.old question.now want.now).table }
-    ensures asked { result ≡ (begun table.old question.now want.now).asked }
-{
-    let term = rows::granted_term(question, want);
-    if scan::is_file_shared(table, question.file, question.who.host) {
-        let row = rows::sharing(table, question, term);
-        return granted(table, question, &row, term);
-    }
-    let row = rows::caching(table, question, want.mode, term);
-    granted(table, question, &row, term)
-}
-
-/// Cases 5 and 6: the asker has no row. It gets one, and none where the table is full.
+/// Cases 5 and 6: the asker has no row. It gets a non-caching one where the file is shared, else one of the wanted kind, and
+/// none where the table is full.
 #[tactic(auto, unfolding(nq_model::specs::Ask::no_lease))]
 fn begin(table: &mut Table, question: &Question, want: &Want) -> Asked
     requires drawn { table.old.drawn < 2 ^ 63 }
@@ -108,25 +93,17 @@ fn begin(table: &mut Table, question: &Question, want: &Want) -> Asked
     if table.len() >= MOST_ROWS {
         return Asked::NoLease;
     }
-    begin_in_room(table, question, want)
-}
-
-/// Case 7: the asker's own caching row is renewed.
-#[tactic(auto, unfolding(nq_model::specs::Ask::renewed_row))]
-fn renew(table: &mut Table, question: &Question, want: &Want, own: &Row) -> Asked
-    requires drawn { table.old.drawn < 2 ^ 63 }
-    requires early { question.now.time < 2 ^ 62 }
-    requires there { find_row own.now.file own.now.who.host table.old.rows ≡ Some own.now }
-    ensures table { table.new ≡ (renews table.old question.now want.now own.now).table }
-    ensures asked { result ≡ (renews table.old question.now want.now own.now).asked }
-{
     let term = rows::granted_term(question, want);
-    let row = rows::renewed(table, question, own, want.mode, term);
+    if scan::is_file_shared(table, question.file, question.who.host) {
+        let row = rows::sharing(table, question, term);
+        return granted(table, question, &row, term);
+    }
+    let row = rows::caching(table, question, want.mode, term);
     granted(table, question, &row, term)
 }
 
 /// Cases 3, 4 and 7: the asker has a row of its own, which is to be given up, is non-caching, or is renewed.
-#[tactic(auto, unfolding(nq_model::specs::Ask::put_off_by_own))]
+#[tactic(auto, unfolding(nq_model::specs::Ask::put_off_by_own, nq_model::specs::Ask::renewed_row))]
 fn go_on(table: &mut Table, question: &Question, want: &Want, own: &Row) -> Asked
     requires drawn { table.old.drawn < 2 ^ 63 }
     requires early { question.now.time < 2 ^ 62 }
@@ -143,7 +120,9 @@ fn go_on(table: &mut Table, question: &Question, want: &Want, own: &Row) -> Aske
         });
     }
     if scan::may_cache(own.mode) {
-        return renew(table, question, want, own);
+        let term = rows::granted_term(question, want);
+        let row = rows::renewed(table, question, own, want.mode, term);
+        return granted(table, question, &row, term);
     }
     share_again(table, question, own)
 }
@@ -165,24 +144,6 @@ fn ask_freely(table: &mut Table, question: &Question, own: &Option<Row>) -> Aske
     }
 }
 
-/// All cases, at a time that a clock shows.
-fn ask_in_time(table: &mut Table, question: &Question) -> Asked
-    requires drawn { table.old.drawn < 2 ^ 63 }
-    requires early { question.now.time < 2 ^ 62 }
-    requires shared { ForSome (find_row question.now.file question.now.who.host table.old.rows) (λ row. caches row.mode ≡ false → (question.now.time < row.until) × (row.until < question.now.time + 2 ^ 32)) }
-    ensures table { table.new ≡ (asked_of table.old question.now).table }
-    ensures asked { result ≡ (asked_of table.old question.now).asked }
-{
-    let own = table.row(RowKey {
-        file: question.file,
-        host: question.who.host,
-    });
-    match scan::first_in_the_way(table, question.file, question.who.host, question.access) {
-        Some(row) => put_off(table, question, row, &own),
-        None => ask_freely(table, question, &own),
-    }
-}
-
 /// Asks the table for a host that is about to read or change a file, and that may want a lease on it (Gray and Cheriton
 /// 1989, Macklem 1994). Where a row of another host is in the way, such rows are marked as evicting and the asker is put
 /// off, with a waiting row if it wants a lease. It takes no memory.
@@ -199,5 +160,12 @@ pub fn ask(table: &mut Table, question: &Question) -> Asked
     if question.time.0 >= END_OF_CLOCKS {
         return Asked::NoLease;
     }
-    ask_in_time(table, question)
+    let own = table.row(RowKey {
+        file: question.file,
+        host: question.who.host,
+    });
+    match scan::first_in_the_way(table, question.file, question.who.host, question.access) {
+        Some(row) => put_off(table, question, row, &own),
+        None => ask_freely(table, question, &own),
+    }
 }

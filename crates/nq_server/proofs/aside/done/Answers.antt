@@ -1,4 +1,4 @@
-use Rattle.std.proofs.Common.{Option, refl, sym, ap, subst, ◌∙◌}
+use Rattle.std.proofs.Common.{◌≡◌, Option, refl, sym, ap, subst, ◌∙◌, arith}
 use Rattle.nq_boot.specs.Recovery.{Recovery}
 use Rattle.nq_model.specs.Table.{with_rows}
 use Rattle.nq_server.proofs.DecidedSteps.{serving-runs, does-serving, does-recovering, recovery-keeps, of-recovering}
@@ -8,19 +8,20 @@ use Rattle.nq_server.specs.declared.state.Phase.{Phase}
 use Rattle.nq_server.specs.State.{beside_of, phase_of, server_of}
 use Rattle.nq_server.proofs.aside.done.Goals as goal
 
-pub returns-in-Serving-clause-sound : goal.returns-in-Serving-clause-sound
+pub returns-in-Serving-clause-stays : goal.returns-in-Serving-clause-stays
 unfolding with_rows
-returns-in-Serving-clause-sound c = record {
-  early = c.requires.sound.early;
-  long = c.requires.sound.long;
-  short = c.requires.sound.short;
-  run = subst (λ t. RowsRun c.args.state.now.time t.rows) (sym c.done_serving.ensures.table) (serving-runs c.args.state.now.time c.args.state.now.time c.args.who c.args.request.now c.args.state.now.table.rows c.requires.sound.run);
-  of_boot = of-serving _ _ _ (ap phase_of c.in-Serving.is);
-}
-
-pub returns-in-Serving-clause-drawn : goal.returns-in-Serving-clause-drawn
-unfolding with_rows
-returns-in-Serving-clause-drawn c = ap (λ t. t.drawn) c.done_serving.ensures.table
+returns-in-Serving-clause-stays c =
+    let same : c.done_serving.new.table.drawn ≡ c.args.state.now.table.drawn = ap (λ t. t.drawn) c.done_serving.ensures.table in
+    record {
+      sound = record {
+        early = c.requires.sound.early;
+        long = c.requires.sound.long;
+        short = c.requires.sound.short;
+        run = subst (λ t. RowsRun c.args.state.now.time t.rows) (sym c.done_serving.ensures.table) (serving-runs c.args.state.now.time c.args.state.now.time c.args.who c.args.request.now c.args.state.now.table.rows c.requires.sound.run);
+        of_boot = of-serving _ _ _ (ap phase_of c.in-Serving.is);
+      };
+      drawn = omega arith;
+    }
 
 pub returns-in-Serving-clause-does : goal.returns-in-Serving-clause-does
 returns-in-Serving-clause-does c =
@@ -29,15 +30,18 @@ returns-in-Serving-clause-does c =
     (ap phase_of c.in-Serving.is)
     is c.done_serving.ensures.table refl refl refl refl c.done_serving.ensures.entries
 
-pub returns-in-Recovering-Some-default-clause-sound : goal.returns-in-Recovering-Some-default-clause-sound
-returns-in-Recovering-Some-default-clause-sound c =
+pub returns-in-Recovering-Some-default-clause-stays : goal.returns-in-Recovering-Some-default-clause-stays
+returns-in-Recovering-Some-default-clause-stays c =
     let old = of-recovering c.args.state.now.longest c.args.state.now.phase c.args.state.now.table.rows c.in-Recovering-Some-default.recovery c.in-Recovering-Some-default.last (c.in-Recovering-Some-default.is ∙ ap (λ (r : Option Recovery). Phase.Recovering r c.in-Recovering-Some-default.last) c.in-Recovering-Some-default.recovery-is) c.requires.sound.of_boot in
     record {
-      early = c.requires.sound.early;
-      long = c.requires.sound.long;
-      short = c.requires.sound.short;
-      run = c.requires.sound.run;
-      of_boot = (ap (λ x. x.longest) c.done_recovering.ensures.recovery ∙ recovery-keeps c.args.request.now c.args.state.now.time c.in-Recovering-Some-default.recovery ∙ old.0, old.1);
+      sound = record {
+        early = c.requires.sound.early;
+        long = c.requires.sound.long;
+        short = c.requires.sound.short;
+        run = c.requires.sound.run;
+        of_boot = (ap (λ x. x.longest) c.done_recovering.ensures.recovery ∙ recovery-keeps c.args.request.now c.args.state.now.time c.in-Recovering-Some-default.recovery ∙ old.0, old.1);
+      };
+      drawn = omega arith;
     }
 
 pub returns-in-Recovering-Some-default-clause-does : goal.returns-in-Recovering-Some-default-clause-does

@@ -17,8 +17,14 @@ returns-in_err-started-clause-leaves g c =
     λ kept told found left.
     two-of found kept (booted kept c.args.longest) _ _ (g.met.K.Keeper.parts _ c.heads.new.self _ found c.heads.ensures.follows c.start.ensures.follows left) (c.heads.ensures.leaves kept told found) (c.start.ensures.leaves kept (c.in-Ok.ensures.reads.0 ∙ told) found)
 
-pub returns-clause-empty : goal.returns-clause-empty
-returns-clause-empty g c = own-boot c.in-Ok-new.table (c.in-Ok.heads.boot + 1) c.in-Ok-new.ensures
+pub returns-clause-fit : goal.returns-clause-fit
+returns-clause-fit g c = record {
+  long = c.requires.long;
+  short = c.requires.short;
+  early = c.requires.now;
+  term = c.in_ok-started.ensures.term;
+  empty = own-boot c.in-Ok-new.table (c.in-Ok.heads.boot + 1) c.in-Ok-new.ensures;
+}
 
 pub returns-clause-leaves : goal.returns-clause-leaves
 returns-clause-leaves g c =

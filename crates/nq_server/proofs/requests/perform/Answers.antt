@@ -10,24 +10,29 @@ use Rattle.nq_server.proofs.VacatedRows.{vacated-run, vacated-of-boot}
 use Rattle.nq_server.specs.Sound.{RowsRun, IsOfBoot}
 use Rattle.nq_server.proofs.requests.perform.Goals as goal
 
-pub returns-in-Vacated-default-clause-sound : goal.returns-in-Vacated-default-clause-sound
+pub returns-in-Vacated-default-clause-stays : goal.returns-in-Vacated-default-clause-stays
 unfolding with_rows
-returns-in-Vacated-default-clause-sound g c =
+returns-in-Vacated-default-clause-stays g c =
     let rows = c.args.state.now.table.rows in
     let own = find_row c.in-Vacated-default.file c.args.caller.who.host c.args.state.now.table.rows in
+    let same : c.vacated.new.table.drawn ≡ c.args.state.now.table.drawn = ap (λ t. t.drawn) c.vacated.ensures.table in
     record {
-      early = c.requires.sound.early;
-      long = c.requires.sound.long;
-      short = c.requires.sound.short;
-      run = subst (λ t. RowsRun c.args.state.now.time t.rows) (sym c.vacated.ensures.table) (vacated-run c.args.state.now.time c.args.caller.who c.in-Vacated-default.file c.in-Vacated-default.tag rows own c.requires.sound.run);
-      of_boot = subst (λ t. IsOfBoot c.args.state.now.longest c.args.state.now.phase t.rows) (sym c.vacated.ensures.table) (vacated-of-boot c.args.state.now.longest c.args.state.now.phase c.args.caller.who c.in-Vacated-default.file c.in-Vacated-default.tag rows own c.requires.sound.of_boot);
+      sound = record {
+        early = c.requires.sound.early;
+        long = c.requires.sound.long;
+        short = c.requires.sound.short;
+        run = subst (λ t. RowsRun c.args.state.now.time t.rows) (sym c.vacated.ensures.table) (vacated-run c.args.state.now.time c.args.caller.who c.in-Vacated-default.file c.in-Vacated-default.tag rows own c.requires.sound.run);
+        of_boot = subst (λ t. IsOfBoot c.args.state.now.longest c.args.state.now.phase t.rows) (sym c.vacated.ensures.table) (vacated-of-boot c.args.state.now.longest c.args.state.now.phase c.args.caller.who c.in-Vacated-default.file c.in-Vacated-default.tag rows own c.requires.sound.of_boot);
+      };
+      drawn = omega arith;
     }
 
-pub returns-in-Vacated-default-clause-drawn : goal.returns-in-Vacated-default-clause-drawn
-unfolding with_rows
-returns-in-Vacated-default-clause-drawn g c =
-    let e : c.vacated.new.table.drawn ≡ c.args.state.now.table.drawn = ap (λ t. t.drawn) c.vacated.ensures.table in
-    omega arith
+pub look-requires : goal.look-requires
+look-requires g c = record {
+  sound = c.requires.sound;
+  serves = ap phase_of c.in_default-Serving.is-1;
+  drawn = c.requires.drawn;
+}
 
 pub returns-in_default-Serving-clause-takes : goal.returns-in_default-Serving-clause-takes
 returns-in_default-Serving-clause-takes g c =

@@ -52,7 +52,7 @@ returns-in-Err-clause-takes g c =
     c.args.log.now
     c.take.new.log
     c.halted.result
-    c.in-Err.halt
+    c.in-Err.fault
     c.halted.ensures
     refl
     c.in-Err.ensures.takes)
