@@ -95,11 +95,7 @@ fn block_words(alloc: Global, entry: &Entry) -> Result<String, NoMemory> {
             } else {
                 "has #:# = #"
             };
-            filled(
-                alloc,
-                form,
-                &[file.0 as u64, block.0 as u64, *value as u64],
-            )
+            filled(alloc, form, &[file.0 as u64, block.0 as u64, *value as u64])
         }
         _ => Ok(String::new(alloc)),
     }
@@ -214,11 +210,6 @@ fn lost_words(alloc: Global, spans: &Spans) -> Result<String, NoMemory> {
     } else {
         "answer lost #:#-#"
     };
-    let numbers = [
-        span.block.0 as u64,
-        span.first.0,
-        span.last.0,
-        more as u64,
-    ];
+    let numbers = [span.block.0 as u64, span.first.0, span.last.0, more as u64];
     filled(alloc, form, &numbers)
 }
