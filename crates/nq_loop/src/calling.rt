@@ -72,17 +72,13 @@ fn begin_call<K: Keeper, L: Link>(
     let hosts = state.hosts();
     let begun = state.begun(Host(host));
     match call_behind(hosts, host, begun) {
-        Some(call) => give(
-            alloc,
-            world,
-            links,
-            state,
-            ran,
-            Event::Call {
+        Some(call) => {
+            let event = Event::Call {
                 host: Host(host),
                 call,
-            },
-        ),
+            };
+            give(alloc, world, links, state, ran, &event)
+        }
         None => Ok(false),
     }
 }

@@ -168,7 +168,10 @@ fn take_in<K: Keeper, L: Link>(
     ensures follows { K.follows world.old.server.keeper world.new.server.keeper }
 {
     match packet_of(alloc, world.packets(), state, letter) {
-        Ok(Some(number)) => give(alloc, world, links, state, ran, Event::Deliver(number)),
+        Ok(Some(number)) => {
+            let event = Event::Deliver(number);
+            give(alloc, world, links, state, ran, &event)
+        }
         Ok(None) => Ok(true),
         Err(_) => Err(Halt::Memory),
     }

@@ -70,10 +70,10 @@ fn give_round<K: Keeper, L: Link>(
     ensures follows { K.follows world.old.server.keeper world.new.server.keeper }
 {
     match tick_hosts(alloc, world, links, state, ran) {
-        Ok(ticked) => behind(
-            ticked,
-            give(alloc, world, links, state, ran, Event::ServerTick),
-        ),
+        Ok(ticked) => {
+            let tick = Event::ServerTick;
+            behind(ticked, give(alloc, world, links, state, ran, &tick))
+        }
         Err(why) => Err(why),
     }
 }
@@ -109,7 +109,7 @@ fn tick_hosts<K: Keeper, L: Link>(
     let mut any = false;
     for host in 0..state.hosts() {
         let tick = Event::ClientTick(Host(host));
-        match give(alloc, world, links, state, ran, tick) {
+        match give(alloc, world, links, state, ran, &tick) {
             Ok(more) => any = either(any, more),
             Err(why) => return Err(why),
         }
