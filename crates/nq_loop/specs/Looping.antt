@@ -11,6 +11,7 @@ use Rattle.nq_loop.specs.Counting.{begun_in}
 use Rattle.nq_loop.specs.Matching.{CountsAs}
 use Rattle.nq_loop.specs.Sending.{SendsAll, place_of}
 use Rattle.nq_loop.specs.Steps.{MakesSteps, each_below}
+use Rattle.nq_loop.specs.declared.turns.Deed.{Deed}
 use Rattle.nq_loop.specs.declared.turns.Halt.{Halt}
 use Rattle.nq_loop.specs.declared.turns.LoopTurn.{LoopTurn}
 use Rattle.nq_model.specs.Client.{Client}
@@ -159,6 +160,12 @@ pub data Step : Type 0 where
   given : Event → Step
   call : (host : ℕ) → Step
   receive : Party → Step
+
+-- the step of a host by what each host does
+abbrev pub step_of : Deed → (host : ℕ) → Step
+step_of Deed.Tick host = given (Event.ClientTick host)
+step_of Deed.Call host = call host
+step_of Deed.Receive host = receive (Party.Client host)
 
 -- a step was made, and ended with whether it moved anything, or with why the turn stops
 abbrev pub Makes : Head → Step → Result Bool Halt → (at after : Moment) → Type 0

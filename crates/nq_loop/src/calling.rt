@@ -3,12 +3,11 @@
 ghost use Rattle.std.specs.Prelude.{◌≡◌, ◌<◌, ◌≤◌, ◌∷◌, [], ℕ, List, length, slice_get, IfSome};
 ghost use Rattle.nq_base.specs.declared.Event.{Event};
 ghost use Rattle.nq_loop.specs.Holding.{IsLoopCall, IsLooping, Keeps, Loops, loop_of};
-ghost use Rattle.nq_loop.specs.Looping.{Step, call_behind, call_steps, is_busy};
+ghost use Rattle.nq_loop.specs.Looping.{Step, call_behind, is_busy};
 ghost use Rattle.nq_model.specs.World.{Head, run};
 ghost use Rattle.nq_world.specs.Playing.{Plays};
 
 use crate::giving::give;
-use crate::rounds::either;
 use crate::state::LoopState;
 use crate::turns::Halt;
 use nq_base::{Block, BlockNo, Call, Event, FileId, Host};
@@ -18,36 +17,8 @@ use nq_script::Schedule;
 use nq_world::World;
 use std::alloc::Global;
 
-/// Begins, in order of the hosts, the next call of each that has a call left and none under way; answers whether one began.
-pub(crate) fn begin_calls<K: Keeper, L: Link>(
-    alloc: Global,
-    world: &mut World<K>,
-    links: &mut [L],
-    state: &mut LoopState,
-    ran: &mut Schedule,
-) -> Result<bool, Halt>
-    requires hosts { length world.old.clients ≡ length state.old.begun }
-    requires few { length state.old.begun ≤ 64 }
-    ensures loops { (head : Head) → head.hosts ≡ length state.old.begun
-        → IsLooping head (loop_of K.content L.sent L.waiting L.faults L.receives world.old state.old ran.old links.old)
-        → Loops head (call_steps head.hosts) result (loop_of K.content L.sent L.waiting L.faults L.receives world.old state.old ran.old links.old)
-        (loop_of K.content L.sent L.waiting L.faults L.receives world.new state.new ran.new links.new) }
-    ensures keeps { Keeps result (K.faults world.old.server.keeper) (K.faults world.new.server.keeper)
-        (length world.old.clients) (length world.new.clients) (length state.old.begun) (length state.new.begun) }
-    ensures follows { K.follows world.old.server.keeper world.new.server.keeper }
-{
-    let mut any = false;
-    for host in 0..state.hosts() {
-        match begin_call(alloc, world, links, state, ran, host) {
-            Ok(more) => any = either(any, more),
-            Err(why) => return Err(why),
-        }
-    }
-    Ok(any)
-}
-
 /// Begins the next call of a host, if it has one left and none under way; answers whether it began.
-fn begin_call<K: Keeper, L: Link>(
+pub(crate) fn begin_call<K: Keeper, L: Link>(
     alloc: Global,
     world: &mut World<K>,
     links: &mut [L],
@@ -72,17 +43,13 @@ fn begin_call<K: Keeper, L: Link>(
     let hosts = state.hosts();
     let begun = state.begun(Host(host));
     match call_behind(hosts, host, begun) {
-        Some(call) => give(
-            alloc,
-            world,
-            links,
-            state,
-            ran,
-            Event::Call {
+        Some(call) => {
+            let event = Event::Call {
                 host: Host(host),
                 call,
-            },
-        ),
+            };
+            give(alloc, world, links, state, ran, &event)
+        }
         None => Ok(false),
     }
 }

@@ -26,28 +26,6 @@ pub(crate) fn give<K: Keeper, L: Link>(
     links: &mut [L],
     state: &mut LoopState,
     ran: &mut Schedule,
-    event: Event,
-) -> Result<bool, Halt>
-    requires hosts { length world.old.clients ≡ length state.old.begun }
-    requires looped { IsLooped (length state.old.begun) event }
-    ensures gives { (head : Head) → head.hosts ≡ length state.old.begun
-        → IsLooping head (loop_of K.content L.sent L.waiting L.faults L.receives world.old state.old ran.old links.old)
-        → GivesTo head event result (loop_of K.content L.sent L.waiting L.faults L.receives world.old state.old ran.old links.old)
-        (loop_of K.content L.sent L.waiting L.faults L.receives world.new state.new ran.new links.new) }
-    ensures keeps { Keeps result (K.faults world.old.server.keeper) (K.faults world.new.server.keeper)
-        (length world.old.clients) (length world.new.clients) (length state.old.begun) (length state.new.begun) }
-    ensures follows { K.follows world.old.server.keeper world.new.server.keeper }
-{
-    give_event(alloc, world, links, state, ran, &event)
-}
-
-/// Gives an event that is lent to the world, and keeps it where the world took it in.
-fn give_event<K: Keeper, L: Link>(
-    alloc: Global,
-    world: &mut World<K>,
-    links: &mut [L],
-    state: &mut LoopState,
-    ran: &mut Schedule,
     event: &Event,
 ) -> Result<bool, Halt>
     requires hosts { length world.old.clients ≡ length state.old.begun }

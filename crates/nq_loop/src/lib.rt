@@ -6,6 +6,7 @@
 
 mod calling;
 mod counts;
+mod deeds;
 mod giving;
 mod matching;
 mod printing;

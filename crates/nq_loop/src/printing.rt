@@ -1,19 +1,18 @@
 //! Printing a loop.
 
 ghost use Rattle.std.specs.List.{AllByRecursion};
-ghost use Rattle.std.specs.Prelude.{◌≡◌, map, reverse};
+ghost use Rattle.std.specs.Prelude.{◌≡◌, ◌≤◌, reverse};
+ghost use Rattle.nq_loop.specs.Holding.{IsLooped};
 ghost use Rattle.nq_loop.specs.Printed.{PrintsRan};
+ghost use Rattle.nq_loop.specs.Whole.{loop_head};
 ghost use Rattle.nq_replay.specs.Playing.{beginning};
-ghost use Rattle.nq_script.specs.Heads.{FitsHead};
-ghost use Rattle.nq_script.specs.Lines.{Allows, HasEvent};
 ghost use Rattle.nq_world.specs.Playing.{Plays};
 
 use crate::counts::{answers, calls, count_text};
-use crate::schedules::schedule_text;
 use nq_base::ending::Ending;
 use nq_io::Sink;
 use nq_keeper::Keeper;
-use nq_replay::print_parts;
+use nq_replay::{print_parts, schedule_text};
 use nq_script::{Head, Schedule};
 use nq_world::World;
 use std::alloc::Global;
@@ -26,10 +25,10 @@ pub(crate) fn print_loop<P: Keeper, K: Sink>(
     ran: &Schedule,
     out: &mut K,
 ) -> Ending
-    requires fits { FitsHead head.now }
-    requires first { head.now.version ≡ 1 }
-    requires lines { AllByRecursion (HasEvent 1) ran.now }
-    requires allowed { AllByRecursion (Allows head.now) ran.now }
+    requires some { 1 ≤ head.now.hosts }
+    requires few { head.now.hosts ≤ 64 }
+    requires head { head.now ≡ loop_head head.now.hosts }
+    requires looped { AllByRecursion (IsLooped head.now.hosts) ran.now }
     ensures { Plays (beginning head.now) (reverse ran.now) world.now (P.content world.now.server.keeper)
         → PrintsRan result head.now ran.now (K.held out.old) (K.held out.new) (K.faults out.old) (K.faults out.new) }
 {

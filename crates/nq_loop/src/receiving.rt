@@ -1,21 +1,21 @@
 //! Receiving over the links.
 
-ghost use Rattle.std.specs.Prelude.{◌≡◌, ◌<◌, ◌+◌, ◌∷◌, [], ℕ, length, map};
+ghost use Rattle.std.specs.Prelude.{◌≡◌, ◌<◌, ◌≤◌, ◌+◌, ◌∷◌, [], ℕ, length, map};
 ghost use Rattle.nq_base.specs.declared.Party.{Party};
 ghost use Rattle.nq_loop.specs.Holding.{IsLooping, Keeps, Loops, TakesFrom, loop_of};
 ghost use Rattle.nq_loop.specs.Looping.{Brings, Step, receive_steps};
 ghost use Rattle.nq_loop.specs.Sending.{place_of, told_of};
-ghost use Rattle.nq_loop.specs.Steps.{each_below};
 ghost use Rattle.nq_model.specs.World.{Head};
 ghost use Rattle.nq_hosts.specs.Links.{most_bytes};
 
+use crate::deeds::each_host;
 use crate::giving::give;
 use crate::matching::{Letter, packet_of};
-use crate::rounds::{behind, either};
+use crate::rounds::behind;
 use crate::sending::place_of;
 use crate::state::LoopState;
-use crate::turns::Halt;
-use nq_base::{Event, Host, Party};
+use crate::turns::{Deed, Halt};
+use nq_base::{Event, Party};
 use nq_keeper::Keeper;
 use nq_link::{Came, Link};
 use nq_script::Schedule;
@@ -34,6 +34,7 @@ pub(crate) fn receive_each<K: Keeper, L: Link>(
     ran: &mut Schedule,
 ) -> Result<bool, Halt>
     requires hosts { length world.old.clients ≡ length state.old.begun }
+    requires few { length state.old.begun ≤ 64 }
     requires links { length links.old ≡ length state.old.begun + 1 }
     ensures loops { (head : Head) → head.hosts ≡ length state.old.begun
         → IsLooping head (loop_of K.content L.sent L.waiting L.faults L.receives world.old state.old ran.old links.old)
@@ -44,44 +45,17 @@ pub(crate) fn receive_each<K: Keeper, L: Link>(
     ensures follows { K.follows world.old.server.keeper world.new.server.keeper }
 {
     match receive(alloc, world, links, state, ran, Party::Server) {
-        Ok(came) => behind(came, receive_hosts(alloc, world, links, state, ran)),
+        Ok(came) => behind(
+            came,
+            each_host(alloc, world, links, state, ran, Deed::Receive),
+        ),
         Err(why) => Err(why),
     }
 }
 
-/// Receives once on each host's link, in order of the hosts; answers whether a datagram came.
-fn receive_hosts<K: Keeper, L: Link>(
-    alloc: Global,
-    world: &mut World<K>,
-    links: &mut [L],
-    state: &mut LoopState,
-    ran: &mut Schedule,
-) -> Result<bool, Halt>
-    requires hosts { length world.old.clients ≡ length state.old.begun }
-    requires links { length links.old ≡ length state.old.begun + 1 }
-    ensures loops { (head : Head) → head.hosts ≡ length state.old.begun
-        → IsLooping head (loop_of K.content L.sent L.waiting L.faults L.receives world.old state.old ran.old links.old)
-        → Loops head (each_below head.hosts (λ host. Step.receive (Party.Client host))) result
-        (loop_of K.content L.sent L.waiting L.faults L.receives world.old state.old ran.old links.old)
-        (loop_of K.content L.sent L.waiting L.faults L.receives world.new state.new ran.new links.new) }
-    ensures keeps { Keeps result (K.faults world.old.server.keeper) (K.faults world.new.server.keeper)
-        (length world.old.clients) (length world.new.clients) (length state.old.begun) (length state.new.begun) }
-    ensures follows { K.follows world.old.server.keeper world.new.server.keeper }
-{
-    let mut any = false;
-    for host in 0..state.hosts() {
-        let party = Party::Client(Host(host));
-        match receive(alloc, world, links, state, ran, party) {
-            Ok(more) => any = either(any, more),
-            Err(why) => return Err(why),
-        }
-    }
-    Ok(any)
-}
-
 /// Receives once on a party's link, and takes in the datagram that came; answers whether one came.
 #[tactic(auto, unfolding(nq_hosts::specs::Links::most_bytes))]
-fn receive<K: Keeper, L: Link>(
+pub(crate) fn receive<K: Keeper, L: Link>(
     alloc: Global,
     world: &mut World<K>,
     links: &mut [L],
@@ -168,7 +142,10 @@ fn take_in<K: Keeper, L: Link>(
     ensures follows { K.follows world.old.server.keeper world.new.server.keeper }
 {
     match packet_of(alloc, world.packets(), state, letter) {
-        Ok(Some(number)) => give(alloc, world, links, state, ran, Event::Deliver(number)),
+        Ok(Some(number)) => {
+            let event = Event::Deliver(number);
+            give(alloc, world, links, state, ran, &event)
+        }
         Ok(None) => Ok(true),
         Err(_) => Err(Halt::Memory),
     }

@@ -1,16 +1,16 @@
 //! Rounds: the clock of each host ticks, then the server's.
 
-ghost use Rattle.std.specs.Prelude.{◌≡◌, ◌<◌, ◌||◌, ◌∷◌, [], ℕ, length};
-ghost use Rattle.nq_base.specs.declared.Event.{Event};
+ghost use Rattle.std.specs.Prelude.{◌≡◌, ◌≤◌, ◌+◌, ◌||◌, length};
 ghost use Rattle.nq_loop.specs.Holding.{IsLooping, Keeps, Loops, loop_of};
-ghost use Rattle.nq_loop.specs.Looping.{Step, round_steps, rounds_steps};
-ghost use Rattle.nq_loop.specs.Steps.{behind, each_below};
+ghost use Rattle.nq_loop.specs.Looping.{round_steps, rounds_steps};
+ghost use Rattle.nq_loop.specs.Steps.{behind};
 ghost use Rattle.nq_model.specs.World.{Head};
 
+use crate::deeds::each_host;
 use crate::giving::give;
 use crate::state::LoopState;
-use crate::turns::Halt;
-use nq_base::{Event, Host};
+use crate::turns::{Deed, Halt};
+use nq_base::Event;
 use nq_keeper::Keeper;
 use nq_link::Link;
 use nq_script::Schedule;
@@ -27,6 +27,8 @@ pub(crate) fn give_rounds<K: Keeper, L: Link>(
     rounds: u64,
 ) -> Result<bool, Halt>
     requires hosts { length world.old.clients ≡ length state.old.begun }
+    requires few { length state.old.begun ≤ 64 }
+    requires links { length links.old ≡ length state.old.begun + 1 }
     ensures loops { (head : Head) → head.hosts ≡ length state.old.begun
         → IsLooping head (loop_of K.content L.sent L.waiting L.faults L.receives world.old state.old ran.old links.old)
         → Loops head (rounds_steps head.hosts rounds) result (loop_of K.content L.sent L.waiting L.faults L.receives world.old state.old ran.old links.old)
@@ -61,6 +63,8 @@ fn give_round<K: Keeper, L: Link>(
     ran: &mut Schedule,
 ) -> Result<bool, Halt>
     requires hosts { length world.old.clients ≡ length state.old.begun }
+    requires few { length state.old.begun ≤ 64 }
+    requires links { length links.old ≡ length state.old.begun + 1 }
     ensures loops { (head : Head) → head.hosts ≡ length state.old.begun
         → IsLooping head (loop_of K.content L.sent L.waiting L.faults L.receives world.old state.old ran.old links.old)
         → Loops head (round_steps head.hosts) result (loop_of K.content L.sent L.waiting L.faults L.receives world.old state.old ran.old links.old)
@@ -69,11 +73,11 @@ fn give_round<K: Keeper, L: Link>(
         (length world.old.clients) (length world.new.clients) (length state.old.begun) (length state.new.begun) }
     ensures follows { K.follows world.old.server.keeper world.new.server.keeper }
 {
-    match tick_hosts(alloc, world, links, state, ran) {
-        Ok(ticked) => behind(
-            ticked,
-            give(alloc, world, links, state, ran, Event::ServerTick),
-        ),
+    match each_host(alloc, world, links, state, ran, Deed::Tick) {
+        Ok(ticked) => {
+            let tick = Event::ServerTick;
+            behind(ticked, give(alloc, world, links, state, ran, &tick))
+        }
         Err(why) => Err(why),
     }
 }
@@ -86,33 +90,4 @@ pub(crate) fn behind(moved: bool, ended: Result<bool, Halt>) -> Result<bool, Hal
         Ok(more) => Ok(moved || more),
         Err(why) => Err(why),
     }
-}
-
-/// Gives a tick of each host's clock.
-fn tick_hosts<K: Keeper, L: Link>(
-    alloc: Global,
-    world: &mut World<K>,
-    links: &mut [L],
-    state: &mut LoopState,
-    ran: &mut Schedule,
-) -> Result<bool, Halt>
-    requires hosts { length world.old.clients ≡ length state.old.begun }
-    ensures loops { (head : Head) → head.hosts ≡ length state.old.begun
-        → IsLooping head (loop_of K.content L.sent L.waiting L.faults L.receives world.old state.old ran.old links.old)
-        → Loops head (each_below head.hosts (λ host. Step.given (Event.ClientTick host))) result
-        (loop_of K.content L.sent L.waiting L.faults L.receives world.old state.old ran.old links.old)
-        (loop_of K.content L.sent L.waiting L.faults L.receives world.new state.new ran.new links.new) }
-    ensures keeps { Keeps result (K.faults world.old.server.keeper) (K.faults world.new.server.keeper)
-        (length world.old.clients) (length world.new.clients) (length state.old.begun) (length state.new.begun) }
-    ensures follows { K.follows world.old.server.keeper world.new.server.keeper }
-{
-    let mut any = false;
-    for host in 0..state.hosts() {
-        let tick = Event::ClientTick(Host(host));
-        match give(alloc, world, links, state, ran, tick) {
-            Ok(more) => any = either(any, more),
-            Err(why) => return Err(why),
-        }
-    }
-    Ok(any)
 }

@@ -6,10 +6,9 @@ ghost use Rattle.nq_hosts.specs.Clocks.{clock_told};
 ghost use Rattle.nq_base.specs.declared.ending.ending.Ending.{Ending};
 ghost use Rattle.nq_keeper.specs.StoredKeeper.{empty_kept};
 ghost use Rattle.nq_loop.specs.Holding.{IsLooped};
-ghost use Rattle.nq_loop.specs.Looped.{HasEnded, KeepsLoop, LoopEnds, TellsEnd};
+ghost use Rattle.nq_loop.specs.Looped.{KeepsLoop, LoopEnds, TellsEnd};
 ghost use Rattle.nq_loop.specs.Sending.{told_of};
 ghost use Rattle.nq_loop.specs.Whole.{loop_head};
-ghost use Rattle.nq_loop.specs.declared.turns.LoopTurn.{LoopTurn};
 ghost use Rattle.nq_replay.specs.Playing.{beginning};
 ghost use Rattle.nq_replay.specs.Ending.{CountsKeeper};
 ghost use Rattle.nq_world.specs.Playing.{HasSettings, Plays};
@@ -147,30 +146,11 @@ fn tell<P: Keeper, K: Sink>(
         (K.faults out.new) }
 {
     match last {
-        LoopTurn::Took => print_whole(alloc, head, world, ran, out),
-        LoopTurn::Quiet => print_whole(alloc, head, world, ran, out),
+        LoopTurn::Took => print_loop(alloc, head, world, ran, out),
+        LoopTurn::Quiet => print_loop(alloc, head, world, ran, out),
         LoopTurn::Limit(limit) => tell_limit(alloc, 0, limit, out),
         LoopTurn::Link => Ending::LinkFault,
         LoopTurn::Keep => Ending::KeepFault,
         LoopTurn::Memory => Ending::Memory,
     }
-}
-
-/// Prints a loop whose last turn did not stop.
-fn print_whole<P: Keeper, K: Sink>(
-    alloc: Global,
-    head: &Head,
-    world: &World<P>,
-    ran: &Schedule,
-    out: &mut K,
-) -> Ending
-    requires some { 1 ≤ head.now.hosts }
-    requires few { head.now.hosts ≤ 64 }
-    requires head { head.now ≡ loop_head head.now.hosts }
-    requires looped { AllByRecursion (IsLooped head.now.hosts) ran.now }
-    ensures { (last : LoopTurn) → HasEnded last
-        → TellsEnd result last head.now world.now (P.content world.now.server.keeper) ran.now (K.held out.old) (K.held out.new) (K.faults out.old)
-        (K.faults out.new) }
-{
-    print_loop(alloc, head, world, ran, out)
 }

@@ -6,11 +6,11 @@ ghost use Rattle.nq_loop.specs.Holding.{IsLooping, Keeps, KeepsTurn, Loops, Turn
 ghost use Rattle.nq_loop.specs.Looping.{call_steps, receive_steps, rounds_due, turn_of, turn_steps};
 ghost use Rattle.nq_model.specs.World.{Head};
 
-use crate::calling::begin_calls;
+use crate::deeds::each_host;
 use crate::receiving::receive_each;
 use crate::rounds::{behind, give_rounds};
 use crate::state::LoopState;
-use crate::turns::{Halt, LoopTurn};
+use crate::turns::{Deed, Halt, LoopTurn};
 use nq_base::Ticks;
 use nq_clock::Clock;
 use nq_keeper::Keeper;
@@ -109,7 +109,7 @@ fn call_and_receive<K: Keeper, L: Link>(
         (length world.old.clients) (length world.new.clients) (length state.old.begun) (length state.new.begun) }
     ensures follows { K.follows world.old.server.keeper world.new.server.keeper }
 {
-    match begin_calls(alloc, world, links, state, ran) {
+    match each_host(alloc, world, links, state, ran, Deed::Call) {
         Ok(called) => behind(called, receive_each(alloc, world, links, state, ran)),
         Err(why) => Err(why),
     }

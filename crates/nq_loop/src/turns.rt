@@ -43,3 +43,14 @@ impl From<NoMemory> for Halt {
         Halt::Memory
     }
 }
+
+/// What each host does in its turn.
+#[derive(Clone, Copy)]
+pub(crate) enum Deed {
+    /// Its clock ticks.
+    Tick,
+    /// Its next call begins, if it has one left and none under way.
+    Call,
+    /// It receives once on its link.
+    Receive,
+}

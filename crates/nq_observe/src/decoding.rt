@@ -1,74 +1,39 @@
 //! Packets in words.
 
-ghost use Rattle.std.specs.Prelude.{◌≡◌, true, IfOk};
-
-use nq_base::{NoMemory, Party, Request, Spare};
+use nq_base::{NoMemory, Party, Reply, Request, Spare};
 use nq_datagrams::{Awaited, Heard, Incoming, read_heard, read_incoming};
-use nq_net::Packets;
+use nq_net::{Packet, Packets};
 use nq_record::{reply_words, request_words};
 use nq_wire::Procedure;
 use std::alloc::Global;
 
-/// A packet as it is read: its number at its sender, and its words.
+/// A packet as it is read: its number at its sender, whom it is for, and its words.
 #[derive(Drop)]
 pub(crate) struct Read {
     pub(crate) xid: u32,
+    pub(crate) to: Party,
     pub(crate) words: String,
 }
 
-/// A packet as it was sent.
+/// What a packet brings.
 #[derive(Drop)]
-struct Letter {
-    to: Party,
-    bytes: Vec<u8>,
+enum Content {
+    Request { xid: u32, request: Request },
+    Reply { xid: u32, reply: Reply },
+    Nothing,
 }
 
-/// The packet of a number.
-fn letter_of(alloc: Global, packets: &Packets, number: u64) -> Result<Option<Letter>, NoMemory> {
-    match packets.get(number) {
-        None => Ok(None),
-        Some(packet) => {
-            let mut bytes = Vec::new(alloc);
-            packet.bytes_into(&mut bytes)?;
-            Ok(Some(Letter {
-                to: packet.to(),
-                bytes,
-            }))
-        }
-    }
-}
-
-/// The request of which the packet of this number is, if it is one of a client's.
+/// The request that the packet of this number brings, if it brings one.
 pub(crate) fn awaited(
     alloc: Global,
     packets: &Packets,
     number: u64,
 ) -> Result<Option<Awaited>, NoMemory> {
-    match letter_of(alloc, packets, number)? {
-        Some(
-            Letter {
-                to: Party::Server,
-                bytes,
-            },
-        ) => awaited_by(alloc, &bytes),
-        _ => Ok(None),
-    }
-}
-
-/// Room for the body of one datagram.
-fn room(alloc: Global) -> Result<Spare, NoMemory>
-    ensures { IfOk result (λ room. room ≡ true) }
-{
-    let mut room = Spare::none();
-    room.reserve(alloc)?;
-    Ok(room)
-}
-
-/// The request of which a datagram is.
-fn awaited_by(alloc: Global, datagram: &[u8]) -> Result<Option<Awaited>, NoMemory> {
-    let mut room = room(alloc)?;
-    Ok(match read_incoming(datagram, &mut room) {
-        Incoming::Request { xid, request } => Some(Awaited {
+    let Some(packet) = packets.get(number) else {
+        return Ok(None);
+    };
+    Ok(match content_of(alloc, &packet, &None)? {
+        Content::Request { xid, request } => Some(Awaited {
             xid,
             procedure: Procedure::of(&request),
         }),
@@ -81,49 +46,43 @@ pub(crate) fn read_packet(
     alloc: Global,
     packets: &Packets,
     number: u64,
-    taken: Option<Awaited>,
+    taken: &Option<Awaited>,
 ) -> Result<Read, NoMemory> {
-    match letter_of(alloc, packets, number)? {
-        None => no_words(alloc),
-        Some(Letter { to, bytes }) => match to {
-            Party::Server => read_request(alloc, &bytes),
-            Party::Client(_) => read_answer(alloc, taken, &bytes),
-        },
+    match packets.get(number) {
+        Some(packet) => in_words(alloc, packet.to(), content_of(alloc, &packet, taken)?),
+        None => in_words(alloc, Party::Server, Content::Nothing),
     }
 }
 
-/// A packet without words.
-fn no_words(alloc: Global) -> Result<Read, NoMemory> {
-    Ok(Read {
-        xid: 0,
-        words: String::from_str(alloc, "datagram")?,
+/// What a packet brings. A reply is read as one to this request.
+fn content_of(
+    alloc: Global,
+    packet: &Packet<'_>,
+    taken: &Option<Awaited>,
+) -> Result<Content, NoMemory> {
+    let mut bytes = Vec::new(alloc);
+    packet.bytes_into(&mut bytes)?;
+    let mut room = Spare::none();
+    room.reserve(alloc)?;
+    Ok(match packet.to() {
+        Party::Server => match read_incoming(&bytes, &mut room) {
+            Incoming::Request { xid, request } => Content::Request { xid, request },
+            _ => Content::Nothing,
+        },
+        Party::Client(_) => match read_heard(*taken, &bytes, &mut room) {
+            Some(Heard::Notice { xid, request }) => Content::Request { xid, request },
+            Some(Heard::Reply { xid, reply }) => Content::Reply { xid, reply },
+            None => Content::Nothing,
+        },
     })
 }
 
-/// A datagram to the server in words.
-fn read_request(alloc: Global, datagram: &[u8]) -> Result<Read, NoMemory> {
-    let mut room = room(alloc)?;
-    match read_incoming(datagram, &mut room) {
-        Incoming::Request { xid, request } => requested(alloc, xid, &request),
-        _ => no_words(alloc),
-    }
-}
-
-/// A request in words.
-fn requested(alloc: Global, xid: u32, request: &Request) -> Result<Read, NoMemory> {
-    let words = request_words(alloc, request)?;
-    Ok(Read { xid, words })
-}
-
-/// A datagram to a client in words.
-fn read_answer(alloc: Global, taken: Option<Awaited>, datagram: &[u8]) -> Result<Read, NoMemory> {
-    let mut room = room(alloc)?;
-    match read_heard(taken, datagram, &mut room) {
-        None => no_words(alloc),
-        Some(Heard::Notice { xid, request }) => requested(alloc, xid, &request),
-        Some(Heard::Reply { xid, reply }) => {
-            let words = reply_words(alloc, &reply)?;
-            Ok(Read { xid, words })
-        }
-    }
+/// What a packet for a party brings, in words.
+fn in_words(alloc: Global, to: Party, content: Content) -> Result<Read, NoMemory> {
+    let (xid, words) = match content {
+        Content::Request { xid, request } => (xid, request_words(alloc, &request)?),
+        Content::Reply { xid, reply } => (xid, reply_words(alloc, &reply)?),
+        Content::Nothing => (0, String::from_str(alloc, "datagram")?),
+    };
+    Ok(Read { xid, to, words })
 }

@@ -3,6 +3,8 @@
 
 mod decoding;
 mod looking;
+mod mail;
+mod memory;
 mod playing;
 mod seeing;
 mod spans;

@@ -12,13 +12,13 @@ ghost use Rattle.nq_script.specs.declared.lines.Line.{Line};
 
 use crate::playing::{Bounds, play};
 use crate::seeing::Seer;
-use nq_base::NoMemory;
+use nq_base::{Entry, NoMemory};
 use nq_chart::draw;
 use nq_keeper::{Keeper, ListKeeper};
 use nq_record::{Record, picture, tell, why};
-use nq_replay::play::{Delivered, begin};
+use nq_replay::play::begin;
 use nq_script::{Script, ScriptFault, parse};
-use nq_world::{NewFault, Stepped, World};
+use nq_world::{NewFault, World};
 use std::alloc::Global;
 
 /// How a run is shown.
@@ -53,25 +53,13 @@ pub fn look(alloc: Global, text: &[u8], view: View, page: &mut Vec<u8>) -> Resul
     ensures shows { (head : Head) (lines : List Line) → SpellsSchedule head lines text.now → ShowsRun result view }
 {
     match parse(alloc, text) {
-        Ok(script) => look_at(alloc, &script, view, page),
+        Ok(script) => {
+            let keeper = ListKeeper::new(alloc, Vec::new(alloc))?;
+            look_over(alloc, &script, keeper, view, page)
+        }
         Err(ScriptFault::Bad(_number)) => Ok(Shown::Nothing),
         Err(ScriptFault::Memory) => Err(NoMemory::Memory),
     }
-}
-
-/// Shows the run of a schedule that was read.
-fn look_at(
-    alloc: Global,
-    script: &Script,
-    view: View,
-    page: &mut Vec<u8>,
-) -> Result<Shown, NoMemory>
-    requires { IsReady script.now }
-    ensures extends { Extends page.old.items page.new.items }
-    ensures shows { ShowsRun result view }
-{
-    let keeper = ListKeeper::new(alloc, Vec::new(alloc))?;
-    look_over(alloc, script, keeper, view, page)
 }
 
 /// Shows the run of a schedule over a keeper that keeps nothing yet.
@@ -92,13 +80,13 @@ fn look_over<L: Keeper + Drop>(
         Err(NewFault::Memory(_keeper)) => return Err(NoMemory::Memory),
         Err(NewFault::Failed(_keeper)) => return Err(NoMemory::Memory),
     };
-    let shown = show(alloc, &mut world, script, view, page);
+    let shown = show_run(alloc, &mut world, script, view, page);
     let _keeper = world.into_keeper();
     shown
 }
 
 /// Plays a schedule over a world, and shows what was seen.
-fn show<L: Keeper>(
+fn show_run<L: Keeper>(
     alloc: Global,
     world: &mut World<L>,
     script: &Script,
@@ -110,24 +98,33 @@ fn show<L: Keeper>(
     ensures extends { Extends page.old.items page.new.items }
     ensures shows { ShowsRun result view }
 {
+    let record = observe(alloc, world, script)?;
+    show(alloc, &record, world.journal().entries(), view, page)
+}
+
+/// Plays a schedule over a world; what was seen.
+fn observe<L: Keeper>(
+    alloc: Global,
+    world: &mut World<L>,
+    script: &Script,
+) -> Result<Record, NoMemory>
+    requires hosts { script.now.head.hosts ≡ length world.old.clients }
+    requires longest { script.now.head.longest ≡ world.old.skew.window }
+{
     let mut seer = Seer::new(alloc, script.head.hosts)?;
-    let mut delivered = Delivered::new(alloc);
     let bounds = Bounds {
         hosts: script.head.hosts,
         longest: script.head.longest,
     };
-    if let Stepped::Memory = play(world, &mut seer, &mut delivered, bounds, &script.lines) {
-        return Err(NoMemory::Memory);
-    }
-    let record = seer.into_record();
-    show_record(alloc, world, &record, view, page)
+    play(alloc, world, &mut seer, bounds, &script.lines)?;
+    Ok(seer.into_record())
 }
 
-/// Shows what was seen.
-fn show_record<L: Keeper>(
+/// Shows what was seen, where the journal has these entries.
+fn show(
     alloc: Global,
-    world: &World<L>,
     record: &Record,
+    entries: &[Entry],
     view: View,
     page: &mut Vec<u8>,
 ) -> Result<Shown, NoMemory>
@@ -139,7 +136,7 @@ fn show_record<L: Keeper>(
             tell(alloc, record, page)?;
             Ok(Shown::All)
         }
-        View::Why { line } => show_why(alloc, world, record, line, page),
+        View::Why { line } => show_why(alloc, record, entries, line, page),
         View::Picture { from, to } => {
             let title = String::from_str(alloc, "nqnfs: a run")?;
             let chart = picture(alloc, record, title, from, to)?;
@@ -150,17 +147,16 @@ fn show_record<L: Keeper>(
 }
 
 /// Shows the events that led to the entry in a line.
-fn show_why<L: Keeper>(
+fn show_why(
     alloc: Global,
-    world: &World<L>,
     record: &Record,
+    entries: &[Entry],
     line: usize,
     page: &mut Vec<u8>,
 ) -> Result<Shown, NoMemory>
     ensures extends { Extends page.old.items page.new.items }
     ensures shows { ShowsRun result (View.Why line) }
 {
-    let entries = world.journal().entries();
     match line.checked_sub(2) {
         Some(place) if place < entries.len() => {
             why(alloc, record, entries, place, page)?;

@@ -1,14 +1,15 @@
-//! Schedules, line by line.
+//! Schedules, event by event.
 
-ghost use Rattle.std.specs.Prelude.{◌≡◌, ◌≤◌, ◌<◌, length, IsTrue};
+ghost use Rattle.std.specs.Prelude.{◌≡◌, length, IsTrue};
 ghost use Rattle.nq_world.specs.Playing.{CanCome};
 
 use crate::seeing::Seer;
-use nq_base::{Event, Host};
+use nq_base::{Event, Host, NoMemory};
 use nq_keeper::Keeper;
 use nq_replay::play::Delivered;
 use nq_script::{Line, Lines};
-use nq_world::{Limit, MOST_EVENTS, Stepped, World};
+use nq_world::{MOST_EVENTS, Stepped, World};
+use std::alloc::Global;
 
 /// How many hosts there are, and the longest term of a boot, in ticks.
 #[derive(Clone, Copy)]
@@ -30,6 +31,63 @@ impl Bounds {
             Event::Deliver(_) => true,
             Event::ServerTick => true,
         }
+    }
+}
+
+/// A place in a schedule: in this line, behind so many of its events.
+#[derive(Drop)]
+struct Cursor {
+    line: usize,
+    events: u64,
+}
+
+impl Cursor {
+    /// The next event among so many hosts, where this is the least packet that was never delivered.
+    fn next(&mut self, lines: &Lines, hosts: u32, least: Option<usize>) -> Option<Event> {
+        for place in self.line..lines.len() {
+            if let Some(line) = lines.get(place) {
+                if let Some(event) = event_of(line, self.events, hosts, least) {
+                    self.events = self.events.saturating_add(1);
+                    return Some(event);
+                }
+            }
+            self.line = place + 1;
+            self.events = 0;
+        }
+        None
+    }
+}
+
+/// The event of a line behind so many of its events. A flow goes on until each packet was delivered.
+fn event_of(line: Line, events: u64, hosts: u32, least: Option<usize>) -> Option<Event> {
+    match line {
+        Line::Events { event, times } => {
+            if events < times as u64 {
+                Some(event)
+            } else {
+                None
+            }
+        }
+        Line::Round(times) => tick_of(events, hosts, times),
+        Line::Flow => match least {
+            Some(packet) => Some(Event::Deliver(packet as u64)),
+            None => None,
+        },
+        Line::End => None,
+    }
+}
+
+/// The tick behind so many ticks of so many rounds: in a round the clock of each host ticks, then the server's.
+fn tick_of(ticks: u64, hosts: u32, rounds: u32) -> Option<Event> {
+    let clocks = hosts as u64 + 1;
+    if ticks / clocks >= rounds as u64 {
+        return None;
+    }
+    let clock = ticks % clocks;
+    if clock < hosts as u64 {
+        Some(Event::ClientTick(Host(clock as u32)))
+    } else {
+        Some(Event::ServerTick)
     }
 }
 
@@ -59,148 +117,37 @@ fn take<K: Keeper>(
     if let Event::Deliver(packet) = event {
         delivered.mark(*packet as usize);
     }
-    match seer.see(world, bounds.hosts, event) {
-        Ok(()) => Stepped::Done,
-        Err(_) => Stepped::Memory,
-    }
-}
-
-/// Gives an event so many times.
-fn take_times<K: Keeper>(
-    world: &mut World<K>,
-    seer: &mut Seer,
-    delivered: &mut Delivered,
-    bounds: Bounds,
-    event: &Event,
-    times: u32,
-) -> Stepped
-    requires hosts { bounds.hosts ≡ length world.old.clients }
-    requires longest { bounds.longest ≡ world.old.skew.window }
-    ensures clients { length world.new.clients ≡ length world.old.clients }
-    ensures window { world.new.skew.window ≡ world.old.skew.window }
-{
-    for turn in 0..times {
-        match take(world, seer, delivered, bounds, event) {
-            Stepped::Done => {}
-            other => return other,
-        }
-    }
-    Stepped::Done
-}
-
-/// The clock of each host ticks, then the server's.
-fn round<K: Keeper>(
-    world: &mut World<K>,
-    seer: &mut Seer,
-    delivered: &mut Delivered,
-    bounds: Bounds,
-) -> Stepped
-    requires hosts { bounds.hosts ≡ length world.old.clients }
-    requires longest { bounds.longest ≡ world.old.skew.window }
-    ensures clients { length world.new.clients ≡ length world.old.clients }
-    ensures window { world.new.skew.window ≡ world.old.skew.window }
-{
-    for host in 0..bounds.hosts {
-        let event = Event::ClientTick(Host(host));
-        match take(world, seer, delivered, bounds, &event) {
-            Stepped::Done => {}
-            other => return other,
-        }
-    }
-    let event = Event::ServerTick;
-    take(world, seer, delivered, bounds, &event)
-}
-
-/// So many rounds.
-fn rounds<K: Keeper>(
-    world: &mut World<K>,
-    seer: &mut Seer,
-    delivered: &mut Delivered,
-    bounds: Bounds,
-    times: u32,
-) -> Stepped
-    requires hosts { bounds.hosts ≡ length world.old.clients }
-    requires longest { bounds.longest ≡ world.old.skew.window }
-    ensures clients { length world.new.clients ≡ length world.old.clients }
-    ensures window { world.new.skew.window ≡ world.old.skew.window }
-{
-    for turn in 0..times {
-        match round(world, seer, delivered, bounds) {
-            Stepped::Done => {}
-            other => return other,
-        }
-    }
-    Stepped::Done
-}
-
-/// The least packet that was never delivered is delivered, again and again, until each packet was.
-fn flow<K: Keeper>(
-    world: &mut World<K>,
-    seer: &mut Seer,
-    delivered: &mut Delivered,
-    bounds: Bounds,
-) -> Stepped
-    requires hosts { bounds.hosts ≡ length world.old.clients }
-    requires longest { bounds.longest ≡ world.old.skew.window }
-    ensures clients { length world.new.clients ≡ length world.old.clients }
-    ensures window { world.new.skew.window ≡ world.old.skew.window }
-{
-    for turn in 0..MOST_EVENTS {
-        match delivered.next(world.packets().len() as usize) {
-            None => return Stepped::Done,
-            Some(packet) => {
-                let event = Event::Deliver(packet as u64);
-                match take(world, seer, delivered, bounds, &event) {
-                    Stepped::Done => {}
-                    other => return other,
-                }
-            }
-        }
-    }
-    Stepped::Limit(Limit::Events)
-}
-
-/// Plays a line.
-fn play_line<K: Keeper>(
-    world: &mut World<K>,
-    seer: &mut Seer,
-    delivered: &mut Delivered,
-    bounds: Bounds,
-    line: &Line,
-) -> Stepped
-    requires hosts { bounds.hosts ≡ length world.old.clients }
-    requires longest { bounds.longest ≡ world.old.skew.window }
-    ensures clients { length world.new.clients ≡ length world.old.clients }
-    ensures window { world.new.skew.window ≡ world.old.skew.window }
-{
-    match line {
-        Line::Events { event, times } => take_times(world, seer, delivered, bounds, event, *times),
-        Line::Round(times) => rounds(world, seer, delivered, bounds, *times),
-        Line::Flow => flow(world, seer, delivered, bounds),
-        Line::End => Stepped::Done,
+    seer.see(world, bounds.hosts, event);
+    if seer.is_short() {
+        Stepped::Memory
+    } else {
+        Stepped::Done
     }
 }
 
 /// Plays lines over a world, and writes down what each event did, up to the first event that the world refuses.
 pub(crate) fn play<K: Keeper>(
+    alloc: Global,
     world: &mut World<K>,
     seer: &mut Seer,
-    delivered: &mut Delivered,
     bounds: Bounds,
     lines: &Lines,
-) -> Stepped
+) -> Result<(), NoMemory>
     requires hosts { bounds.hosts ≡ length world.old.clients }
     requires longest { bounds.longest ≡ world.old.skew.window }
-    ensures clients { length world.new.clients ≡ length world.old.clients }
-    ensures window { world.new.skew.window ≡ world.old.skew.window }
 {
-    for place in 0..lines.len() {
-        if let Some(line) = lines.get(place) {
-            match play_line(world, seer, delivered, bounds, &line) {
-                Stepped::Done => {}
-                other => return other,
-            }
+    let mut delivered = Delivered::new(alloc);
+    let mut cursor = Cursor { line: 0, events: 0 };
+    for turn in 0..MOST_EVENTS {
+        let least = delivered.next(world.packets().len() as usize);
+        let Some(event) = cursor.next(lines, bounds.hosts, least) else {
+            return Ok(());
+        };
+        match take(world, seer, &mut delivered, bounds, &event) {
+            Stepped::Done => {}
+            Stepped::Memory => return Err(NoMemory::Memory),
+            _ => return Ok(()),
         }
     }
-    Stepped::Done
+    Ok(())
 }

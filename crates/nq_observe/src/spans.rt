@@ -2,7 +2,8 @@
 
 ghost use Rattle.std.specs.Prelude.{◌<◌, ◌≤◌, length};
 
-use nq_base::{FileId, Host, NoMemory, Party};
+use crate::memory::Memory;
+use nq_base::{FileId, Host, Party};
 use nq_keeper::Keeper;
 use nq_record::{Change, Kind, Span};
 use nq_world::World;
@@ -11,7 +12,6 @@ use std::alloc::Global;
 /// What lasts, and what of it began or ended, in the order of the events.
 #[derive(Drop)]
 pub(crate) struct Spans {
-    alloc: Global,
     pub(crate) spans: Vec<Span>,
     pub(crate) changes: Vec<Change>,
     /// The places of the spans that go on.
@@ -21,7 +21,7 @@ pub(crate) struct Spans {
 }
 
 /// How much there is of what lasts.
-#[derive(Clone, Copy)]
+#[derive(Drop)]
 pub(crate) struct Counts {
     pub(crate) rows: usize,
     pub(crate) leases: usize,
@@ -32,7 +32,6 @@ impl Spans {
     /// Nothing lasts.
     pub(crate) fn new(alloc: Global) -> Spans {
         Spans {
-            alloc,
             spans: Vec::new(alloc),
             changes: Vec::new(alloc),
             open: Vec::new(alloc),
@@ -43,7 +42,6 @@ impl Spans {
     /// The spans, and what of them began or ended.
     pub(crate) fn into_parts(self) -> (Vec<Span>, Vec<Change>) {
         let Spans {
-            alloc: _,
             spans,
             changes,
             open: _open,
@@ -66,30 +64,36 @@ impl Spans {
     /// Notes what there is after the event at a place.
     pub(crate) fn see<K: Keeper>(
         &mut self,
+        memory: &mut Memory,
         world: &World<K>,
         hosts: u32,
         place: usize,
-    ) -> Result<Counts, NoMemory>
+    ) -> Counts
         requires { hosts ≤ length world.now.clients }
     {
-        let rows = self.see_server(world, place)?;
+        let rows = self.see_server(memory, world, place);
         let mut leases = 0usize;
         let mut dirty = 0usize;
         for host in 0..hosts {
-            let held = self.see_host(world, host, place)?;
+            let held = self.see_host(memory, world, host, place);
             leases = leases.saturating_add(held);
             dirty = dirty.saturating_add(world.dirty(Host(host)).pending());
         }
-        self.end(place)?;
-        Ok(Counts {
+        self.end(memory, place);
+        Counts {
             rows,
             leases,
             dirty,
-        })
+        }
     }
 
     /// Notes the rows of the server, and whether it recovers. How many rows there are.
-    fn see_server<K: Keeper>(&mut self, world: &World<K>, place: usize) -> Result<usize, NoMemory> {
+    fn see_server<K: Keeper>(
+        &mut self,
+        memory: &mut Memory,
+        world: &World<K>,
+        place: usize,
+    ) -> usize {
         let rows = world.server().table().rows();
         for row in rows {
             self.files = self.files.max(row.file.0);
@@ -98,21 +102,22 @@ impl Spans {
                 host: row.who.host,
                 mode: row.mode,
             };
-            self.touch(&Party::Server, &kind, place)?;
+            self.touch(memory, &Party::Server, &kind, place);
         }
         if !world.serving() {
-            self.touch(&Party::Server, &Kind::Recovery, place)?;
+            self.touch(memory, &Party::Server, &Kind::Recovery, place);
         }
-        Ok(rows.len())
+        rows.len()
     }
 
     /// Notes the leases of a host that run. How many there are.
     fn see_host<K: Keeper>(
         &mut self,
+        memory: &mut Memory,
         world: &World<K>,
         host: u32,
         place: usize,
-    ) -> Result<usize, NoMemory>
+    ) -> usize
         requires { host < length world.now.clients }
     {
         let mut count = 0usize;
@@ -126,54 +131,56 @@ impl Spans {
                         file: FileId(file),
                         mode,
                     };
-                    self.touch(&Party::Client(Host(host)), &kind, place)?;
+                    self.touch(memory, &Party::Client(Host(host)), &kind, place);
                     count = count.saturating_add(1);
                 }
             }
         }
-        Ok(count)
+        count
     }
 
     /// Notes that something is there at a place. Where it was not there before, it begins there.
-    fn touch(&mut self, party: &Party, kind: &Kind, place: usize) -> Result<(), NoMemory> {
-        if goes_on(&mut self.spans, &self.open, party, kind, place) {
-            return Ok(());
+    fn touch(&mut self, memory: &mut Memory, party: &Party, kind: &Kind, place: usize) {
+        if !goes_on(&mut self.spans, &self.open, party, kind, place) {
+            self.begin(memory, party, kind, place);
         }
-        self.begin(party, kind, place)
     }
 
     /// Notes that something begins at a place.
-    fn begin(&mut self, party: &Party, kind: &Kind, place: usize) -> Result<(), NoMemory> {
+    fn begin(&mut self, memory: &mut Memory, party: &Party, kind: &Kind, place: usize) {
         let newest = self.spans.len();
-        self.open.push(newest)?;
-        self.changes.push(Change {
+        let change = Change {
             kind: *kind,
             begins: true,
-        })?;
-        self.spans.push(Span {
+        };
+        let span = Span {
             party: *party,
             kind: *kind,
             first: place,
             last: place,
             open: true,
-        })?;
-        Ok(())
+        };
+        memory.push(&mut self.open, newest);
+        memory.push(&mut self.changes, change);
+        memory.push(&mut self.spans, span);
     }
 
     /// Ends what is no longer there after the event at a place.
-    fn end(&mut self, place: usize) -> Result<(), NoMemory> {
-        let mut open = Vec::new(self.alloc);
+    fn end(&mut self, memory: &mut Memory, place: usize) {
+        let mut open = Vec::new(memory.alloc);
         for index in &self.open {
             match ended(&mut self.spans, *index, place) {
-                Some(kind) => self.changes.push(Change {
-                    kind,
-                    begins: false,
-                })?,
-                None => open.push(*index)?,
+                Some(kind) => {
+                    let change = Change {
+                        kind,
+                        begins: false,
+                    };
+                    memory.push(&mut self.changes, change);
+                }
+                None => memory.push(&mut open, *index),
             }
         }
         self.open = open;
-        Ok(())
     }
 }
 

@@ -1,6 +1,6 @@
 //! A run as a chart.
 
-ghost use Rattle.std.specs.Prelude.{◌≡◌, ◌+◌, ◌≤◌, vec_len, IfOk, OnOk};
+ghost use Rattle.std.specs.Prelude.{◌≡◌, ◌+◌, vec_len, IfOk};
 
 use crate::NoMemory;
 use crate::lists::Growing;
@@ -13,9 +13,7 @@ use nq_chart::{Bar, Chart, Column, Packet, Part, Side, Tint, text_of};
 use std::alloc::Global;
 
 /// How many hosts stand left of the server.
-fn hosts_left(hosts: u32) -> u32
-    ensures { result ≤ hosts }
-{
+fn hosts_left(hosts: u32) -> u32 {
     hosts / 2 + hosts % 2
 }
 
@@ -70,7 +68,7 @@ pub fn picture(
     let shown = rows_of(alloc, record, from, to)?;
     let packets = packets(alloc, record, &shown)?;
     let bars = bars(alloc, record, &shown)?;
-    let rows = shown.into_rows();
+    let rows = shown.finish()?;
     Ok(Chart {
         title,
         columns,
@@ -86,27 +84,11 @@ fn columns(alloc: Global, hosts: u32) -> Result<Vec<Column>, NoMemory>
 {
     let mut columns = Vec::new(alloc);
     let left = hosts_left(hosts);
-    for host in 0..left {
-        push_column(alloc, hosts, &Party::Client(Host(host)), &mut columns)?;
+    for place in 0..hosts {
+        columns.push(column(alloc, hosts, &party_at(left, place))?)?;
     }
-    push_column(alloc, hosts, &Party::Server, &mut columns)?;
-    for later in left..hosts {
-        push_column(alloc, hosts, &Party::Client(Host(later)), &mut columns)?;
-    }
+    columns.push(column(alloc, hosts, &party_at(left, hosts))?)?;
     Ok(columns)
-}
-
-/// Adds a party.
-fn push_column(
-    alloc: Global,
-    hosts: u32,
-    party: &Party,
-    columns: &mut Vec<Column>,
-) -> Result<(), NoMemory>
-    ensures { OnOk result (vec_len columns.new ≡ vec_len columns.old + 1) }
-{
-    columns.push(column(alloc, hosts, party)?)?;
-    Ok(())
 }
 
 /// A party.
@@ -114,6 +96,17 @@ fn column(alloc: Global, hosts: u32, party: &Party) -> Result<Column, NoMemory> 
     let bars = outer(hosts, *party);
     let name = party_name(alloc, *party)?;
     Ok(Column { name, bars })
+}
+
+/// The party at a place, where so many hosts stand left of the server.
+fn party_at(left: u32, place: u32) -> Party {
+    if place < left {
+        Party::Client(Host(place))
+    } else if place == left {
+        Party::Server
+    } else {
+        Party::Client(Host(place - 1))
+    }
 }
 
 /// The packets that are sent or arrive in the rows that are shown.

@@ -5,8 +5,8 @@ ghost use Rattle.nq_record.specs.Words.{sign_of};
 
 use crate::NoMemory;
 use crate::record::Noted;
-use crate::text::{mode_word, named, owned};
-use nq_base::{Entry, Said, Spans, Told};
+use crate::text::{filled, mode_word, named, owned};
+use nq_base::{Entry, Mode, Said, Spans, Told};
 use nq_chart::{Part, Sign, text_of};
 use std::alloc::Global;
 
@@ -26,11 +26,28 @@ fn words_of(alloc: Global, entry: &Entry) -> Result<String, NoMemory> {
     match entry {
         Entry::C { told, .. } => told_words(alloc, told),
         Entry::A { said, .. } => said_words(alloc, said),
-        Entry::W { .. } | Entry::R { .. } | Entry::S { .. } | Entry::L { .. } => {
-            block_words(alloc, entry)
-        }
-        Entry::G { .. } | Entry::F { .. } | Entry::Z { .. } => file_words(alloc, entry),
-        Entry::O { .. } | Entry::B { .. } | Entry::X { .. } => start_words(alloc, entry),
+        Entry::W { .. } | Entry::R { .. } => block_words(alloc, entry),
+        Entry::S { .. } | Entry::L { .. } => stored_words(alloc, entry),
+        Entry::G {
+            who,
+            file,
+            mode,
+            term,
+            ..
+        } => grant_words(alloc, who.host.0, file.0, *mode, *term),
+        Entry::F { who, file, .. } => filled(
+            alloc,
+            "fences host # on #",
+            &[who.host.0 as u64, file.0 as u64],
+        ),
+        Entry::Z { file, from, to, .. } => filled(
+            alloc,
+            "file # from # to # blocks",
+            &[file.0 as u64, *from as u64, *to as u64],
+        ),
+        Entry::B { who } => filled(alloc, "starts again, incarnation #", &[who.inc.0 as u64]),
+        Entry::X { boot, .. } => filled(alloc, "boots again, boot #", &[*boot as u64]),
+        Entry::O { boot, .. } => filled(alloc, "recovery of boot # ends", &[*boot as u64]),
     }
 }
 
@@ -47,7 +64,7 @@ fn sign_of(entry: &Entry) -> Sign
     }
 }
 
-/// A read, a write, a store or a loss.
+/// A write or a read.
 fn block_words(alloc: Global, entry: &Entry) -> Result<String, NoMemory> {
     match entry {
         Entry::W {
@@ -58,8 +75,13 @@ fn block_words(alloc: Global, entry: &Entry) -> Result<String, NoMemory> {
             through,
             ..
         } => {
-            let word = if *through { "writes" } else { "delays" };
-            written_words(alloc, word, file.0, block.0, *value, number.0)
+            let form = if *through {
+                "writes #:# = #, write #"
+            } else {
+                "delays #:# = #, write #"
+            };
+            let numbers = [file.0 as u64, block.0 as u64, *value as u64, number.0];
+            filled(alloc, form, &numbers)
         }
         Entry::R {
             file,
@@ -68,58 +90,15 @@ fn block_words(alloc: Global, entry: &Entry) -> Result<String, NoMemory> {
             served,
             ..
         } => {
-            let word = if served.is_some() { "serves" } else { "has" };
-            read_words(alloc, word, file.0, block.0, *value)
+            let form = if served.is_some() {
+                "serves #:# = #"
+            } else {
+                "has #:# = #"
+            };
+            filled(alloc, form, &[file.0 as u64, block.0 as u64, *value as u64])
         }
-        _ => stored_words(alloc, entry),
+        _ => Ok(String::new(alloc)),
     }
-}
-
-/// A value that is read.
-fn read_words(
-    alloc: Global,
-    word: &str,
-    file: u32,
-    block: u32,
-    value: u32,
-) -> Result<String, NoMemory> {
-    text_of(
-        alloc,
-        &[
-            Part::Text(word),
-            Part::Text(" "),
-            Part::Number(file as u64),
-            Part::Text(":"),
-            Part::Number(block as u64),
-            Part::Text(" = "),
-            Part::Number(value as u64),
-        ],
-    )
-}
-
-/// A write.
-fn written_words(
-    alloc: Global,
-    word: &str,
-    file: u32,
-    block: u32,
-    value: u32,
-    number: u64,
-) -> Result<String, NoMemory> {
-    text_of(
-        alloc,
-        &[
-            Part::Text(word),
-            Part::Text(" "),
-            Part::Number(file as u64),
-            Part::Text(":"),
-            Part::Number(block as u64),
-            Part::Text(" = "),
-            Part::Number(value as u64),
-            Part::Text(", write "),
-            Part::Number(number),
-        ],
-    )
 }
 
 /// A store or a loss.
@@ -131,115 +110,46 @@ fn stored_words(alloc: Global, entry: &Entry) -> Result<String, NoMemory> {
             first,
             last,
             ..
-        } => span_words(alloc, "stores", file.0, block.0, first.0, last.0),
+        } => {
+            let numbers = [file.0 as u64, block.0 as u64, first.0, last.0];
+            filled(alloc, "stores #:#, writes #-#", &numbers)
+        }
         Entry::L {
             file,
             block,
             first,
             last,
             ..
-        } => span_words(alloc, "lost", file.0, block.0, first.0, last.0),
+        } => {
+            let numbers = [file.0 as u64, block.0 as u64, first.0, last.0];
+            filled(alloc, "lost #:#, writes #-#", &numbers)
+        }
         _ => Ok(String::new(alloc)),
     }
 }
 
-/// Delayed writes of a block.
-fn span_words(
+/// A grant.
+fn grant_words(
     alloc: Global,
-    word: &str,
+    host: u32,
     file: u32,
-    block: u32,
-    first: u64,
-    last: u64,
+    mode: Mode,
+    term: u32,
 ) -> Result<String, NoMemory> {
     text_of(
         alloc,
         &[
-            Part::Text(word),
+            Part::Text("grants host "),
+            Part::Number(host as u64),
             Part::Text(" "),
+            Part::Text(mode_word(mode)),
+            Part::Text(" on "),
             Part::Number(file as u64),
-            Part::Text(":"),
-            Part::Number(block as u64),
-            Part::Text(", writes "),
-            Part::Number(first),
-            Part::Text("-"),
-            Part::Number(last),
+            Part::Text(", "),
+            Part::Number(term as u64),
+            Part::Text(" ticks"),
         ],
     )
-}
-
-/// A grant, an end in silence, or another length.
-fn file_words(alloc: Global, entry: &Entry) -> Result<String, NoMemory> {
-    match entry {
-        Entry::G {
-            who,
-            file,
-            mode,
-            term,
-            ..
-        } => text_of(
-            alloc,
-            &[
-                Part::Text("grants host "),
-                Part::Number(who.host.0 as u64),
-                Part::Text(" "),
-                Part::Text(mode_word(*mode)),
-                Part::Text(" on "),
-                Part::Number(file.0 as u64),
-                Part::Text(", "),
-                Part::Number(*term as u64),
-                Part::Text(" ticks"),
-            ],
-        ),
-        Entry::F { who, file, .. } => text_of(
-            alloc,
-            &[
-                Part::Text("fences host "),
-                Part::Number(who.host.0 as u64),
-                Part::Text(" on "),
-                Part::Number(file.0 as u64),
-            ],
-        ),
-        Entry::Z { file, from, to, .. } => text_of(
-            alloc,
-            &[
-                Part::Text("file "),
-                Part::Number(file.0 as u64),
-                Part::Text(" from "),
-                Part::Number(*from as u64),
-                Part::Text(" to "),
-                Part::Number(*to as u64),
-                Part::Text(" blocks"),
-            ],
-        ),
-        _ => Ok(String::new(alloc)),
-    }
-}
-
-/// A start, a boot, or the end of a recovery.
-fn start_words(alloc: Global, entry: &Entry) -> Result<String, NoMemory> {
-    match entry {
-        Entry::B { who } => text_of(
-            alloc,
-            &[
-                Part::Text("starts again, incarnation "),
-                Part::Number(who.inc.0 as u64),
-            ],
-        ),
-        Entry::X { boot, .. } => text_of(
-            alloc,
-            &[Part::Text("boots again, boot "), Part::Number(*boot as u64)],
-        ),
-        Entry::O { boot, .. } => text_of(
-            alloc,
-            &[
-                Part::Text("recovery of boot "),
-                Part::Number(*boot as u64),
-                Part::Text(" ends"),
-            ],
-        ),
-        _ => Ok(String::new(alloc)),
-    }
 }
 
 /// A call.
@@ -247,88 +157,36 @@ fn told_words(alloc: Global, told: &Told) -> Result<String, NoMemory> {
     match told {
         Told::Create { name, .. } => named(alloc, "call create ", name),
         Told::Lookup { name } => named(alloc, "call lookup ", name),
-        Told::Attr { file } => called(alloc, "attr", file.0),
-        Told::Read { file, block } => called_block(alloc, "read", file.0, block.0),
-        Told::Fetch { file, block } => called_block(alloc, "fetch", file.0, block.0),
+        Told::Attr { file } => filled(alloc, "call attr #", &[file.0 as u64]),
+        Told::Read { file, block } => {
+            filled(alloc, "call read # #", &[file.0 as u64, block.0 as u64])
+        }
+        Told::Fetch { file, block } => {
+            filled(alloc, "call fetch # #", &[file.0 as u64, block.0 as u64])
+        }
         Told::Write { file, block, value } => {
-            called_value(alloc, "write", file.0, block.0, *value)
+            let numbers = [file.0 as u64, block.0 as u64, *value as u64];
+            filled(alloc, "call write # # #", &numbers)
         }
         Told::WriteSync { file, block, value } => {
-            called_value(alloc, "put", file.0, block.0, *value)
+            let numbers = [file.0 as u64, block.0 as u64, *value as u64];
+            filled(alloc, "call put # # #", &numbers)
         }
-        Told::Sync { file } => called(alloc, "sync", file.0),
-        Told::Resize { file, blocks } => called_block(alloc, "resize", file.0, *blocks),
-        Told::Remove { file } => called(alloc, "remove", file.0),
+        Told::Sync { file } => filled(alloc, "call sync #", &[file.0 as u64]),
+        Told::Resize { file, blocks } => {
+            filled(alloc, "call resize # #", &[file.0 as u64, *blocks as u64])
+        }
+        Told::Remove { file } => filled(alloc, "call remove #", &[file.0 as u64]),
     }
-}
-
-/// A call with a file.
-fn called(alloc: Global, word: &str, file: u32) -> Result<String, NoMemory> {
-    text_of(
-        alloc,
-        &[
-            Part::Text("call "),
-            Part::Text(word),
-            Part::Text(" "),
-            Part::Number(file as u64),
-        ],
-    )
-}
-
-/// A call with a file and a block.
-fn called_block(alloc: Global, word: &str, file: u32, block: u32) -> Result<String, NoMemory> {
-    text_of(
-        alloc,
-        &[
-            Part::Text("call "),
-            Part::Text(word),
-            Part::Text(" "),
-            Part::Number(file as u64),
-            Part::Text(" "),
-            Part::Number(block as u64),
-        ],
-    )
-}
-
-/// A call with a file, a block and a value.
-fn called_value(
-    alloc: Global,
-    word: &str,
-    file: u32,
-    block: u32,
-    value: u32,
-) -> Result<String, NoMemory> {
-    text_of(
-        alloc,
-        &[
-            Part::Text("call "),
-            Part::Text(word),
-            Part::Text(" "),
-            Part::Number(file as u64),
-            Part::Text(" "),
-            Part::Number(block as u64),
-            Part::Text(" "),
-            Part::Number(value as u64),
-        ],
-    )
 }
 
 /// An answer.
 fn said_words(alloc: Global, said: &Said) -> Result<String, NoMemory> {
     match said {
-        Said::OkValue(value) => text_of(
-            alloc,
-            &[Part::Text("answer ok "), Part::Number(*value as u64)],
-        ),
-        Said::OkBy { value, packet } => text_of(
-            alloc,
-            &[
-                Part::Text("answer ok "),
-                Part::Number(*value as u64),
-                Part::Text(" by "),
-                Part::Number(*packet as u64),
-            ],
-        ),
+        Said::OkValue(value) => filled(alloc, "answer ok #", &[*value as u64]),
+        Said::OkBy { value, packet } => {
+            filled(alloc, "answer ok # by #", &[*value as u64, *packet])
+        }
         Said::Lost(spans) => lost_words(alloc, spans),
         Said::Ok => owned(alloc, "answer ok"),
         Said::Busy => owned(alloc, "answer busy"),
@@ -347,31 +205,11 @@ fn lost_words(alloc: Global, spans: &Spans) -> Result<String, NoMemory> {
         return owned(alloc, "answer lost");
     };
     let more = spans.len().saturating_sub(1);
-    let mut text = text_of(
-        alloc,
-        &[
-            Part::Text("answer lost "),
-            Part::Number(span.block.0 as u64),
-            Part::Text(":"),
-            Part::Number(span.first.0),
-            Part::Text("-"),
-            Part::Number(span.last.0),
-        ],
-    )?;
-    if more > 0 {
-        text.push_str(more_words(alloc, more)?.as_str())?;
-    }
-    Ok(text)
-}
-
-/// How many more losses there are.
-fn more_words(alloc: Global, more: usize) -> Result<String, NoMemory> {
-    text_of(
-        alloc,
-        &[
-            Part::Text(" and "),
-            Part::Number(more as u64),
-            Part::Text(" more"),
-        ],
-    )
+    let form = if more > 0 {
+        "answer lost #:#-# and # more"
+    } else {
+        "answer lost #:#-#"
+    };
+    let numbers = [span.block.0 as u64, span.first.0, span.last.0, more as u64];
+    filled(alloc, form, &numbers)
 }

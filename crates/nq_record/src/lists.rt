@@ -24,6 +24,11 @@ impl<T: Drop> Growing<T> {
         self.items.len()
     }
 
+    /// The item at a place.
+    pub(crate) fn get(&self, place: usize) -> Option<&T> {
+        self.items.get(place)
+    }
+
     /// Adds an item.
     pub(crate) fn push(&mut self, item: T) {
         if !self.is_short {

@@ -4,7 +4,7 @@ use crate::NoMemory;
 use crate::drawing::{outer, place_of};
 use crate::lists::Growing;
 use crate::record::{Act, Moment, Record, Sent};
-use crate::text::owned;
+use crate::text::{filled, owned};
 use nq_base::Party;
 use nq_chart::{Note, Part, Row, Side, Sign, text_of};
 use std::alloc::Global;
@@ -16,43 +16,16 @@ pub(crate) struct Rows {
     pub(crate) from: usize,
     /// The last event that is shown.
     pub(crate) to: usize,
-    rows: Vec<Row>,
-    places: Vec<usize>,
-}
-
-impl Rows {
-    /// The row of an event, if it is shown.
-    pub(crate) fn row_of(&self, moment: usize) -> Option<usize> {
-        let behind = moment.checked_sub(self.from)?;
-        match self.places.get(behind) {
-            Some(row) => Some(*row),
-            None => None,
-        }
-    }
-
-    /// The rows.
-    pub(crate) fn into_rows(self) -> Vec<Row> {
-        let Rows {
-            from: _,
-            to: _,
-            rows,
-            places: _places,
-        } = self;
-        rows
-    }
-}
-
-/// Rows that are drawn.
-#[derive(Drop)]
-struct Drawn {
     rows: Growing<Row>,
     places: Growing<usize>,
 }
 
-impl Drawn {
-    /// No rows.
-    fn new(alloc: Global) -> Drawn {
-        Drawn {
+impl Rows {
+    /// No rows yet of the events from `from` to `to`.
+    fn new(alloc: Global, from: usize, to: usize) -> Rows {
+        Rows {
+            from,
+            to,
             rows: Growing::new(alloc),
             places: Growing::new(alloc),
         }
@@ -67,15 +40,25 @@ impl Drawn {
         self.rows.add(row);
     }
 
-    /// The rows of the events from `from` to `to`.
-    fn finish(self, from: usize, to: usize) -> Result<Rows, NoMemory> {
-        let Drawn { rows, places } = self;
-        Ok(Rows {
-            from,
-            to,
-            rows: rows.finish()?,
-            places: places.finish()?,
-        })
+    /// The row of an event, if it is shown.
+    pub(crate) fn row_of(&self, moment: usize) -> Option<usize> {
+        let behind = moment.checked_sub(self.from)?;
+        match self.places.get(behind) {
+            Some(row) => Some(*row),
+            None => None,
+        }
+    }
+
+    /// The rows.
+    pub(crate) fn finish(self) -> Result<Vec<Row>, NoMemory> {
+        let Rows {
+            from: _,
+            to: _,
+            rows,
+            places,
+        } = self;
+        places.finish()?;
+        rows.finish()
     }
 }
 
@@ -119,7 +102,7 @@ pub(crate) fn rows_of(
 ) -> Result<Rows, NoMemory> {
     let marked = marked(alloc, record)?;
     let mut clocks = Clocks::new(alloc, (record.hosts as usize).saturating_add(1))?;
-    let mut drawn = Drawn::new(alloc);
+    let mut rows = Rows::new(alloc, from, to);
     let mut idle = Idle {
         first: from,
         count: 0,
@@ -131,13 +114,13 @@ pub(crate) fn rows_of(
             if is_idle(&marked, place, moment) {
                 idle.add(place, moment);
             } else {
-                idle.end(alloc, record.hosts, &mut drawn, &mut clocks);
-                drawn.add(1, event_row(alloc, record, place, moment, &mut clocks));
+                idle.end(alloc, record.hosts, &mut rows, &mut clocks);
+                rows.add(1, event_row(alloc, record, place, moment, &mut clocks));
             }
         }
     }
-    idle.end(alloc, record.hosts, &mut drawn, &mut clocks);
-    drawn.finish(from, to)
+    idle.end(alloc, record.hosts, &mut rows, &mut clocks);
+    Ok(rows)
 }
 
 /// Which events begin or end something that lasts.
@@ -190,29 +173,21 @@ impl Idle {
 
     /// How they are named at the edge.
     fn name(&self, alloc: Global) -> Result<String, NoMemory> {
-        let first = Part::Number(self.first as u64);
-        if self.count == 1 {
-            return text_of(alloc, &[first]);
-        }
+        let form = if self.count == 1 { "#" } else { "#-#" };
         let last = self.first.saturating_add(self.count).saturating_sub(1);
-        text_of(alloc, &[first, Part::Text("-"), Part::Number(last as u64)])
+        filled(alloc, form, &[self.first as u64, last as u64])
     }
 
     /// What is told of them.
     fn text(&self, alloc: Global) -> Result<String, NoMemory> {
-        if self.count == 1 {
-            return text_of(alloc, &[Part::Text("tick")]);
-        }
-        text_of(
-            alloc,
-            &[Part::Number(self.count as u64), Part::Text(" ticks")],
-        )
+        let form = if self.count == 1 { "tick" } else { "# ticks" };
+        filled(alloc, form, &[self.count as u64])
     }
 
     /// Gives them a row, if there are any.
-    fn end(&mut self, alloc: Global, hosts: u32, drawn: &mut Drawn, clocks: &mut Clocks) {
+    fn end(&mut self, alloc: Global, hosts: u32, rows: &mut Rows, clocks: &mut Clocks) {
         if self.count > 0 {
-            drawn.add(self.count, self.row(alloc, hosts, clocks));
+            rows.add(self.count, self.row(alloc, hosts, clocks));
             self.count = 0;
         }
     }
@@ -259,7 +234,7 @@ fn event_row(
     moment: &Moment,
     clocks: &mut Clocks,
 ) -> Result<Row, NoMemory> {
-    let name = text_of(alloc, &[Part::Number(place as u64)]);
+    let name = filled(alloc, "#", &[place as u64]);
     let party = place_of(record.hosts, moment.party);
     row(
         name,

@@ -3,6 +3,7 @@
 ghost use Rattle.nq_chart.specs.Page.{Extends};
 
 use crate::NoMemory;
+use crate::lists::Growing;
 use crate::record::{Act, Record};
 use crate::telling::tell_moment;
 use nq_base::{BlockNo, Entry, FileId, Number, Said, Who};
@@ -46,15 +47,15 @@ fn led_to(
     entries: &[Entry],
     place: usize,
 ) -> Result<Vec<usize>, NoMemory> {
-    let mut led = Vec::new(alloc);
+    let mut led = Growing::new(alloc);
     let mut open = Vec::new(alloc);
     open.push(place)?;
     for _ in 0..entries.len() {
         let Some(entry) = open.pop() else {
-            return Ok(led);
+            break;
         };
         if let Some(moment) = moment_of(record, entry) {
-            follow_packets(record, moment, &mut led)?;
+            follow_packets(record, moment, &mut led);
         }
         if let Some(source) = source_of(entries, entry) {
             open.push(source)?;
@@ -63,7 +64,7 @@ fn led_to(
             }
         }
     }
-    Ok(led)
+    led.finish()
 }
 
 /// The event that made an entry.
@@ -74,22 +75,21 @@ fn moment_of(record: &Record, entry: usize) -> Option<usize> {
 }
 
 /// Adds an event, the event that sent the packet that arrives in it, and so on.
-fn follow_packets(record: &Record, first: usize, led: &mut Vec<usize>) -> Result<(), NoMemory> {
+fn follow_packets(record: &Record, first: usize, led: &mut Growing<usize>) {
     let mut place = first;
     for _ in 0..record.moments.len() {
-        led.push(place)?;
+        led.push(place);
         let Some(moment) = record.moments.get(place) else {
-            return Ok(());
+            return;
         };
         let Act::Arrival(number) = moment.act else {
-            return Ok(());
+            return;
         };
         let Some(sent) = record.packets.get(number as usize) else {
-            return Ok(());
+            return;
         };
         place = sent.sent;
     }
-    Ok(())
 }
 
 /// The last entry before an entry that is its source.
@@ -198,27 +198,21 @@ fn is_grant(before: &Entry, who: Who, file: FileId) -> bool {
 
 /// What ended the lease under which a write was lost, between the write and its loss: the end in silence, or else a boot of the server.
 fn end_between(entries: &[Entry], written: usize, place: usize) -> Option<usize> {
-    let entry = entries.get(place)?;
+    let Some(Entry::L { who, file, .. }) = entries.get(place) else {
+        return None;
+    };
     let mut silence = None;
     let mut boot = None;
     for (earlier, before) in entries.iter().enumerate() {
         let is_between = written < earlier && earlier < place;
-        if is_between && is_silence(before, entry) {
+        if is_between && is_end(before, *who, *file) {
             silence = Some(earlier);
         }
-        if is_between && is_boot(before, entry) {
+        if is_between && is_boot(before) {
             boot = Some(earlier);
         }
     }
     silence.or(boot)
-}
-
-/// Whether an entry is an end in silence for which a write of this loss can be lost.
-fn is_silence(before: &Entry, entry: &Entry) -> bool {
-    match entry {
-        Entry::L { who, file, .. } => is_end(before, *who, *file),
-        _ => false,
-    }
 }
 
 /// Whether an entry is the end in silence of a lease of this client.
@@ -233,13 +227,10 @@ fn is_end(before: &Entry, who: Who, file: FileId) -> bool {
     }
 }
 
-/// Whether an entry is a boot of the server, and the later one a loss.
-fn is_boot(before: &Entry, entry: &Entry) -> bool {
-    match entry {
-        Entry::L { .. } => match before {
-            Entry::X { .. } => true,
-            _ => false,
-        },
+/// Whether an entry is a boot of the server.
+fn is_boot(before: &Entry) -> bool {
+    match before {
+        Entry::X { .. } => true,
         _ => false,
     }
 }

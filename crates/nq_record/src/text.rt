@@ -28,6 +28,23 @@ pub(crate) fn owned(alloc: Global, words: &str) -> Result<String, NoMemory>
     Ok(String::from_str(alloc, words)?)
 }
 
+/// A form in which these numbers stand for the signs `#`, in their order. A sign for which there is no number is left out, and so is
+/// a number for which there is no sign.
+pub(crate) fn filled(alloc: Global, form: &str, numbers: &[u64]) -> Result<String, NoMemory> {
+    let mut text = String::new(alloc);
+    let mut signs = 0usize;
+    for words in form.split('#') {
+        if signs > 0 {
+            if let Some(number) = numbers.get(signs - 1) {
+                text.push_str(text_of(alloc, &[Part::Number(*number)])?.as_str())?;
+            }
+        }
+        text.push_str(words)?;
+        signs = signs.saturating_add(1);
+    }
+    Ok(text)
+}
+
 /// The word of a kind of lease.
 pub(crate) fn mode_word(mode: Mode) -> &'static str
     ensures { result.now ≡ mode_word mode }

@@ -10,13 +10,13 @@ pub returns-in-Ok : goal.returns-in-Ok
 returns-in-Ok g c = record {
   loops = λ head hosts here.
       let first = c.in-Ok.ensures.loops head hosts here in
-      let second = c.receive_hosts.ensures.loops head (hosts ∙ sym c.in-Ok.ensures.keeps.hosts_are) first.stands in
-      subst (λ r. Loops head (receive_steps head.hosts) r (loop_of g.K.Keeper.content g.L.Link.sent g.L.Link.waiting g.L.Link.faults g.L.Link.receives c.args.world.now c.args.state.now c.args.ran.now c.args.links.now) (loop_of g.K.Keeper.content g.L.Link.sent g.L.Link.waiting g.L.Link.faults g.L.Link.receives c.receive_hosts.new.world c.receive_hosts.new.state c.receive_hosts.new.ran c.receive_hosts.new.links)) (sym c.behind.ensures)
-      (then head (Step.receive Party.Server ∷ []) (each_below head.hosts (λ host. Step.receive (Party.Client host))) c.in-Ok.came c.receive_hosts.result (loop_of g.K.Keeper.content g.L.Link.sent g.L.Link.waiting g.L.Link.faults g.L.Link.receives c.args.world.now c.args.state.now c.args.ran.now c.args.links.now)
+      let second = c.each_host.ensures.loops head (hosts ∙ sym c.in-Ok.ensures.keeps.hosts_are) first.stands in
+      subst (λ r. Loops head (receive_steps head.hosts) r (loop_of g.K.Keeper.content g.L.Link.sent g.L.Link.waiting g.L.Link.faults g.L.Link.receives c.args.world.now c.args.state.now c.args.ran.now c.args.links.now) (loop_of g.K.Keeper.content g.L.Link.sent g.L.Link.waiting g.L.Link.faults g.L.Link.receives c.each_host.new.world c.each_host.new.state c.each_host.new.ran c.each_host.new.links)) (sym c.behind.ensures)
+      (then head (Step.receive Party.Server ∷ []) (each_below head.hosts (λ host. Step.receive (Party.Client host))) c.in-Ok.came c.each_host.result (loop_of g.K.Keeper.content g.L.Link.sent g.L.Link.waiting g.L.Link.faults g.L.Link.receives c.args.world.now c.args.state.now c.args.ran.now c.args.links.now)
       (loop_of g.K.Keeper.content g.L.Link.sent g.L.Link.waiting g.L.Link.faults g.L.Link.receives c.receive.new.world c.receive.new.state c.receive.new.ran c.receive.new.links)
-      (loop_of g.K.Keeper.content g.L.Link.sent g.L.Link.waiting g.L.Link.faults g.L.Link.receives c.receive_hosts.new.world c.receive_hosts.new.state c.receive_hosts.new.ran c.receive_hosts.new.links) first second);
-  keeps = subst (λ r. Keeps r (g.K.Keeper.faults c.args.world.now.server.keeper) (g.K.Keeper.faults c.receive_hosts.new.world.server.keeper) (length c.args.world.now.clients) (length c.receive_hosts.new.world.clients) (length c.args.state.now.begun) (length c.receive_hosts.new.state.begun)) (sym c.behind.ensures) (keeps-behind c.in-Ok.came c.receive_hosts.result _ _ _ _ _ _ _ _ _ c.in-Ok.ensures.keeps c.receive_hosts.ensures.keeps);
-  follows = g.met.K.Keeper.follows_on _ _ _ c.receive.ensures.follows c.receive_hosts.ensures.follows;
+      (loop_of g.K.Keeper.content g.L.Link.sent g.L.Link.waiting g.L.Link.faults g.L.Link.receives c.each_host.new.world c.each_host.new.state c.each_host.new.ran c.each_host.new.links) first second);
+  keeps = subst (λ r. Keeps r (g.K.Keeper.faults c.args.world.now.server.keeper) (g.K.Keeper.faults c.each_host.new.world.server.keeper) (length c.args.world.now.clients) (length c.each_host.new.world.clients) (length c.args.state.now.begun) (length c.each_host.new.state.begun)) (sym c.behind.ensures) (keeps-behind c.in-Ok.came c.each_host.result _ _ _ _ _ _ _ _ _ c.in-Ok.ensures.keeps c.each_host.ensures.keeps);
+  follows = g.met.K.Keeper.follows_on _ _ _ c.receive.ensures.follows c.each_host.ensures.follows;
 }
 
 pub returns-in-Err : goal.returns-in-Err

@@ -1,8 +1,5 @@
-use Rattle.std.proofs.Common.{◌≡◌, ◌+◌, vec_len}
+use Rattle.std.proofs.Common.{◌≡◌, vec_len}
 use Rattle.nq_record.proofs.drawing.columns.Given as goal
 
-abbrev pub invariant-loop-host : goal.invariant-loop-host
-invariant-loop-host l = vec_len l.columns ≡ l.host
-
-abbrev pub invariant-loop-later : goal.invariant-loop-later
-invariant-loop-later l = vec_len l.columns ≡ l.later + 1
+abbrev pub invariant-loop-place : goal.invariant-loop-place
+invariant-loop-place l = vec_len l.columns ≡ l.place

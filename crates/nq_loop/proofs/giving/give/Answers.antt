@@ -4,7 +4,7 @@ use Rattle.nq_loop.proofs.Kept.{filled_event}
 use Rattle.nq_loop.specs.Counting.{Counts}
 use Rattle.nq_loop.specs.Holding.{IsLooping, loop_of}
 use Rattle.nq_loop.specs.Sending.{told_of}
-use Rattle.nq_loop.proofs.giving.give_event.Goals as goal
+use Rattle.nq_loop.proofs.giving.give.Goals as goal
 
 pub keep-requires : goal.keep-requires
 keep-requires g c = filled_event (length c.args.state.now.begun) c.args.event.now c.requires.looped

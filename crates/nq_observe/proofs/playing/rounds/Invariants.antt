@@ -1,8 +1,0 @@
-use Rattle.std.proofs.Common.{◌≡◌, length}
-use Rattle.nq_observe.proofs.playing.rounds.Given as goal
-
-abbrev pub invariant-loop-turn : goal.invariant-loop-turn
-invariant-loop-turn g l = record {
-  clients : length l.world.clients ≡ length l.fn.world.clients;
-  window : l.world.skew.window ≡ l.fn.world.skew.window;
-}
