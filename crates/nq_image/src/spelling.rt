@@ -1,8 +1,8 @@
 //! The fields of an image of version 2 as bytes, and where they stand: what the record of a change is made of.
 
-ghost use Rattle.std.specs.Prelude.{◌≡◌, ◌<◌, ◌≤◌, ◌+◌, ◌-◌, ◌*◌, ◌^◌, ◌++◌, ℕ, IfOk, OnOk, flat_map, length, replicate, slice_index};
+ghost use Rattle.std.specs.Prelude.{◌≡◌, ◌<◌, ◌≤◌, ◌+◌, ◌-◌, ◌*◌, ◌^◌, ◌++◌, ℕ, IfOk, OnOk, length, replicate, slice_index};
 ghost use Rattle.nq_image.specs.Layout.{block_place as place_of_block};
-ghost use Rattle.nq_image.specs.Writing.{entries_of, heads_bytes, host_bytes, number_of as number_in, row_bytes, table_of_blocks};
+ghost use Rattle.nq_image.specs.Writing.{entries_of, heads_bytes, host_bytes, number_of as number_in, numbers_bytes, row_bytes, table_of_blocks};
 
 use nq_base::{FileRow, Heads, HostRow, Verdict};
 use nq_memory::NoMemory;
@@ -58,13 +58,6 @@ fn number_of(verdict: Verdict) -> u32
     }
 }
 
-/// The bytes of these parts, one behind another.
-fn joined(alloc: Global, parts: &[&[u8]]) -> Result<Vec<u8>, NoMemory>
-    ensures { IfOk result (λ bytes. bytes.items ≡ flat_map (λ part. part.now) parts.now) }
-{
-    Ok(parts.concat(alloc)?)
-}
-
 /// The numbers of the server.
 ///
 /// # Errors
@@ -74,15 +67,12 @@ fn joined(alloc: Global, parts: &[&[u8]]) -> Result<Vec<u8>, NoMemory>
 pub fn spell_heads(alloc: Global, heads: &Heads) -> Result<Vec<u8>, NoMemory>
     ensures { IfOk result (λ bytes. bytes.items ≡ heads_bytes heads.now) }
 {
-    joined(
-        alloc,
-        &[
-            &heads.boot.to_be_bytes(),
-            &heads.opened.to_be_bytes(),
-            &heads.longest.to_be_bytes(),
-            &heads.next.to_be_bytes(),
-        ],
-    )
+    let mut bytes = Vec::with_capacity(alloc, 16)?;
+    bytes.extend_from_slice(&heads.boot.to_be_bytes())?;
+    bytes.extend_from_slice(&heads.opened.to_be_bytes())?;
+    bytes.extend_from_slice(&heads.longest.to_be_bytes())?;
+    bytes.extend_from_slice(&heads.next.to_be_bytes())?;
+    Ok(bytes)
 }
 
 /// The row of a host.
@@ -94,16 +84,13 @@ pub fn spell_heads(alloc: Global, heads: &Heads) -> Result<Vec<u8>, NoMemory>
 pub fn spell_host(alloc: Global, row: &HostRow) -> Result<Vec<u8>, NoMemory>
     ensures { IfOk result (λ bytes. bytes.items ≡ host_bytes row.now) }
 {
-    joined(
-        alloc,
-        &[
-            &row.inc.0.to_be_bytes(),
-            &number_of(row.verdict).to_be_bytes(),
-            &row.seq.0.to_be_bytes(),
-            &row.value.to_be_bytes(),
-            &[0; 8],
-        ],
-    )
+    let mut bytes = Vec::with_capacity(alloc, 32)?;
+    bytes.extend_from_slice(&row.inc.0.to_be_bytes())?;
+    bytes.extend_from_slice(&number_of(row.verdict).to_be_bytes())?;
+    bytes.extend_from_slice(&row.seq.0.to_be_bytes())?;
+    bytes.extend_from_slice(&row.value.to_be_bytes())?;
+    bytes.extend_from_slice(&[0; 8])?;
+    Ok(bytes)
 }
 
 /// Adds zeros.
@@ -115,29 +102,36 @@ fn push_zeros(bytes: &mut Vec<u8>, count: usize) -> Result<(), NoMemory>
     Ok(())
 }
 
-/// The row of a file. Its first block has no meaning in version 2.
+/// The numbers in the row of a file. Its first block has no meaning in version 2.
+#[tactic(auto, unfolding(crate::specs::Writing::numbers_bytes))]
+fn spell_numbers(alloc: Global, blocks: u32, rev: u64) -> Result<Vec<u8>, NoMemory>
+    ensures { IfOk result (λ bytes. bytes.items ≡ numbers_bytes blocks rev) }
+{
+    let mut bytes = Vec::with_capacity(alloc, 28)?;
+    bytes.extend_from_slice(&blocks.to_be_bytes())?;
+    bytes.extend_from_slice(&[0; 4])?;
+    bytes.extend_from_slice(&rev.to_be_bytes())?;
+    bytes.extend_from_slice(&[0; 12])?;
+    Ok(bytes)
+}
+
+/// The row of a file.
 ///
 /// # Errors
 ///
 /// Memory was refused.
+#[tactic(auto, unfolding(crate::specs::Writing::row_bytes, crate::specs::Writing::zeros_of))]
 pub fn spell_row(alloc: Global, row: &FileRow) -> Result<Vec<u8>, NoMemory>
     ensures { IfOk result (λ bytes. bytes.items ≡ row_bytes row.now.name row.now.blocks row.now.rev) }
 {
     let name = row.name.as_bytes();
-    let zeros = [0; 64];
-    let (_, behind) = zeros.split_at(name.len());
-    joined(
-        alloc,
-        &[
-            &(name.len() as u32).to_be_bytes(),
-            name,
-            behind,
-            &row.blocks.to_be_bytes(),
-            &[0; 4],
-            &row.rev.0.to_be_bytes(),
-            &[0; 12],
-        ],
-    )
+    let numbers = spell_numbers(alloc, row.blocks, row.rev.0)?;
+    let mut bytes = Vec::with_capacity(alloc, 96)?;
+    bytes.extend_from_slice(&(name.len() as u32).to_be_bytes())?;
+    bytes.extend_from_slice(name)?;
+    push_zeros(&mut bytes, 64 - name.len())?;
+    bytes.extend_from_slice(&numbers)?;
+    Ok(bytes)
 }
 
 /// The entries of these blocks.
