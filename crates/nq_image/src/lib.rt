@@ -31,9 +31,7 @@ pub use fields::piece;
 pub use heads::{Boots, Front, read_boots, read_front, version_of};
 pub use hosts::{read_host, read_hosts};
 pub use ids::{check_held, read_ids, whole_blocks};
-pub use image::{
-    ImageOne, ImageTwo, Rows, Tables, fresh_marks, read_all_rows, read_one, read_two,
-};
+pub use image::{ImageOne, ImageTwo, Rows, Tables, fresh_marks, read_all_rows, read_one, read_two};
 pub use kept::{FoundFile, KeptImage, kept_of, numbers_from, read_kept};
 pub use order::{first_wrong_is_least, heads_are_in_order, rows_are_in_order, tables_are_in_order};
 pub use ranges::{

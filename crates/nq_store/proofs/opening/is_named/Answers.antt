@@ -50,14 +50,14 @@ pub returns-in_err-name-clause-asked : goal.returns-in_err-name-clause-asked
 returns-in_err-name-clause-asked g c =
     asked-then g.D.Disk.told g.D.Disk.follows g.D.Disk.may_leave g.D.Disk.leaves g.met.D.Disk.follows_on g.met.D.Disk.leaves_ends g.met.D.Disk.parts c.args.disk.now c.size.new.self c.read_piece.new.disk
     (asked-then g.D.Disk.told g.D.Disk.follows g.D.Disk.may_leave g.D.Disk.leaves g.met.D.Disk.follows_on g.met.D.Disk.leaves_ends g.met.D.Disk.parts c.args.disk.now c.sync.new.self c.size.new.self
-        (asked-by g.D.Disk.told g.D.Disk.follows g.D.Disk.may_leave g.D.Disk.leaves c.args.disk.now c.sync.new.self c.sync.ensures.same c.sync.ensures.follows c.sync.ensures.leaves)
-        (asked-by g.D.Disk.told g.D.Disk.follows g.D.Disk.may_leave g.D.Disk.leaves c.sync.new.self c.size.new.self c.size.ensures.same c.size.ensures.follows c.size.ensures.leaves))
+    (asked-by g.D.Disk.told g.D.Disk.follows g.D.Disk.may_leave g.D.Disk.leaves c.args.disk.now c.sync.new.self c.sync.ensures.same c.sync.ensures.follows c.sync.ensures.leaves)
+    (asked-by g.D.Disk.told g.D.Disk.follows g.D.Disk.may_leave g.D.Disk.leaves c.sync.new.self c.size.new.self c.size.ensures.same c.size.ensures.follows c.size.ensures.leaves))
     c.read_piece.ensures.asked
 
 pub returns-clause-asked : goal.returns-clause-asked
 returns-clause-asked g c =
     asked-then g.D.Disk.told g.D.Disk.follows g.D.Disk.may_leave g.D.Disk.leaves g.met.D.Disk.follows_on g.met.D.Disk.leaves_ends g.met.D.Disk.parts c.args.disk.now c.size.new.self c.read_piece.new.disk
     (asked-then g.D.Disk.told g.D.Disk.follows g.D.Disk.may_leave g.D.Disk.leaves g.met.D.Disk.follows_on g.met.D.Disk.leaves_ends g.met.D.Disk.parts c.args.disk.now c.sync.new.self c.size.new.self
-        (asked-by g.D.Disk.told g.D.Disk.follows g.D.Disk.may_leave g.D.Disk.leaves c.args.disk.now c.sync.new.self c.sync.ensures.same c.sync.ensures.follows c.sync.ensures.leaves)
-        (asked-by g.D.Disk.told g.D.Disk.follows g.D.Disk.may_leave g.D.Disk.leaves c.sync.new.self c.size.new.self c.size.ensures.same c.size.ensures.follows c.size.ensures.leaves))
+    (asked-by g.D.Disk.told g.D.Disk.follows g.D.Disk.may_leave g.D.Disk.leaves c.args.disk.now c.sync.new.self c.sync.ensures.same c.sync.ensures.follows c.sync.ensures.leaves)
+    (asked-by g.D.Disk.told g.D.Disk.follows g.D.Disk.may_leave g.D.Disk.leaves c.sync.new.self c.size.new.self c.size.ensures.same c.size.ensures.follows c.size.ensures.leaves))
     c.read_piece.ensures.asked
