@@ -64,6 +64,10 @@ abbrev pub NoDelivery : Event → Type 0
 NoDelivery (Event.Deliver k) = ⊥
 NoDelivery other = Unit {0}
 
+pub no-delivery : (event : Event) → ((k : ℕ) → event ≡ Event.Deliver k → ⊥) → NoDelivery event
+no-delivery (Event.Deliver k) other = absurd (other k refl)
+no-delivery event other = tt
+
 tests-agree : (head : Head) (o : Outside) (event : Event) (packets : ℕ) → NoDelivery event → packets ≤ length o.sent → IsLeft (tested_outside head o (StagedEvent.Plain event)) → tested head o.ran packets event ≡ tested_outside head o (StagedEvent.Plain event)
 tests-agree head o (Event.Call host op) packets free less left = room-agrees packets (length o.sent) less left
 tests-agree head o (Event.Deliver k) packets free less left = absurd free
@@ -155,6 +159,16 @@ no-skew-room sent b is = room-no-skew (nat_lt most_sent sent) b is
 pub no-skew-packet : (there : Bool) (sent : ℕ) (b : SkewBroken) → (if there then tested_room sent else no_packet) ≡ out_of_skew b → ⊥
 no-skew-packet true sent b is = no-skew-room sent b is
 no-skew-packet false sent b is = cc
+
+tested-other : (head : Head) (o : Outside) (event : Event) → ((k : ℕ) → event ≡ Event.Deliver k → ⊥) → (event ≡ Event.ServerTick → ⊥) → tested_outside head o (StagedEvent.Plain event) ≡ tested_room (length o.sent)
+tested-other head o (Event.Deliver k) delivery tick = absurd (delivery k refl)
+tested-other head o Event.ServerTick delivery tick = absurd (tick refl)
+tested-other head o other delivery tick = refl
+
+-- any other event is tested for room alone
+pub other-tested : (head : Head) (o : Outside) (event : Event) (sent : ℕ) (said : Stepped) → ((k : ℕ) → event ≡ Event.Deliver k → ⊥) → (event ≡ Event.ServerTick → ⊥) → length o.sent ≡ sent → said ≡ answer_of (tested_room sent) → IsTested said (tested_outside head o (StagedEvent.Plain event))
+other-tested head o event sent said delivery tick same is =
+    subst (λ a. IsTested said a) (sym (tested-other head o event delivery tick ∙ ap tested_room same)) (tested-is said (tested_room sent) is (no-skew-room sent))
 
 -- a tick that keeps the rule, and one that breaks it
 pub tick-lawful : (hosts longest sent : ℕ) (earlier : List Event) (said : Stepped) → IsWithinSkew hosts longest earlier → IsWithinSkew hosts longest (Event.ServerTick ∷ earlier) → said ≡ answer_of (tested_room sent) → IsTested said (tested_skew sent (skew_broken hosts longest earlier))

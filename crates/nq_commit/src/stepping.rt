@@ -16,13 +16,14 @@ ghost use Rattle.nq_world.specs.Moving.{clients_in};
 ghost use Rattle.nq_world.specs.Playing.{CanCome, GoesOn, Plays};
 ghost use Rattle.nq_world.specs.declared.Stepped.{Stepped};
 
+use crate::around::Around;
 use crate::copying::copied;
 use crate::taking::Taken;
 use crate::world::StagedWorld;
 use nq_base::{Event, Host, NoMemory};
 use nq_keeper::Keeper;
 use nq_stage::run::{StagedEvent, event_brings};
-use nq_world::{Limit, MOST_EVENTS, MOST_SENT, Stepped};
+use nq_world::{Limit, MOST_EVENTS, MOST_SENT, Stepped, World};
 
 impl<K: Keeper> StagedWorld<K> {
     /// Takes an event in, where all that was sent has gone out.
@@ -74,10 +75,7 @@ impl<K: Keeper> StagedWorld<K> {
         match event {
             Event::Deliver(number) => self.test_packet(*number),
             Event::ServerTick => self.test_tick(),
-            Event::Call { .. } => self.test_room(),
-            Event::ClientTick(_) => self.test_room(),
-            Event::Restart(_) => self.test_room(),
-            Event::Crash { .. } => self.test_room(),
+            _ => self.test_room(),
         }
     }
 
@@ -167,11 +165,7 @@ impl<K: Keeper> StagedWorld<K> {
     {
         match event {
             Event::Deliver(number) => self.deliver(*number),
-            Event::ServerTick => self.run(event, false),
-            Event::Call { .. } => self.run(event, false),
-            Event::ClientTick(_) => self.run(event, false),
-            Event::Restart(_) => self.run(event, false),
-            Event::Crash { .. } => self.run(event, false),
+            _ => self.run(event, false),
         }
     }
 
@@ -234,7 +228,7 @@ impl<K: Keeper> StagedWorld<K> {
         match self.world.step(event) {
             Stepped::Done => {
                 self.around.count_commits(commits);
-                self.renew(event);
+                self.around.renew(event, &self.world);
                 Stepped::Done
             }
             refused => {
@@ -243,19 +237,18 @@ impl<K: Keeper> StagedWorld<K> {
             }
         }
     }
+}
 
-    /// A crash makes a new pool, and a restart a new side.
-    fn renew(&mut self, event: &Event)
-        requires { CanCome (length self.old.inner.clients) self.old.inner.skew.window event.now }
-        ensures renewed { (w : Model) → w.clients ≡ clients_in self.old.inner.clients → w.server.table.boot ≡ self.old.inner.server.beside.table.boot
-            → self.new.around ≡ renewed_around event.now w self.old.around }
-        ensures inner { self.new.inner ≡ self.old.inner }
-        ensures ran { self.new.ran ≡ self.old.ran }
-        ensures count { self.new.events ≡ self.old.events }
+impl Around {
+    /// After an event, which led to this inner world: a crash makes a new pool, and a restart a new side.
+    fn renew<K: Keeper>(&mut self, event: &Event, world: &World<K>)
+        requires { CanCome (length world.now.clients) world.now.skew.window event.now }
+        ensures { (w : Model) → w.clients ≡ clients_in world.now.clients → w.server.table.boot ≡ world.now.server.beside.table.boot
+            → self.new ≡ renewed_around event.now w self.old }
     {
         match event {
-            Event::Crash { .. } => self.around.reboot(self.world.boot()),
-            Event::Restart(host) => self.around.restart(*host, self.world.client(*host).who()),
+            Event::Crash { .. } => self.reboot(world.boot()),
+            Event::Restart(host) => self.restart(*host, world.client(*host).who()),
             Event::Call { .. } => {}
             Event::Deliver(_) => {}
             Event::ServerTick => {}

@@ -34,7 +34,7 @@ pub(crate) fn are_zeros(bytes: &[u8]) -> bool
 
 /// So many bytes from a place on.
 #[tactic(auto, unfolding(crate::specs::Layout::piece))]
-pub(crate) fn piece(bytes: &[u8], place: usize, size: usize) -> &[u8]
+pub fn piece(bytes: &[u8], place: usize, size: usize) -> &[u8]
     requires { place + size ≤ length bytes.now }
     ensures bytes { result.now ≡ piece_at place size bytes.now }
     ensures size { length result.now ≡ size }

@@ -11,7 +11,7 @@ use crate::fields::{are_zeros, piece};
 use crate::heads::{Boots, Front, read_boots, read_front};
 use crate::hosts::read_hosts;
 use crate::ids::{check_held, read_ids, whole_blocks};
-use crate::rows::{Slot, Version, blocks_before, read_rows};
+use crate::rows::{Slot, Version, blocks_in, read_rows};
 use crate::tables::read_tables;
 use nq_base::HostRow;
 use std::alloc::{AllocError, Global};
@@ -57,11 +57,16 @@ pub struct ImageTwo {
     pub tables: Tables,
 }
 
-/// The rows of hosts and files, where the zeros behind them are right too.
+/// The rows of hosts and files in the first bytes of an image of this version, where the zeros behind them are right too.
+///
+/// # Errors
+///
+/// `BadField` at the least field that is wrong; `Memory`.
 #[tactic(auto, unfolding(crate::specs::Image::rows_in))]
-fn read_all_rows(alloc: Global, version: Version, bytes: &[u8]) -> Result<Rows, ImageFault>
-    requires { 40960 ≤ length bytes.now }
+pub fn read_all_rows(alloc: Global, version: Version, bytes: &[u8]) -> Result<Rows, ImageFault>
+    requires { 28672 ≤ length bytes.now }
     ensures told { Reads seen_rows result (rows_in version bytes.now) }
+    ensures hosts { IfOk result (λ rows. length rows.hosts.items ≡ 64) }
     ensures all { IfOk result (λ rows. length rows.slots.items ≡ 256) }
     ensures few { IfOk result (λ rows. sum_by blocks_of rows.slots.items ≤ 16384) }
     ensures short { IfOk result (λ rows. All (λ slot. blocks_of slot ≤ 1024) rows.slots.items) }
@@ -88,7 +93,7 @@ pub fn read_one(alloc: Global, bytes: &[u8]) -> Result<ImageOne, ImageFault>
 {
     let boots = read_boots(piece(bytes, 0, 64))?;
     let rows = read_all_rows(alloc, Version::One, bytes)?;
-    let blocks = u64::from(blocks_before(&rows.slots));
+    let blocks = u64::from(blocks_in(&rows.slots));
     let whole = whole_blocks(bytes.len() as u64);
     if blocks > whole {
         return Err(ImageFault::BadField(40960 + 4096 * whole));
@@ -130,8 +135,12 @@ fn read_all_tables(
 }
 
 /// A mark for each of so many physical blocks: none was given.
+///
+/// # Errors
+///
+/// Memory was refused.
 #[tactic(auto, unfolding(crate::specs::Image::no_marks))]
-fn fresh_marks(alloc: Global, count: usize) -> Result<Vec<bool>, AllocError>
+pub fn fresh_marks(alloc: Global, count: usize) -> Result<Vec<bool>, AllocError>
     ensures marks { IfOk result (λ marks. marks.items ≡ no_marks count) }
     ensures size { IfOk result (λ marks. length marks.items ≡ count) }
 {

@@ -22,7 +22,7 @@ ghost use Rattle.nq_image.specs.Whole.{HasAllRows, seen};
 
 use crate::fault::ImageFault;
 use crate::image::{ImageOne, ImageTwo};
-use crate::rows::{Slot, blocks_before, blocks_of};
+use crate::rows::{Slot, blocks_in, blocks_of};
 use crate::whole::{Image, read_image};
 use nq_base::{FileId, FileRow, Heads, HostRow};
 use nq_memory::NoMemory;
@@ -51,7 +51,11 @@ pub struct KeptImage {
 }
 
 /// So many numbers from one on.
-fn numbers_from(alloc: Global, first: u32, count: u32) -> Result<Vec<u32>, NoMemory>
+///
+/// # Errors
+///
+/// Memory was refused.
+pub fn numbers_from(alloc: Global, first: u32, count: u32) -> Result<Vec<u32>, NoMemory>
     requires { first + count < 2 ^ 32 }
     ensures told { IfOk result (λ numbers. numbers.items ≡ numbers_at first count) }
     ensures size { IfOk result (λ numbers. length numbers.items ≡ count) }
@@ -152,7 +156,7 @@ fn kept_of_one(alloc: Global, image: ImageOne) -> Result<KeptImage, NoMemory>
     let rows = image.rows;
     let ids = numbers_from(alloc, 1, 256)?;
     let files = files_of(alloc, &rows.slots, &ids)?;
-    let blocks = numbers_from(alloc, 0, blocks_before(&rows.slots))?;
+    let blocks = numbers_from(alloc, 0, blocks_in(&rows.slots))?;
     let heads = Heads {
         boot: image.boots.boot,
         opened: image.boots.opened,

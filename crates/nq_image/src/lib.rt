@@ -27,17 +27,18 @@ pub use changes::{
     heads_are_sixteen_bytes,
 };
 pub use fault::{ImageFault, WrongField};
+pub use fields::piece;
 pub use heads::{Boots, Front, read_boots, read_front, version_of};
 pub use hosts::{read_host, read_hosts};
 pub use ids::{check_held, read_ids, whole_blocks};
-pub use image::{ImageOne, ImageTwo, Rows, Tables, read_one, read_two};
-pub use kept::{FoundFile, KeptImage, kept_of, read_kept};
+pub use image::{ImageOne, ImageTwo, Rows, Tables, fresh_marks, read_all_rows, read_one, read_two};
+pub use kept::{FoundFile, KeptImage, kept_of, numbers_from, read_kept};
 pub use order::{first_wrong_is_least, heads_are_in_order, rows_are_in_order, tables_are_in_order};
 pub use ranges::{
     a_body_is_written, a_file_is_three_ranges, a_free_range_is_written,
     a_range_of_the_rows_is_written, bytes_agree_where_something_stands,
 };
-pub use rows::{Slot, Version, read_row, read_rows};
+pub use rows::{Slot, Version, blocks_in, blocks_of, read_row, read_rows};
 pub use spelling::{
     HEADS_PLACE, block_place, host_place, id_place, row_place, spell_heads, spell_host, spell_row,
     spell_table,

@@ -50,7 +50,8 @@ pub struct Slot {
     pub rev: Rev,
 }
 
-pub(crate) fn blocks_of(slot: &Option<Slot>) -> u32
+/// How many blocks the file of a row has; none where the row is unused.
+pub fn blocks_of(slot: &Option<Slot>) -> u32
     ensures { result ≡ blocks_at slot.now }
 {
     match slot {
@@ -74,7 +75,8 @@ fn is_named(slots: &[Option<Slot>], name: &Name) -> bool
     slots.iter().any(|slot| has_name(slot, name))
 }
 
-pub(crate) fn blocks_before(slots: &[Option<Slot>]) -> u32
+/// How many blocks the files of these rows have together.
+pub fn blocks_in(slots: &[Option<Slot>]) -> u32
     requires { sum_by blocks_at slots.now ≤ 16384 }
     ensures { result ≡ sum_by blocks_at slots.now }
 {
@@ -202,7 +204,7 @@ fn read_used(
     let Some(name) = own_name(row, length as usize, slots) else {
         return Err(WrongField(place + 4));
     };
-    let before = blocks_before(slots);
+    let before = blocks_in(slots);
     let blocks = word_in(row, 68);
     if !is_count(before, blocks) {
         return Err(WrongField(place + 68));

@@ -2,8 +2,8 @@
 
 ghost use Rattle.std.specs.Prelude.{◌≡◌, ◌<◌, ◌≤◌, ◌+◌, ◌-◌, ◌++◌, ◌&&◌, not, IfOk, IfSome, Some, drop, length, min, position};
 ghost use Rattle.nq_image.specs.Tables.{is_marked, is_of_tables};
-ghost use Rattle.nq_plan.specs.Finding.{blocks_of, slot_of as slot_at_id};
-ghost use Rattle.nq_plan.specs.Placing.{file_for, free_blocks, is_free as is_free_block, is_unused as is_free_row, placed_blocks, placed_slot as slot_placed};
+ghost use Rattle.nq_plan.specs.Finding.{slot_of as slot_at_id};
+ghost use Rattle.nq_plan.specs.Placing.{IsPlaced, free_blocks, is_free as is_free_block, is_unused as is_free_row, placed_blocks, placed_slot as slot_placed};
 
 use crate::block_table::BlockTable;
 use crate::finding::slot_of;
@@ -126,11 +126,7 @@ impl Tables {
     ///
     /// Want of memory, or of room: no row is free, or too few blocks.
     pub(crate) fn place(&self, alloc: Global, row: &FileRow) -> Result<Placed, NoMemory>
-        ensures file { IfOk result (λ placed. placed.file ≡ file_for row.now placed.file.slot (placed_blocks self.now (blocks_of self.now.standing row.now.id) row.now.blocks)) }
-        ensures slot { IfOk result (λ placed. slot_placed self.now.standing.rows (slot_at_id row.now.id self.now.standing.rows) ≡ Some placed.file.slot) }
-        ensures within { IfOk result (λ placed. placed.file.slot < 256) }
-        ensures whole { IfOk result (λ placed. length placed.file.blocks ≡ row.now.blocks) }
-        ensures stay { IfOk result (λ placed. placed.stay ≡ min (length (blocks_of self.now.standing row.now.id)) row.now.blocks) }
+        ensures { IfOk result (IsPlaced self.now row.now) }
     {
         if row.blocks > MOST_BLOCKS {
             return Err(NoMemory::Memory);

@@ -2,13 +2,11 @@
 
 ghost use Rattle.std.specs.Prelude.{◌≡◌, ◌<◌, ◌≤◌, ◌+◌, ◌*◌, ◌^◌, ℕ, List, All, IfOk, OnOk, drop, length, slice_index_or, take};
 ghost use Rattle.nq_image.specs.Check.{tested};
-ghost use Rattle.nq_image.specs.Image.{ids_in, image_two, no_marks, rows_in};
-ghost use Rattle.nq_image.specs.Layout.{block_place as place_of_block, are_zeros as all_zeros, piece as piece_at};
+ghost use Rattle.nq_image.specs.Image.{ids_in, image_two, no_marks};
+ghost use Rattle.nq_image.specs.Layout.{block_place as place_of_block, piece as piece_at};
 ghost use Rattle.nq_image.specs.Reading.{Reads};
 ghost use Rattle.nq_image.specs.Rows.{blocks_of as blocks_at};
-ghost use Rattle.nq_image.specs.Seen.{seen_rows};
 ghost use Rattle.nq_image.specs.Tables.{tables_blocks, tables_checks, tables_marks};
-ghost use Rattle.nq_image.specs.declared.Version.TheVariants.{Two};
 ghost use Rattle.nq_plan.specs.Reading.{ArePartsOf, HoldsIn, IsMoved, row_from, rows_of};
 
 use crate::block_table::BlockTable;
@@ -16,62 +14,14 @@ use crate::stored_file::StoredFile;
 use crate::tables::Tables;
 use nq_base::{FileId, Heads};
 use nq_image::{
-    Front, ImageFault, PHYSICAL_BLOCKS, Rows, Slot, Version, block_place, check_held, read_hosts,
-    read_ids, read_rows, read_tables,
+    Front, ImageFault, PHYSICAL_BLOCKS, Slot, Version, block_place, blocks_of, check_held,
+    fresh_marks, piece, read_all_rows, read_ids, read_tables,
 };
 use nq_memory::NoMemory;
-use std::alloc::{AllocError, Global};
-
-/// How many hosts there are.
-const HOSTS: usize = 64;
+use std::alloc::Global;
 
 /// How many bytes the tables of the files have, without the ids.
 const FILE_TABLES: usize = 1_048_576;
-
-fn are_zeros(bytes: &[u8]) -> bool
-    ensures { result ≡ all_zeros bytes.now }
-{
-    bytes.iter().all(|byte| *byte == 0)
-}
-
-/// So many bytes from a place on.
-#[tactic(auto, unfolding(nq_image::specs::Layout::piece))]
-fn piece(bytes: &[u8], place: usize, size: usize) -> &[u8]
-    requires { place + size ≤ length bytes.now }
-    ensures bytes { result.now ≡ piece_at place size bytes.now }
-    ensures size { length result.now ≡ size }
-{
-    &bytes[place..place + size]
-}
-
-/// A mark for each of so many physical blocks: none was given.
-#[tactic(auto, unfolding(nq_image::specs::Image::no_marks))]
-fn fresh_marks(alloc: Global, count: usize) -> Result<Vec<bool>, AllocError>
-    ensures marks { IfOk result (λ marks. marks.items ≡ no_marks count) }
-    ensures size { IfOk result (λ marks. length marks.items ≡ count) }
-{
-    vec![in alloc; false; count]
-}
-
-/// The rows of hosts and files, where the zeros behind them are right too.
-#[tactic(auto, unfolding(nq_image::specs::Image::rows_in))]
-fn read_all_rows(alloc: Global, head: &[u8]) -> Result<Rows, ImageFault>
-    requires { length head.now ≡ 28672 }
-    ensures told { Reads seen_rows result (rows_in Two head.now) }
-    ensures hosts { IfOk result (λ rows. length rows.hosts.items ≡ 64) }
-    ensures all { IfOk result (λ rows. length rows.slots.items ≡ 256) }
-    ensures short { IfOk result (λ rows. All (λ slot. blocks_at slot ≤ 1024) rows.slots.items) }
-{
-    let hosts = read_hosts(alloc, piece(head, 64, 2048), HOSTS, 64)?;
-    let slots = read_rows(alloc, Version::Two, piece(head, 2112, 24576), 256, 2112)?;
-    if !are_zeros(piece(head, 26688, 1984)) {
-        return Err(ImageFault::BadField(26688));
-    }
-    if hosts.len() != HOSTS {
-        return Err(ImageFault::Memory);
-    }
-    Ok(Rows { hosts, slots })
-}
 
 /// A fault whose place is counted from another one on.
 fn moved(fault: ImageFault, start: u64) -> ImageFault
@@ -129,16 +79,6 @@ fn read_all_ids(
         return Err(ImageFault::BadField(place));
     }
     read_ids(alloc, piece(window, FILE_TABLES, 4096), slots, next, place)
-}
-
-/// How many blocks the file of a row has.
-fn count_of(slot: &Option<Slot>) -> usize
-    ensures { result ≡ blocks_at slot.now }
-{
-    match slot {
-        Some(slot) => slot.blocks as usize,
-        None => 0,
-    }
 }
 
 /// The first of these blocks, so many or as many as there are, and those behind them.
@@ -200,7 +140,7 @@ fn files_of(
     let mut number: u32 = 0;
     for slot in slots {
         let id = first_of(left);
-        let (own, behind) = split_blocks(rest, count_of(slot));
+        let (own, behind) = split_blocks(rest, blocks_of(slot) as usize);
         let row = file_from(alloc, number, slot, id, own)?;
         rows.push(row)?;
         rest = behind;
@@ -241,7 +181,7 @@ impl Tables {
         requires head { length head.now ≡ 28672 }
         ensures { (bytes : List ℕ) → ArePartsOf bytes front.now head.now window.now size → HoldsIn bytes result (image_two (no_marks 16641) bytes) }
     {
-        let rows = read_all_rows(alloc, head)?;
+        let rows = read_all_rows(alloc, Version::Two, head)?;
         let mut marks = fresh_marks(alloc, PHYSICAL_BLOCKS as usize)?;
         let blocks = read_all_blocks(alloc, window, &rows.slots, front.tables, &mut marks)?;
         let ids = read_all_ids(alloc, window, &rows.slots, front.tables, front.next)?;

@@ -9,6 +9,7 @@ mod Carrying
 mod Bodies
 pub mod Migrated
 mod Told
+mod Asked
 mod Staying
 mod Opened
 mod Left

@@ -9,6 +9,7 @@ use Rattle.nq_image.specs.Standing.{kept_at}
 use Rattle.nq_image.specs.declared.Front.{Front}
 use Rattle.nq_model.specs.Change.{IsWithinBounds}
 use Rattle.nq_plan.specs.Held.{HeldTables, IsHeldOf}
+use Rattle.nq_disk.specs.Calling.{LeavesNoMore}
 use Rattle.nq_disk.specs.Saying.{Only}
 use Rattle.nq_disk.specs.Whole.{IsClosed}
 use Rattle.law_image.specs.Reading.{IsClosedTwo}
@@ -24,6 +25,12 @@ Gives (Err NotAnImage) P = ⊥
 Gives (Err (BadField place)) P = ⊥
 Gives (Err Failed) P = Unit {0}
 Gives (Err Memory) P = Unit {0}
+
+-- between these two moments a disk was only asked: it tells the same, and a stop leaves no more than one before might have left
+pub record OnlyAsked {D : Type 0} (told : D → Option (List ℕ)) (goes : D → D → Type 0) (may_leave : D → List ℕ → Type 0) (left : D → D → List ℕ → Type 0) (first last : D) : Type 0 where
+  pub same : told last ≡ told first
+  pub follows : goes first last
+  pub leaves : LeavesNoMore (may_leave first) (left first last)
 
 -- whether these are the characters NQNFSIM
 abbrev pub is_name : List ℕ → Bool

@@ -6,7 +6,7 @@ ghost use Rattle.nq_store.specs.Opening.{open_fault};
 use nq_disk::DiskFault;
 use nq_image::{ImageFault, WrongField};
 use nq_memory::NoMemory;
-use std::alloc::{AllocError, AllocFailed};
+use std::alloc::AllocError;
 
 /// Why a disk does not open as what a server keeps. The disk is handed back.
 #[derive(Drop)]
@@ -22,7 +22,7 @@ pub enum OpenFault<D> {
 }
 
 /// The same, without the disk.
-#[derive(Clone, Copy, Debug, PartialEq, Eq)]
+#[derive(Clone, Copy)]
 pub(crate) enum Fault {
     NotAnImage,
     BadField(u64),
@@ -80,16 +80,6 @@ impl From<AllocError> for Fault {
     ghost from_gives = { λ _ fault. fault ≡ Memory };
 
     fn from(_: AllocError) -> Fault {
-        Fault::Memory
-    }
-}
-
-impl<T: Drop> From<AllocFailed<T>> for Fault {
-    ghost use Rattle.nq_store.specs.declared.fault.Fault.TheVariants.{Memory};
-
-    ghost from_gives = { λ _ fault. fault ≡ Memory };
-
-    fn from(_: AllocFailed<T>) -> Fault {
         Fault::Memory
     }
 }

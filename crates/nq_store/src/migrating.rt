@@ -17,28 +17,16 @@ ghost use Rattle.nq_store.specs.Examining.{IsSized};
 ghost use Rattle.nq_store.specs.Migrating.{CountsWriting, IsFoundIn, IsMigrated, IsOld, IsOldImage, LeavesSameKept, Migrates};
 ghost use Rattle.nq_store.specs.Opening.{CountsFault};
 
-use crate::examining::{blocks_in, blocks_of, examine, files_in};
+use crate::examining::{examine, files_in};
 use crate::fault::Fault;
 use nq_base::Heads;
 use nq_disk::Disk;
 use nq_disk::redo::{Batch, Redo};
-use nq_image::{Boots, Slot, block_place, spell_heads, spell_table};
+use nq_image::{
+    Boots, Slot, block_place, blocks_in, blocks_of, numbers_from, spell_heads, spell_table,
+};
 use nq_memory::NoMemory;
 use std::alloc::Global;
-
-/// Numbers one behind another.
-fn numbers_from(alloc: Global, first: u32, count: u32) -> Result<Vec<u32>, NoMemory>
-    requires { first + count < 2 ^ 32 }
-    ensures { IfOk result (λ numbers. numbers.items ≡ numbers_at first count) }
-{
-    let mut numbers = Vec::new(alloc);
-    let mut number = first;
-    for _ in 0..count {
-        numbers.push(number)?;
-        number += 1;
-    }
-    Ok(numbers)
-}
 
 /// The table of a file with so many blocks, of which the first is this one.
 fn table_from(alloc: Global, first: u32, count: u32) -> Result<Vec<u8>, NoMemory>

@@ -2,17 +2,17 @@
 
 ghost use Rattle.std.specs.Prelude.{◌≡◌, ◌≤◌, true, IfOk, OnOk, length, slice_index};
 ghost use Rattle.std.specs.Option.{ForSome};
-ghost use Rattle.nq_disk.specs.Calling.{IsAllThatIsLeft, LeavesNoMore};
+ghost use Rattle.nq_disk.specs.Calling.{IsAllThatIsLeft};
 ghost use Rattle.nq_plan.specs.Standing.{begins_as_image, image_area};
 ghost use Rattle.nq_image.specs.Heads.{version_of as version_at};
 ghost use Rattle.nq_image.specs.Layout.{piece};
 ghost use Rattle.nq_disk.specs.Saying.{Only};
-ghost use Rattle.nq_store.specs.Loading.{Gives, IsHeadOf, IsShut, IsShutAs, OpensTables, StaysAs, is_name as is_image_name};
+ghost use Rattle.nq_store.specs.Loading.{Gives, IsShut, IsShutAs, OnlyAsked, OpensTables, StaysAs, is_name as is_image_name};
 ghost use Rattle.nq_store.specs.Migrating.{IsOld, LeavesSameKept};
 ghost use Rattle.nq_store.specs.Opening.{AnswersOpen, CountsFault, FollowsOpen, LeavesLike, SaysWrong, StaysRefused, disk_of};
 
 use crate::fault::{Fault, OpenFault};
-use crate::loading::{ROWS_SIZE, load, read_piece, size_of};
+use crate::loading::{ROWS_SIZE, load, read_piece};
 use crate::migrating::migrate;
 use nq_disk::Disk;
 use nq_disk::redo::{Area, Redo, RedoOpen};
@@ -30,19 +30,6 @@ const AREA: Area = Area {
 /// How long the rows and the record are together.
 const SHORTEST: u64 = 40960;
 
-/// Syncs a disk.
-fn settle<D: Disk>(disk: &mut D) -> Result<(), Fault>
-    ensures told { Gives result (λ _. Unit) }
-    ensures settles { OnOk result (IsAllThatIsLeft (D.told disk.old) (D.may_leave disk.new)) }
-    ensures same { D.told disk.new ≡ D.told disk.old }
-    ensures cause { CountsFault result (D.faults disk.old) (D.faults disk.new) }
-    ensures follows { D.follows disk.old disk.new }
-    ensures leaves { LeavesNoMore (D.may_leave disk.old) (D.leaves disk.old disk.new) }
-{
-    disk.sync()?;
-    Ok(())
-}
-
 fn is_name(name: &[u8]) -> bool
     ensures { result ≡ is_image_name name.now }
 {
@@ -53,13 +40,11 @@ fn is_name(name: &[u8]) -> bool
 fn is_named<D: Disk>(disk: &mut D, alloc: Global) -> Result<bool, Fault>
     ensures told { ForSome (D.told disk.old) (λ bytes. Gives result (λ named. named ≡ begins_as_image bytes)) }
     ensures settles { OnOk result (IsAllThatIsLeft (D.told disk.old) (D.may_leave disk.new)) }
-    ensures same { D.told disk.new ≡ D.told disk.old }
+    ensures asked { OnlyAsked D.told D.follows D.may_leave D.leaves disk.old disk.new }
     ensures cause { CountsFault result (D.faults disk.old) (D.faults disk.new) }
-    ensures follows { D.follows disk.old disk.new }
-    ensures leaves { LeavesNoMore (D.may_leave disk.old) (D.leaves disk.old disk.new) }
 {
-    settle(disk)?;
-    let size = size_of(disk)?;
+    disk.sync()?;
+    let size = disk.size()?;
     if size < SHORTEST {
         return Ok(false);
     }
@@ -107,10 +92,8 @@ pub(crate) fn open_record<D: Disk>(disk: D, alloc: Global) -> Result<Redo<D>, Op
 fn read_head<D: Disk>(disk: &mut D, alloc: Global) -> Result<Vec<u8>, Fault>
     ensures size { IfOk result (λ head. length head.items ≡ 28672) }
     ensures told { ForSome (D.told disk.old) (λ bytes. 28672 ≤ length bytes → Gives result (λ head. head.items ≡ piece 0 28672 bytes)) }
-    ensures same { D.told disk.new ≡ D.told disk.old }
+    ensures asked { OnlyAsked D.told D.follows D.may_leave D.leaves disk.old disk.new }
     ensures cause { CountsFault result (D.faults disk.old) (D.faults disk.new) }
-    ensures follows { D.follows disk.old disk.new }
-    ensures leaves { LeavesNoMore (D.may_leave disk.old) (D.leaves disk.old disk.new) }
 {
     let head = read_piece(disk, alloc, 0, ROWS_SIZE)?;
     if head.len() != ROWS_SIZE {
@@ -119,27 +102,14 @@ fn read_head<D: Disk>(disk: &mut D, alloc: Global) -> Result<Vec<u8>, Fault>
     Ok(head)
 }
 
-/// What is in an image of version 2, whose record is closed.
-fn load_new<D: Disk>(disk: &mut D, alloc: Global, head: &[u8]) -> Result<Tables, Fault>
-    requires { length head.now ≡ 28672 }
-    ensures told { ForSome (D.told disk.old) (λ bytes. IsShut (D.may_leave disk.old) bytes → IsHeadOf bytes head.now → OpensTables result bytes (D.told disk.new) (D.may_leave disk.new)) }
-    ensures same { D.told disk.new ≡ D.told disk.old }
-    ensures cause { CountsFault result (D.faults disk.old) (D.faults disk.new) }
-    ensures follows { D.follows disk.old disk.new }
-    ensures leaves { LeavesNoMore (D.may_leave disk.old) (D.leaves disk.old disk.new) }
-{
-    load(disk, alloc, head)
-}
-
 /// What is in an image that was migrated.
 fn load_migrated<D: Disk>(disk: &mut D, alloc: Global) -> Result<Tables, Fault>
     ensures told { ForSome (D.told disk.old) (λ bytes. IsShut (D.may_leave disk.old) bytes → slice_index bytes 7 ≡ 50 → OpensTables result bytes (D.told disk.new) (D.may_leave disk.new)) }
+    ensures asked { OnlyAsked D.told D.follows D.may_leave D.leaves disk.old disk.new }
     ensures cause { CountsFault result (D.faults disk.old) (D.faults disk.new) }
-    ensures follows { D.follows disk.old disk.new }
-    ensures leaves { LeavesNoMore (D.may_leave disk.old) (D.leaves disk.old disk.new) }
 {
     let head = read_head(disk, alloc)?;
-    load_new(disk, alloc, &head)
+    load(disk, alloc, &head)
 }
 
 /// What is in an image of version 1, whose record is closed. It becomes one of version 2.
@@ -178,7 +148,7 @@ fn load_any<D: Disk>(redo: &mut Redo<D>, alloc: Global, head: &[u8]) -> Result<T
 {
     match version_in(head) {
         None => Err(Fault::NotAnImage),
-        Some(Version::Two) => load_new(&mut redo.disk, alloc, head),
+        Some(Version::Two) => load(&mut redo.disk, alloc, head),
         Some(Version::One) => load_old(redo, alloc, head),
     }
 }

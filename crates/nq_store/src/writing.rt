@@ -3,7 +3,7 @@
 ghost use Rattle.std.specs.Prelude.{◌≡◌, ◌≤◌, ◌+◌, List, IfOk, OnOk, length};
 ghost use Rattle.std.specs.Option.{ForSome};
 ghost use Rattle.nq_base.specs.Block.{zeros as block_of_zeros};
-ghost use Rattle.nq_disk.specs.Calling.{Counts, LeavesNoMore};
+ghost use Rattle.nq_disk.specs.Calling.{Counts};
 ghost use Rattle.nq_plan.specs.Standing.{image_area};
 ghost use Rattle.nq_image.specs.Kept.{body_in};
 ghost use Rattle.nq_image.specs.Layout.{block_place as place_of_block};
@@ -12,6 +12,7 @@ ghost use Rattle.nq_disk.specs.Batch.{IsFit};
 ghost use Rattle.nq_disk.specs.Saying.{Each};
 ghost use Rattle.nq_disk.specs.Whole.{Settled, after};
 ghost use Rattle.law_image.specs.Changing.{new_blocks, zeroed};
+ghost use Rattle.nq_store.specs.Loading.{OnlyAsked};
 ghost use Rattle.nq_store.specs.Storing.{CountsKeep, IsReady, OpensWhole, StandsStill};
 
 use nq_base::Block;
@@ -29,10 +30,8 @@ pub(crate) fn read_body<D: Disk>(
     block: u32,
 ) -> Result<Block, KeepFault>
     ensures body { ForSome (D.told disk.old) (λ bytes. place_of_block block + 4096 ≤ length bytes → IfOk result (λ body. body ≡ body_in bytes block)) }
-    ensures same { D.told disk.new ≡ D.told disk.old }
+    ensures asked { OnlyAsked D.told D.follows D.may_leave D.leaves disk.old disk.new }
     ensures cause { CountsKeep result (D.faults disk.old) (D.faults disk.new) }
-    ensures follows { D.follows disk.old disk.new }
-    ensures leaves { LeavesNoMore (D.may_leave disk.old) (D.leaves disk.old disk.new) }
 {
     let mut bytes = [0; Block::SIZE];
     let read = disk.read(block_place(block), &mut bytes);

@@ -17,8 +17,8 @@ loop-slot-preserved c =
     let own = c.split_blocks.result.0.now in
     let row_is = c.in_ok-row.ensures
     ∙ ap (λ (id : ℕ). row_from number slot id own) c.first_of-id.ensures
-    ∙ ap (λ (b : List ℕ). row_from number slot (slice_index_or left 0 0) b) (c.split_blocks.ensures.own ∙ ap (λ (n : ℕ). take n rest) c.count_of.ensures) in
-    let behind_is = c.split_blocks.ensures.behind ∙ ap (λ (n : ℕ). drop n rest) c.count_of.ensures in
+    ∙ ap (λ (b : List ℕ). row_from number slot (slice_index_or left 0 0) b) (c.split_blocks.ensures.own ∙ ap (λ (n : ℕ). take n rest) c.blocks_of.ensures) in
+    let behind_is = c.split_blocks.ensures.behind ∙ ap (λ (n : ℕ). drop n rest) c.blocks_of.ensures in
     let pushed = c.in_ok-push.ensures.items in
     record {
       number = let n = so.number in omega (arith, n);

@@ -10,6 +10,7 @@ use Rattle.nq_store.specs.Examining.{Examines, Tests}
 use Rattle.nq_store.specs.Telling.{fault_of}
 use Rattle.nq_store.specs.declared.fault.Fault.{Fault}
 use Rattle.nq_store.proofs.Migrated.{both-right, head-wrong, reach-wrong}
+use Rattle.nq_store.proofs.Asked.{asked-none}
 use Rattle.nq_store.proofs.examining.examine.Goals as goal
 
 pub returns-in_err-image-clause-told : goal.returns-in_err-image-clause-told
@@ -32,3 +33,7 @@ returns-clause-told g c = λ bytes told same.
     let blocks : c.blocks_in.result ≡ blocks_in c.in_ok-image.image.rows.slots.items = c.blocks_in.ensures ∙ ap (λ s. sum_by blocks_of s) c.deref.ensures.value in
     let test = subst (λ (n : ℕ). reached (length bytes) n ≡ Ok tt) blocks (c.in_ok-check_reach.ensures.told bytes told) in
     both-right c.in_ok-image.image (head_one c.args.head.now) (image_one bytes) (length bytes) c.in_ok-image.ensures.told test whole
+
+pub returns-in_err-image-clause-asked : goal.returns-in_err-image-clause-asked
+returns-in_err-image-clause-asked g c =
+    asked-none g.D.Disk.told g.D.Disk.follows g.D.Disk.may_leave g.D.Disk.leaves g.met.D.Disk.follows_itself g.met.D.Disk.leaves_now c.args.disk.now

@@ -14,11 +14,11 @@ near first count k few = elim (cases_lt k (length (numbers_from first count))) [
 
 pub spell_table-requires-clause-short : goal.spell_table-requires-clause-short
 spell_table-requires-clause-short c =
-    let same = c.deref.ensures.value ∙ c.in_ok-blocks.ensures in
+    let same = c.deref.ensures.value ∙ c.in_ok-blocks.ensures.told in
     let few = c.requires.short in
     omega (arith, few, ap length same, length-numbers c.args.first c.args.count)
 
 pub spell_table-requires-clause-near : goal.spell_table-requires-clause-near
 spell_table-requires-clause-near c = λ k.
-    let same = c.deref.ensures.value ∙ c.in_ok-blocks.ensures in
+    let same = c.deref.ensures.value ∙ c.in_ok-blocks.ensures.told in
     subst (λ (l : List ℕ). get_or l k 0 < 16641) (sym same) (near c.args.first c.args.count k c.requires.few)

@@ -13,7 +13,7 @@ returns-in-None-clause-told g c = λ bytes is shut head.
 pub returns-in-Some-Two-clause-told : goal.returns-in-Some-Two-clause-told
 returns-in-Some-Two-clause-told g c = λ bytes is shut head.
     let two : c.version_in.result ≡ Some Version.Two = search rules in
-    c.load_new.ensures.told bytes is shut (new-head (g.D.Disk.may_leave c.args.redo.now.disk) bytes c.args.head.now shut head (sym c.version_in.ensures ∙ two))
+    c.load.ensures.told bytes is shut (new-head (g.D.Disk.may_leave c.args.redo.now.disk) bytes c.args.head.now shut head (sym c.version_in.ensures ∙ two))
 
 pub returns-in-Some-One-clause-told : goal.returns-in-Some-One-clause-told
 returns-in-Some-One-clause-told g c = λ bytes is shut head.
@@ -24,7 +24,7 @@ pub returns-in-None-clause-leaves : goal.returns-in-None-clause-leaves
 returns-in-None-clause-leaves g c = λ bytes is shut head image left. ap kept_on (shut.alone image (g.met.D.Disk.leaves_now c.args.redo.now.disk image left))
 
 pub returns-in-Some-Two-clause-leaves : goal.returns-in-Some-Two-clause-leaves
-returns-in-Some-Two-clause-leaves g c = λ bytes is shut head image left. ap kept_on (shut.alone image (c.load_new.ensures.leaves image left))
+returns-in-Some-Two-clause-leaves g c = λ bytes is shut head image left. ap kept_on (shut.alone image (c.load.ensures.asked.leaves image left))
 
 pub returns-in-Some-One-clause-leaves : goal.returns-in-Some-One-clause-leaves
 returns-in-Some-One-clause-leaves g c = λ bytes is shut head.
@@ -32,9 +32,12 @@ returns-in-Some-One-clause-leaves g c = λ bytes is shut head.
     c.load_old.ensures.leaves bytes is (old-head (g.D.Disk.may_leave c.args.redo.now.disk) bytes c.args.head.now shut head (sym c.version_in.ensures ∙ one))
 
 pub returns-in-Some-Two-clause-stays : goal.returns-in-Some-Two-clause-stays
-returns-in-Some-Two-clause-stays g c = λ bytes is shut head. stays-told c.load_new.result bytes (g.D.Disk.told c.load_new.new.disk) (c.load_new.ensures.same ∙ is)
+returns-in-Some-Two-clause-stays g c = λ bytes is shut head. stays-told c.load.result bytes (g.D.Disk.told c.load.new.disk) (c.load.ensures.asked.same ∙ is)
 
 pub returns-in-Some-One-clause-stays : goal.returns-in-Some-One-clause-stays
 returns-in-Some-One-clause-stays g c = λ bytes is shut head.
     let one : c.version_in.result ≡ Some Version.One = search rules in
     c.load_old.ensures.stays bytes is (old-head (g.D.Disk.may_leave c.args.redo.now.disk) bytes c.args.head.now shut head (sym c.version_in.ensures ∙ one))
+
+pub returns-in-Some-Two-clause-follows : goal.returns-in-Some-Two-clause-follows
+returns-in-Some-Two-clause-follows g c = c.load.ensures.asked.follows

@@ -29,8 +29,8 @@ returns-clause-leaves g c = λ bytes is old image left.
     let mid = c.migrate.new.redo.disk in
     let m = c.in_ok-migrate.ensures.migrates bytes is old in
     ⊎_elim (λ l. c.in_ok-migrate.ensures.leaves bytes is old image l)
-    (λ l. ap kept_on (m.alone image (c.load_migrated.ensures.leaves image l)) ∙ kept-same m.now bytes m.same)
-    (g.met.D.Disk.parts first mid c.load_migrated.new.disk image c.migrate.ensures.follows c.load_migrated.ensures.follows left)
+    (λ l. ap kept_on (m.alone image (c.load_migrated.ensures.asked.leaves image l)) ∙ kept-same m.now bytes m.same)
+    (g.met.D.Disk.parts first mid c.load_migrated.new.disk image c.migrate.ensures.follows c.load_migrated.ensures.asked.follows left)
 
 pub returns-in_err-migrate-clause-stays : goal.returns-in_err-migrate-clause-stays
 returns-in_err-migrate-clause-stays g c = λ bytes is old.
@@ -46,3 +46,7 @@ returns-clause-stays g c = λ bytes is old.
     let m = c.in_ok-migrate.ensures.migrates bytes is old in
     stays-right c.load_migrated.result bytes m.now (g.D.Disk.told last) (g.D.Disk.may_leave last) m.stands.0 m.stands.1
     (c.load_migrated.ensures.told m.now m.told (migrated-shut bytes (g.D.Disk.told mid) (g.D.Disk.may_leave mid) m) m.two)
+
+pub returns-clause-follows : goal.returns-clause-follows
+returns-clause-follows g c =
+    g.met.D.Disk.follows_on c.args.redo.now.disk c.migrate.new.redo.disk c.load_migrated.new.disk c.migrate.ensures.follows c.load_migrated.ensures.asked.follows

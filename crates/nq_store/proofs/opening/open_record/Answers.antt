@@ -10,7 +10,7 @@ use Rattle.nq_store.proofs.opening.open_record.Goals as goal
 pub returns-in-Ok-true-clause-wrong : goal.returns-in-Ok-true-clause-wrong
 returns-in-Ok-true-clause-wrong g c =
     let so : c.in-Ok-true.field-0 ≡ true = search rules in
-    says-named c.open_named.result (g.D.Disk.told c.args.disk) (g.D.Disk.told c.is_named.new.disk) c.is_named.ensures.same (λ bytes is. sym so ∙ c.in-Ok-true.ensures.told bytes is) c.open_named.ensures.wrong
+    says-named c.open_named.result (g.D.Disk.told c.args.disk) (g.D.Disk.told c.is_named.new.disk) c.is_named.ensures.asked.same (λ bytes is. sym so ∙ c.in-Ok-true.ensures.told bytes is) c.open_named.ensures.wrong
 
 pub returns-in-Ok-false-clause-wrong : goal.returns-in-Ok-false-clause-wrong
 returns-in-Ok-false-clause-wrong g c = λ bytes is.
@@ -28,24 +28,24 @@ returns-in-Ok-true-clause-leaves g c = λ bytes is image left.
     let mid = c.is_named.new.disk in
     let held : Redo g.row.D.Denot → g.row.D.Denot = λ redo. redo.disk in
     let last = disk_of held c.open_named.result in
-    ⊎_elim (λ l. inl (c.is_named.ensures.leaves image l))
-    (λ l. inr (c.open_named.ensures.leaves bytes (c.is_named.ensures.same ∙ is) (sym (c.in-Ok-true.ensures.told bytes is) ∙ so) (c.in-Ok-true.ensures.settles bytes is) image l))
-    (g.met.D.Disk.parts first mid last image c.is_named.ensures.follows (follows-of held g.D.Disk.follows c.open_named.result mid c.open_named.ensures.follows) left)
+    ⊎_elim (λ l. inl (c.is_named.ensures.asked.leaves image l))
+    (λ l. inr (c.open_named.ensures.leaves bytes (c.is_named.ensures.asked.same ∙ is) (sym (c.in-Ok-true.ensures.told bytes is) ∙ so) (c.in-Ok-true.ensures.settles bytes is) image l))
+    (g.met.D.Disk.parts first mid last image c.is_named.ensures.asked.follows (follows-of held g.D.Disk.follows c.open_named.result mid c.open_named.ensures.follows) left)
 
 pub returns-in-Err-clause-leaves : goal.returns-in-Err-clause-leaves
 returns-in-Err-clause-leaves g c = λ bytes is image left.
     let first = c.args.disk in
     let mid = c.is_named.new.disk in
-    inl (c.is_named.ensures.leaves image (subst (λ (d : g.row.D.Denot). g.D.Disk.leaves first d image) (back-given c.in-Err.fault mid c.of.result c.of.ensures) left))
+    inl (c.is_named.ensures.asked.leaves image (subst (λ (d : g.row.D.Denot). g.D.Disk.leaves first d image) (back-given c.in-Err.fault mid c.of.result c.of.ensures) left))
 
 pub returns-in-Ok-true-clause-stays : goal.returns-in-Ok-true-clause-stays
 returns-in-Ok-true-clause-stays g c = λ bytes is.
     let so : c.in-Ok-true.field-0 ≡ true = search rules in
-    c.open_named.ensures.stays bytes (c.is_named.ensures.same ∙ is) (sym (c.in-Ok-true.ensures.told bytes is) ∙ so)
+    c.open_named.ensures.stays bytes (c.is_named.ensures.asked.same ∙ is) (sym (c.in-Ok-true.ensures.told bytes is) ∙ so)
 
 pub returns-in-Ok-false-clause-stays : goal.returns-in-Ok-false-clause-stays
-returns-in-Ok-false-clause-stays g c = λ bytes is. (bytes, c.is_named.ensures.same ∙ is, inl refl)
+returns-in-Ok-false-clause-stays g c = λ bytes is. (bytes, c.is_named.ensures.asked.same ∙ is, inl refl)
 
 pub returns-in-Err-clause-stays : goal.returns-in-Err-clause-stays
 returns-in-Err-clause-stays g c = λ bytes is.
-    stays-given g.D.Disk.told c.in-Err.fault c.is_named.new.disk c.of.result bytes c.of.ensures (c.is_named.ensures.same ∙ is)
+    stays-given g.D.Disk.told c.in-Err.fault c.is_named.new.disk c.of.result bytes c.of.ensures (c.is_named.ensures.asked.same ∙ is)

@@ -22,11 +22,11 @@ returns-clause-told g c = λ bytes is shut.
     let long = shut.closed.long in
     let head_is = c.in_ok-head.ensures.told bytes is (omega (arith, long)) in
     let still = shut-still (g.D.Disk.may_leave first) (g.D.Disk.may_leave mid) bytes shut
-    (λ image left. c.read_head.ensures.leaves image (g.met.D.Disk.leaves_ends first mid image c.read_head.ensures.follows (inr left))) in
-    c.load_any.ensures.told bytes (c.read_head.ensures.same ∙ is) still (c.deref.ensures.value ∙ head_is)
+    (λ image left. c.read_head.ensures.asked.leaves image (g.met.D.Disk.leaves_ends first mid image c.read_head.ensures.asked.follows (inr left))) in
+    c.load_any.ensures.told bytes (c.read_head.ensures.asked.same ∙ is) still (c.deref.ensures.value ∙ head_is)
 
 pub returns-in_err-head-clause-leaves : goal.returns-in_err-head-clause-leaves
-returns-in_err-head-clause-leaves g c = λ bytes is shut image left. ap kept_on (shut.alone image (c.read_head.ensures.leaves image left))
+returns-in_err-head-clause-leaves g c = λ bytes is shut image left. ap kept_on (shut.alone image (c.read_head.ensures.asked.leaves image left))
 
 pub returns-clause-leaves : goal.returns-clause-leaves
 returns-clause-leaves g c = λ bytes is shut image left.
@@ -35,14 +35,14 @@ returns-clause-leaves g c = λ bytes is shut image left.
     let long = shut.closed.long in
     let head_is = c.in_ok-head.ensures.told bytes is (omega (arith, long)) in
     let still = shut-still (g.D.Disk.may_leave first) (g.D.Disk.may_leave mid) bytes shut
-    (λ i there. c.read_head.ensures.leaves i (g.met.D.Disk.leaves_ends first mid i c.read_head.ensures.follows (inr there))) in
-    ⊎_elim (λ l. ap kept_on (shut.alone image (c.read_head.ensures.leaves image l)))
-    (λ l. c.load_any.ensures.leaves bytes (c.read_head.ensures.same ∙ is) still (c.deref.ensures.value ∙ head_is) image l)
-    (g.met.D.Disk.parts first mid c.load_any.new.redo.disk image c.read_head.ensures.follows c.load_any.ensures.follows left)
+    (λ i there. c.read_head.ensures.asked.leaves i (g.met.D.Disk.leaves_ends first mid i c.read_head.ensures.asked.follows (inr there))) in
+    ⊎_elim (λ l. ap kept_on (shut.alone image (c.read_head.ensures.asked.leaves image l)))
+    (λ l. c.load_any.ensures.leaves bytes (c.read_head.ensures.asked.same ∙ is) still (c.deref.ensures.value ∙ head_is) image l)
+    (g.met.D.Disk.parts first mid c.load_any.new.redo.disk image c.read_head.ensures.asked.follows c.load_any.ensures.follows left)
 
 pub returns-in_err-head-clause-stays : goal.returns-in_err-head-clause-stays
 returns-in_err-head-clause-stays g c = λ bytes is shut.
-    stays-told c.from_residual.result bytes (g.D.Disk.told c.read_head.new.disk) (c.read_head.ensures.same ∙ is)
+    stays-told c.from_residual.result bytes (g.D.Disk.told c.read_head.new.disk) (c.read_head.ensures.asked.same ∙ is)
 
 pub returns-clause-stays : goal.returns-clause-stays
 returns-clause-stays g c = λ bytes is shut.
@@ -51,5 +51,12 @@ returns-clause-stays g c = λ bytes is shut.
     let long = shut.closed.long in
     let head_is = c.in_ok-head.ensures.told bytes is (omega (arith, long)) in
     let still = shut-still (g.D.Disk.may_leave first) (g.D.Disk.may_leave mid) bytes shut
-    (λ image left. c.read_head.ensures.leaves image (g.met.D.Disk.leaves_ends first mid image c.read_head.ensures.follows (inr left))) in
-    c.load_any.ensures.stays bytes (c.read_head.ensures.same ∙ is) still (c.deref.ensures.value ∙ head_is)
+    (λ image left. c.read_head.ensures.asked.leaves image (g.met.D.Disk.leaves_ends first mid image c.read_head.ensures.asked.follows (inr left))) in
+    c.load_any.ensures.stays bytes (c.read_head.ensures.asked.same ∙ is) still (c.deref.ensures.value ∙ head_is)
+
+pub returns-in_err-head-clause-follows : goal.returns-in_err-head-clause-follows
+returns-in_err-head-clause-follows g c = c.read_head.ensures.asked.follows
+
+pub returns-clause-follows : goal.returns-clause-follows
+returns-clause-follows g c =
+    g.met.D.Disk.follows_on c.args.redo.now.disk c.read_head.new.disk c.load_any.new.redo.disk c.read_head.ensures.asked.follows c.load_any.ensures.follows

@@ -16,23 +16,23 @@ returns-clause-sound g c = sound-in g.D.Disk.told g.D.Disk.may_leave _ c.args.se
 pub returns-clause-reads : goal.returns-clause-reads
 returns-clause-reads g c =
     let inside = c.self.inside in
-    reads-so _ c.args.self.now c.self.view_is c.requires (stored c.read_body.new.disk inside.tables inside.ended inside.refused) refl _ c.read_body.result g.D.Disk.told g.D.Disk.faults refl c.read_body.ensures.same c.read_body.ensures.cause
+    reads-so _ c.args.self.now c.self.view_is c.requires (stored c.read_body.new.disk inside.tables inside.ended inside.refused) refl _ c.read_body.result g.D.Disk.told g.D.Disk.faults refl c.read_body.ensures.asked.same c.read_body.ensures.cause
 
 pub returns-clause-follows : goal.returns-clause-follows
 returns-clause-follows g c =
     let inside = c.self.inside in
-    follows-so _ c.args.self.now c.self.view_is c.requires (stored c.read_body.new.disk inside.tables inside.ended inside.refused) refl g.D.Disk.faults g.D.Disk.follows (inl refl) c.read_body.ensures.follows
+    follows-so _ c.args.self.now c.self.view_is c.requires (stored c.read_body.new.disk inside.tables inside.ended inside.refused) refl g.D.Disk.faults g.D.Disk.follows (inl refl) c.read_body.ensures.asked.follows
 
 pub returns-clause-leaves : goal.returns-clause-leaves
 returns-clause-leaves g c =
     let inside = c.self.inside in
     leaves-in g.D.Disk.told g.D.Disk.leaves _ c.args.self.now c.read_body.new.disk c.self.view_is
-    (leaves-same inside.ended (g.D.Disk.told inside.redo.disk) inside.tables (g.D.Disk.may_leave inside.redo.disk) (g.D.Disk.leaves inside.redo.disk c.read_body.new.disk) c.self.invariant.1 c.read_body.ensures.leaves)
+    (leaves-same inside.ended (g.D.Disk.told inside.redo.disk) inside.tables (g.D.Disk.may_leave inside.redo.disk) (g.D.Disk.leaves inside.redo.disk c.read_body.new.disk) c.self.invariant.1 c.read_body.ensures.asked.leaves)
 
 pub invariant_of-self : goal.invariant_of-self
 invariant_of-self g c =
     let inside = c.self.inside in (
       c.self.invariant.0,
-      sound-still inside.ended (g.D.Disk.told inside.redo.disk) (g.D.Disk.told c.read_body.new.disk) inside.tables (g.D.Disk.may_leave inside.redo.disk) (g.D.Disk.may_leave c.read_body.new.disk) c.self.invariant.1 c.read_body.ensures.same
-          (λ image left. c.read_body.ensures.leaves image (g.met.D.Disk.leaves_ends inside.redo.disk c.read_body.new.disk image c.read_body.ensures.follows (inr left))),
+      sound-still inside.ended (g.D.Disk.told inside.redo.disk) (g.D.Disk.told c.read_body.new.disk) inside.tables (g.D.Disk.may_leave inside.redo.disk) (g.D.Disk.may_leave c.read_body.new.disk) c.self.invariant.1 c.read_body.ensures.asked.same
+          (λ image left. c.read_body.ensures.asked.leaves image (g.met.D.Disk.leaves_ends inside.redo.disk c.read_body.new.disk image c.read_body.ensures.asked.follows (inr left))),
     )
