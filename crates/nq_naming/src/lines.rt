@@ -10,16 +10,15 @@ ghost use Rattle.nq_script.specs.declared.lines.Line.{Line};
 ghost use Rattle.nq_model.specs.Kept.{Kept};
 ghost use Rattle.nq_replay.specs.AsidesGoing.{Comes, Goes};
 ghost use Rattle.nq_naming.specs.Going.{IsAt, IsAtEnd, IsAtMoment};
-ghost use Rattle.nq_naming.specs.Playing.{Moment, first_moment, play_event, play_line, play_lines, play_plain, with_find};
+ghost use Rattle.nq_naming.specs.Playing.{Moment, first_moment, play_line, play_lines, play_plain, with_find};
 ghost use Rattle.nq_naming.specs.Text.{IsOfHost, NamesLine};
 ghost use Rattle.nq_name_server.specs.declared.run.event.NameEvent.{NameEvent};
-ghost use Rattle.nq_world.specs.Playing.{CountsFaults, HasSettings};
+ghost use Rattle.nq_world.specs.Playing.{CountsFaults, GoesOn};
 
 use crate::events::{deliver, flow, rounds, take, take_times};
 use crate::printing::push_find;
 use crate::script::Aside;
 use nq_base::{Host, Name, NoMemory};
-use nq_directory::Prefix;
 use nq_keeper::Keeper;
 use nq_name_server::run::NameEvent;
 use nq_names::NameWorld;
@@ -42,9 +41,7 @@ fn play_plain<K: Keeper>(
     ensures goes { (head : Head) (events : List NameEvent) → head.hosts ≡ hosts
         → IsAt head events world.old (K.content world.old.inner.server.keeper) delivered.old
         → Goes result (play_plain head most line events) (λ es. IsAt head es world.new (K.content world.new.inner.server.keeper) delivered.new) }
-    ensures faults { CountsFaults result (K.faults world.old.inner.server.keeper) (K.faults world.new.inner.server.keeper) }
-    ensures follows { K.follows world.old.inner.server.keeper world.new.inner.server.keeper }
-    ensures settings { HasSettings (length world.old.inner.clients) world.old.inner.skew.window world.old.inner.term world.new.inner }
+    ensures keeps { GoesOn K.faults K.follows result world.old.inner world.new.inner }
 {
     match line {
         Line::Events { event, times } => {
@@ -72,9 +69,7 @@ fn play_second<K: Keeper>(
     ensures goes { (line : Line) → slice_get lines.now place ≡ Some line → (head : Head) (events : List NameEvent) → head.hosts ≡ hosts
         → IsAt head events world.old (K.content world.old.inner.server.keeper) delivered.old
         → Goes result (play_plain head most line events) (λ es. IsAt head es world.new (K.content world.new.inner.server.keeper) delivered.new) }
-    ensures faults { CountsFaults result (K.faults world.old.inner.server.keeper) (K.faults world.new.inner.server.keeper) }
-    ensures follows { K.follows world.old.inner.server.keeper world.new.inner.server.keeper }
-    ensures settings { HasSettings (length world.old.inner.clients) world.old.inner.skew.window world.old.inner.term world.new.inner }
+    ensures keeps { GoesOn K.faults K.follows result world.old.inner world.new.inner }
 {
     match lines.get(place) {
         Some(line) => play_plain(world, delivered, hosts, most, line),
@@ -97,32 +92,12 @@ fn play_plain_at<K: Keeper>(
     ensures goes { (line : Line) → slice_get lines.now place ≡ Some line → (head : Head) (events : List NameEvent) → head.hosts ≡ hosts
         → IsAt head events world.old (K.content world.old.inner.server.keeper) delivered.old
         → Goes result (play_plain head most line events) (λ es. IsAt head es world.new (K.content world.new.inner.server.keeper) delivered.new) }
-    ensures faults { CountsFaults result (K.faults world.old.inner.server.keeper) (K.faults world.new.inner.server.keeper) }
-    ensures follows { K.follows world.old.inner.server.keeper world.new.inner.server.keeper }
-    ensures settings { HasSettings (length world.old.inner.clients) world.old.inner.skew.window world.old.inner.term world.new.inner }
+    ensures keeps { GoesOn K.faults K.follows result world.old.inner world.new.inner }
 {
     match lines.packet_at(place) {
         Some(packet) => deliver(world, delivered, packet),
         None => play_second(world, delivered, hosts, most, lines, place),
     }
-}
-
-/// A host asks for the list of a directory.
-fn list<K: Keeper>(
-    world: &mut NameWorld<K>,
-    delivered: &mut Delivered,
-    host: Host,
-    prefix: &Prefix,
-) -> Stepped
-    requires { host < length world.old.inner.clients }
-    ensures goes { (head : Head) (events : List NameEvent) → IsAt head events world.old (K.content world.old.inner.server.keeper) delivered.old
-        → Goes result (play_event head (NameEvent.List host prefix.now) events) (λ es. IsAt head es world.new (K.content world.new.inner.server.keeper) delivered.new) }
-    ensures faults { CountsFaults result (K.faults world.old.inner.server.keeper) (K.faults world.new.inner.server.keeper) }
-    ensures follows { K.follows world.old.inner.server.keeper world.new.inner.server.keeper }
-    ensures settings { HasSettings (length world.old.inner.clients) world.old.inner.skew.window world.old.inner.term world.new.inner }
-{
-    let event = NameEvent::List(host, *prefix);
-    take(world, delivered, &event)
 }
 
 /// A host looks a name up, and the line of what it knows is appended.
@@ -151,12 +126,10 @@ fn play_aside<K: Keeper>(
     requires { IsOfHost (length world.old.inner.clients) aside.now }
     ensures goes { (head : Head) (most : ℕ) (m : Moment) → IsAtMoment head m world.old (K.content world.old.inner.server.keeper) delivered.old found.old.items
         → Goes result (play_line head most (beside aside.now) m) (λ n. IsAtMoment head n world.new (K.content world.new.inner.server.keeper) delivered.new found.new.items) }
-    ensures faults { CountsFaults result (K.faults world.old.inner.server.keeper) (K.faults world.new.inner.server.keeper) }
-    ensures follows { K.follows world.old.inner.server.keeper world.new.inner.server.keeper }
-    ensures settings { HasSettings (length world.old.inner.clients) world.old.inner.skew.window world.old.inner.term world.new.inner }
+    ensures keeps { GoesOn K.faults K.follows result world.old.inner world.new.inner }
 {
     match aside {
-        Aside::List(host, prefix) => list(world, delivered, *host, prefix),
+        Aside::List(host, prefix) => take(world, delivered, &NameEvent::List(*host, *prefix)),
         Aside::Find(host, name) => match find(world, found, *host, name) {
             Ok(()) => Stepped::Done,
             Err(NoMemory::Memory) => Stepped::Memory,
@@ -181,9 +154,7 @@ fn play_at<K: Keeper>(
     ensures goes { (line : NamesLine) → slice_get (mixed script.now.asides.items script.now.script.lines) place ≡ Some line → (head : Head) (m : Moment) → head.hosts ≡ hosts
         → IsAtMoment head m world.old (K.content world.old.inner.server.keeper) delivered.old found.old.items
         → Goes result (play_line head most line m) (λ n. IsAtMoment head n world.new (K.content world.new.inner.server.keeper) delivered.new found.new.items) }
-    ensures faults { CountsFaults result (K.faults world.old.inner.server.keeper) (K.faults world.new.inner.server.keeper) }
-    ensures follows { K.follows world.old.inner.server.keeper world.new.inner.server.keeper }
-    ensures settings { HasSettings (length world.old.inner.clients) world.old.inner.skew.window world.old.inner.term world.new.inner }
+    ensures keeps { GoesOn K.faults K.follows result world.old.inner world.new.inner }
 {
     match aside_at(&script.asides, place) {
         Some(aside) => play_aside(world, delivered, found, &aside),

@@ -6,7 +6,7 @@ pub returns-in-List-clause-goes : goal.returns-in-List-clause-goes
 returns-in-List-clause-goes g c = λ head most m is.
     let event = NameEvent.List c.in-List.host c.in-List.prefix in
     rw c.in-List.is
-    (list-moment head m c.args.world.now c.list.new.world _ _ _ _ c.args.found.now.items c.list.result event is (c.list.ensures.goes head m.events is.at))
+    (list-moment head m c.args.world.now c.take.new.world _ _ _ _ c.args.found.now.items c.take.result event is (c.take.ensures.goes head m.events is.at))
 
 pub returns-in-Ok-clause-goes : goal.returns-in-Ok-clause-goes
 returns-in-Ok-clause-goes g c = λ head most m is. rw c.in-Find.is (c.in-Ok.ensures head m _ c.args.delivered.now is)
