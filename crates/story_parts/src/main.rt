@@ -72,13 +72,7 @@ fn fill(rt: &HostRuntime, page: &mut Page) -> Option<()> {
 }
 
 /// Does one thing so many times, and tells the number that stands on all that came out.
-fn tell_often(
-    rt: &HostRuntime,
-    what: &str,
-    way: &str,
-    times: &str,
-    page: &mut Page,
-) -> Option<()> {
+fn tell_often(rt: &HostRuntime, what: &str, way: &str, times: &str, page: &mut Page) -> Option<()> {
     let times = times.parse::<u64>().ok()?;
     page.debug(&timed::often(rt, what, way, times)?);
     Some(())
@@ -122,7 +116,11 @@ fn answer(rt: &HostRuntime, bench: &mut Bench, line: &str, page: &mut Page) {
     let alloc = rt.alloc();
     let (verb, rest) = cut(line);
     page.say(line);
-    page.say(if matches!(verb, "tick" | "crash") { ": " } else { " -> " });
+    page.say(if matches!(verb, "tick" | "crash") {
+        ": "
+    } else {
+        " -> "
+    });
     match verb {
         "file" | "message" | "request" | "reply" => codecs::tell(alloc, verb, rest, page),
         "often" => {

@@ -118,10 +118,12 @@ fn done<K: Keeper>(keeper: &mut K, request: Request) -> Option<u64>
     requires host { IsOfHost request }
 {
     match decide(keeper, request, SERVING) {
-        Ok(Decided::Fresh {
-            verdict: Verdict::Done,
-            value,
-        }) => Some(value),
+        Ok(
+            Decided::Fresh {
+                verdict: Verdict::Done,
+                value,
+            },
+        ) => Some(value),
         _ => None,
     }
 }
