@@ -104,7 +104,7 @@ by_found n words left said fits e =
     let Q : Said → Type 0 = λ s. Says s (codes "ok" ∷ decimal n ∷ words) left in
     subst Q same.0 (
       ap (λ ws. codes "ok" ∷ decimal n ∷ ws)
-      (word_in_front words by.0.1 by.0.0 by.1 ∙ ap (λ w. w ∷ by.0.1) is ∙ ap (λ ws. codes "by" ∷ ws) (spelled.0 ∙ ap (λ ws. decimal packet.0.0 ∷ ws) same.1)),
+          (word_in_front words by.0.1 by.0.0 by.1 ∙ ap (λ w. w ∷ by.0.1) is ∙ ap (λ ws. codes "by" ∷ ws) (spelled.0 ∙ ap (λ ws. decimal packet.0.0 ∷ ws) same.1)),
       (fits, spelled.1),
     )
 
