@@ -1,5 +1,5 @@
 #!/usr/bin/env python3
-"""Times `nqnfs replay` on inputs that it makes, and prints events per second and peak memory; or times `nq_bench`, and
+"""Times `nqnfs replay` on inputs that it makes, and prints events per second and peak memory; or times `story_parts`, and
 prints datagrams and megabytes, or requests of a server and calls of a client, per second; or times `nqnfs check` on journals, or
 `nqnfs storm`.
 
@@ -9,7 +9,7 @@ prints datagrams and megabytes, or requests of a server and calls of a client, p
     bench/bench.py [--program FILE] --journals LINES
     bench/bench.py [--program FILE] --storms
 
-The program is the built `nqnfs` or, with --codecs or --parts, the built `nq_bench` (`rt run` in the crate's folder builds it). Each input is run three times; the fastest run counts. The words are `replay` where none are given. With --journals it times
+The program is the built `nqnfs` or, with --codecs or --parts, the built `story_parts` (`rt run` in the crate's folder builds it). Each input is run three times; the fastest run counts. The words are `replay` where none are given. With --journals it times
 `nqnfs check` on sound journals of five kinds, of a tenth of so many lines and of so many.
 """
 import argparse
@@ -85,7 +85,7 @@ def run(program, words, path):
         return took, used.ru_maxrss / 1024, child.returncode, out.seek(0, os.SEEK_END)
 
 
-# What nq_bench does, how often, and the bytes of one datagram.
+# What story_parts does, how often, and the bytes of one datagram.
 DATAGRAMS = [
     ("LOOKUP", "lookup", 3_000_000, 56),
     ("reply to LOOKUP", "lookup-reply", 3_000_000, 40),
@@ -100,7 +100,7 @@ def processor():
 
 
 def often(program, words, times):
-    """Seconds of processor time of the fastest of three runs of nq_bench, and what it prints."""
+    """Seconds of processor time of the fastest of three runs of story_parts, and what it prints."""
     fastest = None
     for _ in range(3):
         began = processor()
@@ -354,7 +354,7 @@ def storms(program):
 
 
 def main():
-    parser = argparse.ArgumentParser(description="Times nqnfs replay, check or storm, or nq_bench.")
+    parser = argparse.ArgumentParser(description="Times nqnfs replay, check or storm, or story_parts.")
     parser.add_argument("--program")
     parser.add_argument("--words", nargs="*", default=["replay"])
     parser.add_argument("--codecs", action="store_true")
@@ -363,7 +363,7 @@ def main():
     parser.add_argument("--storms", action="store_true")
     asked = parser.parse_args()
     if asked.program is None:
-        crate = "nq_bench" if asked.codecs or asked.parts else "nqnfs"
+        crate = "story_parts" if asked.codecs or asked.parts else "nqnfs"
         asked.program = os.path.join(TOP, "crates", crate, "out", crate)
     if asked.storms:
         return storms(asked.program)

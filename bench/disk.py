@@ -4,7 +4,7 @@ syncs on such a file, and the opening of the empty and of the largest image. It 
 
     bench/disk.py [--program FILE] [--folder FOLDER] [--rounds N]
 
-The program is the built `nq_bench` (`rt run -- store-commit memory 100` in the crate's folder builds it). Each case is run with one
+The program is the built `story_parts` (`rt run -- store-commit memory 100` in the crate's folder builds it). Each case is run with one
 turn and with many, in rounds of all cases, and the fastest runs count: what a run costs besides its turns falls out. On a file it is
 the time that passes, else the time of the processor. The files lie in the folder, which is best on a real disk.
 """
@@ -49,7 +49,7 @@ def run(program, what, place, times):
 
 def main():
     parser = argparse.ArgumentParser(description=__doc__.splitlines()[0])
-    parser.add_argument("--program", default=os.path.join(TOP, "crates", "nq_bench", "out", "nq_bench"))
+    parser.add_argument("--program", default=os.path.join(TOP, "crates", "story_parts", "out", "story_parts"))
     parser.add_argument("--folder")
     parser.add_argument("--rounds", type=int, default=5)
     asked = parser.parse_args()

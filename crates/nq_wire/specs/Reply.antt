@@ -1,5 +1,5 @@
 -- The results of the procedures as bytes: one spelling for each reply.
-use Rattle.std.specs.Prelude.{◌≡◌, ℕ, ◌+◌, ◌^◌, ◌<◌, List, [], ◌++◌, length, IfSome, Result, IfOk}
+use Rattle.std.specs.Prelude.{◌≡◌, ℕ, ◌+◌, ◌^◌, ◌<◌, List, [], ◌++◌, length, IfSome}
 use Rattle.nq_base.specs.declared.Reply.{Reply}
 use Rattle.nq_base.specs.declared.Reply.TheVariants.{Null, Attach, Lookup, Create, GetAttr, Read, Write, GetLease, Resize, Remove, Refused}
 use Rattle.nq_xdr.specs.Item.{word, hyper, opaque}
@@ -84,12 +84,3 @@ pub record IsResults (number : ℕ) (reply : Reply) (bytes : List ℕ) : Type 0 
   pub answers : Answers reply procedure
   pub value_fits : IsReply reply
   pub bytes_are : bytes ≡ results reply
-
--- What a call gave is a reply to the procedure, spelled by the bytes that it passed over.
-abbrev pub ReadsReply : {F : Type 0} → Procedure → List ℕ → List ℕ → Result Reply F → Type 0
-ReadsReply p old new result = IfOk result (λ r. Answers r p × IsReply r × (old ≡ results r ++ new))
-
--- The same, where the incarnation and the status OK were passed over before.
-abbrev pub ReadsResults : {F : Type 0} → Procedure → ℕ → List ℕ → List ℕ → Result Reply F → Type 0
-ReadsResults p inc old new result =
-    IfOk result (λ r. Answers r p × (inc < 2 ^ 32 → IsReply r) × (ok inc ++ old ≡ results r ++ new))

@@ -1,5 +1,5 @@
 -- The arguments of the procedures as bytes: one spelling for each request that has one.
-use Rattle.std.specs.Prelude.{◌≡◌, ℕ, ◌+◌, ◌^◌, ◌<◌, List, [], ◌++◌, length, Option, Some, None, IfSome, Result, IfOk}
+use Rattle.std.specs.Prelude.{◌≡◌, ℕ, ◌+◌, ◌^◌, ◌<◌, List, [], ◌++◌, length, Option, Some, None, IfSome}
 use Rattle.nq_base.specs.Name.{IsName}
 use Rattle.nq_base.specs.declared.PushBase.{PushBase}
 use Rattle.nq_base.specs.declared.Request.{Request}
@@ -92,8 +92,3 @@ pub record IsArguments (procedure : ℕ) (request : Request) (bytes : List ℕ) 
   pub value_fits : IsRequest request
   pub has_spelling : HasSpelling request
   pub bytes_are : bytes ≡ arguments request
-
--- What a call gave is a request of the procedure, spelled by the bytes that it passed over.
-abbrev pub ReadsRequest : {F : Type 0} → Procedure → List ℕ → List ℕ → Result Request F → Type 0
-ReadsRequest procedure old new result =
-    IfOk result (λ r. (procedure_of r ≡ procedure) × IsRequest r × HasSpelling r × (old ≡ arguments r ++ new))

@@ -8,7 +8,7 @@ use nq_xdr::XdrFault;
 use thiserror::Error;
 
 /// Why bytes were not read as a request or a reply.
-#[derive(Clone, Copy, Debug, PartialEq, Eq, Error)]
+#[derive(Clone, Copy, Debug, Error)]
 pub enum WireFault {
     /// The program has no procedure of that number.
     #[error("there is no procedure of that number")]
@@ -34,7 +34,7 @@ impl WireFault {
 }
 
 /// The bytes are not in the grammar.
-#[derive(Clone, Copy, Debug, PartialEq, Eq)]
+#[derive(Clone, Copy)]
 pub struct Garbage;
 
 impl From<XdrFault> for Garbage {

@@ -7,7 +7,7 @@ ghost use Rattle.nq_wire.specs.Request.{procedure_of};
 use crate::Request;
 
 /// The procedures of the program.
-#[derive(Clone, Copy, Debug, PartialEq, Eq)]
+#[derive(Clone, Copy)]
 pub enum Procedure {
     /// 0: asks for nothing.
     Null,

@@ -1,6 +1,6 @@
 //! Statuses.
 
-ghost use Rattle.std.specs.Prelude.{◌≡◌, IfOk};
+ghost use Rattle.std.specs.Prelude.{◌≡◌};
 ghost use Rattle.nq_wire.specs.Status.{status_number};
 ghost use Rattle.nq_wire.specs.Reading.{refusal_of};
 
@@ -30,8 +30,7 @@ pub(crate) fn number(status: Refusal) -> u32
 /// The status of a number that is not OK's.
 #[tactic(auto, unfolding(crate::specs::Reading::refusal_of))]
 pub(crate) fn refusal(number: u32) -> Result<Refusal, Garbage>
-    ensures number { IfOk result (λ s. number ≡ status_number s) }
-    ensures step { result ≡ refusal_of number }
+    ensures { result ≡ refusal_of number }
 {
     match number {
         2 => Ok(Refusal::NoEnt),

@@ -11,7 +11,7 @@ use Rattle.nq_base.specs.Steps.{◌>>=◌}
 use Rattle.nq_base.specs.declared.Told.{Told}
 use Rattle.nq_base.proofs.Options.{bind_some}
 use Rattle.nq_words.specs.Forms.{told_words, FitsTold, HasTold, SpellsTold}
-use Rattle.nq_words.specs.Reading.{only_if, is_done, word_at, u32_of, u32_at, name_of, name_at, place_at, words_of}
+use Rattle.nq_words.specs.Reading.{Takes, only_if, is_done, word_at, u32_of, u32_at, name_of, name_at, place_at, words_of}
 use Rattle.nq_words.specs.ReadingCalls.{told_at, told_by, told_in, verb_of, verb_word, has_told, create_at, lookup_at, attr_at, read_at, fetch_at, write_at, put_at, sync_at, resize_at, remove_at}
 use Rattle.nq_words.specs.Words.{joined}
 use Rattle.nq_words.specs.declared.calls.Verb.{Verb}
@@ -230,6 +230,11 @@ at_found words left told e =
     let first = word_found words word.0.1 word.0.0 word.1 ∙ ap (λ w. w ∷ word.0.1) (verb_found word.0.0 verb.0 verb.1) in
     let P : List (List ℕ) → Type 0 = λ ws. Tells told ws left in
     subst P (sym first) (by_found verb.0 word.0.1 left told verb.2)
+
+-- so is what is taken as a call
+pub told_taken : (words left : List (List ℕ)) (r : Option Told) → Takes (λ (told : Told). told) r left (told_at words) → IfSome r (λ told. Tells told words left)
+told_taken words left None read = tt
+told_taken words left (Some told) read = at_found words left told read
 
 has_found : (version : ℕ) (told : Told) → has_told version told ≡ true → HasTold version told
 has_found version (Told.Resize file blocks) test = eqb-true version 2 test

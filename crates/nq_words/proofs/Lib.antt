@@ -8,4 +8,5 @@ pub mod LineWords
 pub mod Names
 pub mod Numerals
 pub mod Options
+pub mod SaidFound
 pub mod SpanWords

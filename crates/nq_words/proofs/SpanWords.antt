@@ -85,19 +85,6 @@ span_spelled word block ends first last span outer inner is_block is_first is_la
     ∙ ap (λ xs. decimal span.block ++ 58 ∷ (decimal span.first ++ 45 ∷ xs)) is_last
     ∙ simp append_assoc
 
--- one span more was found
-pub words_more : (old words left : List (List ℕ)) (word : List ℕ) (front : List Span) (span : Span) → old ≡ map span_word front ++ words → words ≡ word ∷ left → word ≡ span_word span → old ≡ map span_word (front ++ span ∷ []) ++ left
-words_more old words left word front span found taken spelled =
-    found
-    ∙ ap (λ ws. map span_word front ++ ws) (taken ∙ ap (λ w. w ∷ left) spelled)
-    ∙ sym (append_assoc (map span_word front) (span_word span ∷ []) left)
-    ∙ ap (λ ws. ws ++ left) (sym (map-append span_word front (span ∷ [])))
-
--- no word in front is none at all
-pub none_in_front : (words : List (List ℕ)) → word_at words ≡ None → words ≡ []
-none_in_front [] none = refl
-none_in_front (word ∷ words) none = cc
-
 -- one span more fits
 pub fit_more : (spans : List Span) (place : ℕ) (span : Span) → slice_get spans place ≡ Some span → All FitsSpan (take place spans) → FitsSpan span → All FitsSpan (take (place + 1) spans)
 fit_more spans place span found fit fits =

@@ -1,11 +1,10 @@
 //! The words of an answer.
 
-ghost use Rattle.std.specs.Prelude.{◌≡◌, [], ◌∷◌, ◌++◌, codes, option_map, IfSome, IfOk};
-ghost use Rattle.std.specs.Fmt.{decimal};
+ghost use Rattle.std.specs.Prelude.{◌≡◌, ◌++◌, option_map, IfSome, IfOk};
 ghost use Rattle.nq_base.specs.Plain.{plain_said};
 ghost use Rattle.nq_words.specs.Reading.{Takes};
 ghost use Rattle.nq_words.specs.ReadingAnswers.{span_of, lost_at, by_at, value_at, ok_at, bare_of, bare_at, said_at};
-ghost use Rattle.nq_words.specs.Forms.{span_word, said_words, FitsSpan, FitsSaid};
+ghost use Rattle.nq_words.specs.Forms.{said_words, FitsSaid};
 
 use crate::cursor::{Words, cut, is, number32, number64};
 use nq_base::{BlockNo, NoMemory, Number, Said, Span, Spans};
@@ -14,8 +13,7 @@ use std::alloc::Global;
 // The span that a word spells.
 #[tactic(auto, unfolding(crate::specs::ReadingAnswers::span_of))]
 fn span_of(word: &[u8]) -> Option<Span>
-    ensures step { result ≡ span_of word.now }
-    ensures found { IfSome result (λ span. (word.now ≡ span_word span) × FitsSpan span) }
+    ensures { result ≡ span_of word.now }
 {
     let (block, ends) = cut(word, b':')?;
     let (first, last) = cut(ends, b'-')?;
@@ -27,8 +25,7 @@ fn span_of(word: &[u8]) -> Option<Span>
 
 // Takes spans to the end of the line.
 fn take_lost(alloc: Global, words: &mut Words<'_>) -> Result<Option<Said>, NoMemory>
-    ensures step { IfOk result (λ said. Takes plain_said said words.new (lost_at words.old)) }
-    ensures found { IfOk result (λ said. IfSome said (λ s. (codes "lost" ∷ words.old ≡ said_words s ++ words.new) × FitsSaid s)) }
+    ensures { IfOk result (λ said. Takes plain_said said words.new (lost_at words.old)) }
 {
     let mut spans = Spans::new(alloc)?;
     while let Some(word) = words.next() {
@@ -43,8 +40,7 @@ fn take_lost(alloc: Global, words: &mut Words<'_>) -> Result<Option<Said>, NoMem
 // Takes the packet that brought a value.
 #[tactic(auto, unfolding(crate::specs::ReadingAnswers::by_at))]
 fn take_by(words: &mut Words<'_>, value: u32) -> Option<Said>
-    ensures step { Takes plain_said result words.new (by_at value words.old) }
-    ensures found { IfSome result (λ s. (codes "ok" ∷ decimal value ∷ words.old ≡ said_words s ++ words.new) × FitsSaid s) }
+    ensures { Takes plain_said result words.new (by_at value words.old) }
 {
     let by = words.next()?;
     let packet = words.u64()?;
@@ -58,8 +54,7 @@ fn take_by(words: &mut Words<'_>, value: u32) -> Option<Said>
 // Takes a value, and the packet that brought it, where one did.
 #[tactic(auto, unfolding(crate::specs::ReadingAnswers::value_at))]
 fn take_value(words: &mut Words<'_>) -> Option<Said>
-    ensures step { Takes plain_said result words.new (value_at words.old) }
-    ensures found { IfSome result (λ s. (codes "ok" ∷ words.old ≡ said_words s ++ words.new) × FitsSaid s) }
+    ensures { Takes plain_said result words.new (value_at words.old) }
 {
     let value = words.u32()?;
     if words.is_empty() {
@@ -72,8 +67,7 @@ fn take_value(words: &mut Words<'_>) -> Option<Said>
 // Takes what stands behind the word `ok`.
 #[tactic(auto, unfolding(crate::specs::ReadingAnswers::ok_at))]
 fn take_ok(words: &mut Words<'_>) -> Option<Said>
-    ensures step { Takes plain_said result words.new (ok_at words.old) }
-    ensures found { IfSome result (λ s. (codes "ok" ∷ words.old ≡ said_words s ++ words.new) × FitsSaid s) }
+    ensures { Takes plain_said result words.new (ok_at words.old) }
 {
     if words.is_empty() {
         Some(Said::Ok)
@@ -85,8 +79,7 @@ fn take_ok(words: &mut Words<'_>) -> Option<Said>
 // The answer that a word alone spells.
 #[tactic(auto, unfolding(crate::specs::ReadingAnswers::bare_of))]
 fn bare_of(word: &[u8]) -> Option<Said>
-    ensures step { option_map plain_said result ≡ bare_of word.now }
-    ensures found { IfSome result (λ s. (word.now ∷ [] ≡ said_words s) × FitsSaid s) }
+    ensures { option_map plain_said result ≡ bare_of word.now }
 {
     if is(word, b"busy") {
         Some(Said::Busy)
@@ -108,10 +101,17 @@ fn bare_of(word: &[u8]) -> Option<Said>
 }
 
 /// Takes the words of an answer.
-#[tactic(auto, unfolding(crate::specs::ReadingAnswers::said_at, crate::specs::ReadingAnswers::bare_at))]
 pub fn take_said(alloc: Global, words: &mut Words<'_>) -> Result<Option<Said>, NoMemory>
     ensures step { IfOk result (λ said. Takes plain_said said words.new (said_at words.old)) }
     ensures found { IfOk result (λ said. IfSome said (λ s. (words.old ≡ said_words s ++ words.new) × FitsSaid s)) }
+{
+    said_at(alloc, words)
+}
+
+// Takes the first word of an answer, and what follows it.
+#[tactic(auto, unfolding(crate::specs::ReadingAnswers::said_at, crate::specs::ReadingAnswers::bare_at))]
+fn said_at(alloc: Global, words: &mut Words<'_>) -> Result<Option<Said>, NoMemory>
+    ensures { IfOk result (λ said. Takes plain_said said words.new (said_at words.old)) }
 {
     let Some(word) = words.next() else {
         return Ok(None);

@@ -1,9 +1,9 @@
 //! The words of a call.
 
-ghost use Rattle.std.specs.Prelude.{◌≡◌, ◌↔◌, ◌∷◌, ◌++◌, Some, IfSome, IsTrue, codes};
+ghost use Rattle.std.specs.Prelude.{◌≡◌, ◌↔◌, ◌++◌, Some, IfSome, IsTrue};
 ghost use Rattle.nq_base.specs.declared.Told.{Told};
 ghost use Rattle.nq_words.specs.Reading.{Takes, words_of};
-ghost use Rattle.nq_words.specs.ReadingCalls.{create_at, has_told, put_at, resize_at, told_at, told_by, told_in, verb_of, verb_word, write_at};
+ghost use Rattle.nq_words.specs.ReadingCalls.{create_at, has_told, put_at, resize_at, told_at, told_by, told_in, verb_of, write_at};
 ghost use Rattle.nq_words.specs.Forms.{told_words, FitsTold, HasTold, SpellsTold};
 
 use crate::cursor::{Words, is};
@@ -27,8 +27,7 @@ enum Verb {
 // What a word asks for.
 #[tactic(auto, unfolding(crate::specs::ReadingCalls::verb_of))]
 fn verb_of(word: &[u8]) -> Option<Verb>
-    ensures step { result ≡ verb_of word.now }
-    ensures found { IfSome result (λ verb. word.now ≡ verb_word verb) }
+    ensures { result ≡ verb_of word.now }
 {
     if is(word, b"create") {
         Some(Verb::Create)
@@ -56,10 +55,17 @@ fn verb_of(word: &[u8]) -> Option<Verb>
 }
 
 /// Takes the words of a call.
-#[tactic(auto, unfolding(crate::specs::ReadingCalls::told_at))]
 pub fn take_told(words: &mut Words<'_>) -> Option<Told>
     ensures step { Takes (λ told. told) result words.new (told_at words.old) }
     ensures found { IfSome result (λ told. (words.old ≡ told_words told ++ words.new) × FitsTold told) }
+{
+    told_at(words)
+}
+
+// Takes a verb, and what it names.
+#[tactic(auto, unfolding(crate::specs::ReadingCalls::told_at))]
+fn told_at(words: &mut Words<'_>) -> Option<Told>
+    ensures { Takes (λ told. told) result words.new (told_at words.old) }
 {
     let verb = verb_of(words.next()?)?;
     take_asked(words, verb)
@@ -68,8 +74,7 @@ pub fn take_told(words: &mut Words<'_>) -> Option<Told>
 // Takes what such a call names.
 #[tactic(auto, unfolding(crate::specs::ReadingCalls::lookup_at, crate::specs::ReadingCalls::attr_at, crate::specs::ReadingCalls::read_at, crate::specs::ReadingCalls::fetch_at, crate::specs::ReadingCalls::sync_at, crate::specs::ReadingCalls::remove_at))]
 fn take_asked(words: &mut Words<'_>, verb: Verb) -> Option<Told>
-    ensures step { Takes (λ told. told) result words.new (told_by verb words.old) }
-    ensures found { IfSome result (λ told. (verb_word verb ∷ words.old ≡ told_words told ++ words.new) × FitsTold told) }
+    ensures { Takes (λ told. told) result words.new (told_by verb words.old) }
 {
     match verb {
         Verb::Create => take_create(words),
@@ -106,8 +111,7 @@ fn take_asked(words: &mut Words<'_>, verb: Verb) -> Option<Told>
 // Takes what `create` names.
 #[tactic(auto, unfolding(crate::specs::ReadingCalls::create_at))]
 fn take_create(words: &mut Words<'_>) -> Option<Told>
-    ensures step { Takes (λ told. told) result words.new (create_at words.old) }
-    ensures found { IfSome result (λ told. (codes "create" ∷ words.old ≡ told_words told ++ words.new) × FitsTold told) }
+    ensures { Takes (λ told. told) result words.new (create_at words.old) }
 {
     let name = words.name()?;
     let blocks = words.u32()?;
@@ -117,8 +121,7 @@ fn take_create(words: &mut Words<'_>) -> Option<Told>
 // Takes what `write` names.
 #[tactic(auto, unfolding(crate::specs::ReadingCalls::write_at))]
 fn take_write(words: &mut Words<'_>) -> Option<Told>
-    ensures step { Takes (λ told. told) result words.new (write_at words.old) }
-    ensures found { IfSome result (λ told. (codes "write" ∷ words.old ≡ told_words told ++ words.new) × FitsTold told) }
+    ensures { Takes (λ told. told) result words.new (write_at words.old) }
 {
     let (file, block) = words.place()?;
     let value = words.u32()?;
@@ -128,8 +131,7 @@ fn take_write(words: &mut Words<'_>) -> Option<Told>
 // Takes what `put` names.
 #[tactic(auto, unfolding(crate::specs::ReadingCalls::put_at))]
 fn take_put(words: &mut Words<'_>) -> Option<Told>
-    ensures step { Takes (λ told. told) result words.new (put_at words.old) }
-    ensures found { IfSome result (λ told. (codes "put" ∷ words.old ≡ told_words told ++ words.new) × FitsTold told) }
+    ensures { Takes (λ told. told) result words.new (put_at words.old) }
 {
     let (file, block) = words.place()?;
     let value = words.u32()?;
@@ -139,8 +141,7 @@ fn take_put(words: &mut Words<'_>) -> Option<Told>
 // Takes what `resize` names.
 #[tactic(auto, unfolding(crate::specs::ReadingCalls::resize_at))]
 fn take_resize(words: &mut Words<'_>) -> Option<Told>
-    ensures step { Takes (λ told. told) result words.new (resize_at words.old) }
-    ensures found { IfSome result (λ told. (codes "resize" ∷ words.old ≡ told_words told ++ words.new) × FitsTold told) }
+    ensures { Takes (λ told. told) result words.new (resize_at words.old) }
 {
     let file = FileId(words.u32()?);
     let blocks = words.u32()?;

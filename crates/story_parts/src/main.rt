@@ -24,6 +24,9 @@
 //! Where memory is wanting something is left out of what is printed.
 //!
 //! A line that begins with `machine` says which part of the machine is tried: its clock, what comes over UDP, or a disk in one of its files.
+//!
+//! A line that begins with `often` says what is done how many times, in the words of `timed`, and is answered by a number that stands on all that
+//! came out. Where such words stand behind the program's name, it does that alone, so that it can be timed, and prints the number.
 #![tactic(auto)]
 
 mod codecs;
@@ -33,23 +36,55 @@ mod noting_disk;
 mod page;
 mod serving;
 mod stops;
+mod timed;
 
 use crate::page::{Page, bytes_of, cut, hex_of, number_of};
 use crate::serving::Event;
 use crate::stops::Bench;
+use std::alloc::Global;
+use std::env;
 use std::process::ExitCode;
 
 fn main(rt: HostRuntime) -> ExitCode {
-    let mut bench = Bench::new(rt.alloc());
     let mut page = Page::new(rt.alloc());
-    for line in rt.lines(rt.alloc()) {
-        if let Ok(line) = line {
-            play(&rt, &mut bench, &line, &mut page);
-        }
+    if fill(&rt, &mut page).is_none() {
+        return ExitCode::from(1);
     }
     match print!(rt; "{}", page.as_str()) {
         Ok(()) => ExitCode::from(0),
         Err(_) => ExitCode::from(1),
+    }
+}
+
+/// Does what the words behind the program's name say, or plays the stories where there are none. None where the words say nothing that is here,
+/// memory is wanting, or a disk fails.
+fn fill(rt: &HostRuntime, page: &mut Page) -> Option<()> {
+    let mut words = env::args(rt).ok()?.skip(1);
+    let Some(what) = words.next() else {
+        play_all(rt, page);
+        return Some(());
+    };
+    let way = words.next()?;
+    let times = words.next()?;
+    tell_often(rt, what.as_str(), way.as_str(), times.as_str(), page)?;
+    page.say("\n");
+    Some(())
+}
+
+/// Does one thing so many times, and tells the number that stands on all that came out.
+fn tell_often(rt: &HostRuntime, what: &str, way: &str, times: &str, page: &mut Page) -> Option<()> {
+    let times = times.parse::<u64>().ok()?;
+    page.debug(&timed::often(rt, what, way, times)?);
+    Some(())
+}
+
+/// Plays the stories of the standard input.
+fn play_all(rt: &HostRuntime, page: &mut Page) {
+    let mut bench = Bench::new(rt.alloc());
+    for line in rt.lines(rt.alloc()) {
+        if let Ok(line) = line {
+            play(rt, &mut bench, &line, page);
+        }
     }
 }
 
@@ -71,28 +106,37 @@ fn play(rt: &HostRuntime, bench: &mut Bench, line: &str, page: &mut Page) {
             bench.serve(alloc);
             page.say(line);
         }
-        "file" | "message" | "request" | "reply" => {
-            page.say(line);
-            page.say(" -> ");
-            codecs::tell(alloc, verb, rest, page);
-        }
-        "tick" | "crash" => {
-            page.say(line);
-            page.say(": ");
-            let now = number_of(rest);
-            let event = if verb == "tick" {
-                Event::Tick(now)
-            } else {
-                Event::Crash(now)
-            };
-            bench.answer(alloc, event, page);
-        }
-        host => {
-            page.say(line);
-            page.say(" -> ");
-            let event = Event::Datagram(hex_of(host), bytes_of(alloc, rest));
-            bench.answer(alloc, event, page);
-        }
+        _ => answer(rt, bench, line, page),
     }
     page.say("\n");
+}
+
+/// Tells a line, and behind it what is read again, what is done often, or what a server answers.
+fn answer(rt: &HostRuntime, bench: &mut Bench, line: &str, page: &mut Page) {
+    let alloc = rt.alloc();
+    let (verb, rest) = cut(line);
+    page.say(line);
+    page.say(if matches!(verb, "tick" | "crash") {
+        ": "
+    } else {
+        " -> "
+    });
+    match verb {
+        "file" | "message" | "request" | "reply" => codecs::tell(alloc, verb, rest, page),
+        "often" => {
+            let (what, rest) = cut(rest);
+            let (way, times) = cut(rest);
+            tell_often(rt, what, way, times, page);
+        }
+        _ => bench.answer(alloc, event_of(alloc, verb, rest), page),
+    }
+}
+
+/// What comes to a server.
+fn event_of(alloc: Global, verb: &str, rest: &str) -> Event {
+    match verb {
+        "tick" => Event::Tick(number_of(rest)),
+        "crash" => Event::Crash(number_of(rest)),
+        host => Event::Datagram(hex_of(host), bytes_of(alloc, rest)),
+    }
 }

@@ -1,17 +1,33 @@
 //! Reading the parts of arguments and results.
 
-ghost use Rattle.std.specs.Prelude.{◌≡◌, ◌↔◌, [], true, length, IfSome, IfOk, IsOk};
+ghost use Rattle.std.specs.Prelude.{◌≡◌, ◌↔◌, ◌++◌, [], true, IfSome, IfOk, IsOk};
 ghost use Rattle.nq_base.specs.Name.{IsName};
-ghost use Rattle.nq_xdr.specs.Item.{opaque};
-ghost use Rattle.nq_xdr.specs.Reading.{Gives};
-ghost use Rattle.nq_wire.specs.Parts.{head, tag_bytes, mode_number, want_bytes, grant_bytes, base_bytes, optional, IsWho, IsTag, IsWant, IsGrant, IsPushBase, IsWanted};
-ghost use Rattle.nq_wire.specs.Reading.{Reads, head_at, tag_at, wanted_mode, want_at, granted_mode, grant_at, base_at, optional_at, name_of, name_at, body_at};
+ghost use Rattle.nq_xdr.specs.Item.{word, hyper, opaque};
+ghost use Rattle.nq_xdr.specs.Reading.{Gives, word_at, hyper_at};
+ghost use Rattle.nq_wire.specs.Parts.{head, tag_bytes, mode_number, grant_bytes, optional, IsWho, IsTag, IsGrant};
+ghost use Rattle.nq_wire.specs.Reading.{Reads, item, head_at, tag_at, wanted_mode, want_at, granted_mode, grant_at, base_at, optional_at, name_of, name_at, body_at};
 
 use crate::PushBase;
 use crate::fault::Garbage;
 use crate::lent::LentBlock;
 use nq_base::{Block, Grant, Host, Inc, Mode, Name, Rev, Spare, Tag, Want, Who};
 use nq_xdr::Reader;
+
+/// An unsigned integer.
+pub(crate) fn word(reader: &mut Reader) -> Result<u32, Garbage>
+    ensures found { IfOk result (λ n. reader.old ≡ word n ++ reader.new) }
+    ensures step { Gives (λ n. (n, reader.new)) result (item (word_at reader.old)) }
+{
+    Ok(reader.u32()?)
+}
+
+/// An unsigned hyper integer.
+pub(crate) fn hyper(reader: &mut Reader) -> Result<u64, Garbage>
+    ensures found { IfOk result (λ n. reader.old ≡ hyper n ++ reader.new) }
+    ensures step { Gives (λ n. (n, reader.new)) result (item (hyper_at reader.old)) }
+{
+    Ok(reader.u64()?)
+}
 
 /// Who asks: a host and its incarnation.
 ///
@@ -23,8 +39,8 @@ pub fn who(reader: &mut Reader) -> Result<Who, Garbage>
     ensures found { Reads head IsWho reader.old reader.new result }
     ensures step { Gives (λ w. (w, reader.new)) result (head_at reader.old) }
 {
-    let host = reader.u32()?;
-    let inc = reader.u32()?;
+    let host = word(reader)?;
+    let inc = word(reader)?;
     Ok(Who {
         host: Host(host),
         inc: Inc(inc),
@@ -41,16 +57,15 @@ pub fn tag(reader: &mut Reader) -> Result<Tag, Garbage>
     ensures found { Reads tag_bytes IsTag reader.old reader.new result }
     ensures step { Gives (λ t. (t, reader.new)) result (tag_at reader.old) }
 {
-    let boot = reader.u32()?;
-    let number = reader.u64()?;
+    let boot = word(reader)?;
+    let number = hyper(reader)?;
     Ok(Tag { boot, number })
 }
 
 /// The mode of a lease that is wanted.
 #[tactic(auto, unfolding(crate::specs::Reading::wanted_mode))]
 fn wanted_mode(number: u32) -> Result<Mode, Garbage>
-    ensures wanted { IfOk result (λ m. IsWanted m × (number ≡ mode_number m)) }
-    ensures step { result ≡ wanted_mode number }
+    ensures { result ≡ wanted_mode number }
 {
     match number {
         1 => Ok(Mode::Reading),
@@ -59,14 +74,13 @@ fn wanted_mode(number: u32) -> Result<Mode, Garbage>
     }
 }
 
-#[tactic(auto, unfolding(crate::specs::Reading::want_at, crate::specs::Parts::want_bytes))]
+#[tactic(auto, unfolding(crate::specs::Reading::want_at))]
 pub(crate) fn want(reader: &mut Reader) -> Result<Want, Garbage>
-    ensures found { Reads want_bytes (λ w. IsWant w × IsWanted w.mode) reader.old reader.new result }
-    ensures step { Gives (λ w. (w, reader.new)) result (want_at reader.old) }
+    ensures { Gives (λ w. (w, reader.new)) result (want_at reader.old) }
 {
-    let number = reader.u32()?;
+    let number = word(reader)?;
     let mode = wanted_mode(number)?;
-    let term = reader.u32()?;
+    let term = word(reader)?;
     Ok(Want { mode, term })
 }
 
@@ -89,13 +103,13 @@ fn grant(reader: &mut Reader) -> Result<Grant, Garbage>
     ensures found { Reads grant_bytes IsGrant reader.old reader.new result }
     ensures step { Gives (λ g. (g, reader.new)) result (grant_at reader.old) }
 {
-    let number = reader.u32()?;
+    let number = word(reader)?;
     let mode = granted_mode(number)?;
-    let term = reader.u32()?;
+    let term = word(reader)?;
     let tag_of_grant = tag(reader)?;
     let since = tag(reader)?;
-    let rev = reader.u64()?;
-    let blocks = reader.u32()?;
+    let rev = hyper(reader)?;
+    let blocks = word(reader)?;
     Ok(Grant {
         mode,
         term,
@@ -106,23 +120,21 @@ fn grant(reader: &mut Reader) -> Result<Grant, Garbage>
     })
 }
 
-#[tactic(auto, unfolding(crate::specs::Reading::base_at, crate::specs::Parts::base_bytes))]
+#[tactic(auto, unfolding(crate::specs::Reading::base_at))]
 fn push_base(reader: &mut Reader) -> Result<PushBase, Garbage>
-    ensures found { Reads base_bytes IsPushBase reader.old reader.new result }
-    ensures step { Gives (λ p. (p, reader.new)) result (base_at reader.old) }
+    ensures { Gives (λ p. (p, reader.new)) result (base_at reader.old) }
 {
-    let boot = reader.u32()?;
-    let base = reader.u64()?;
+    let boot = word(reader)?;
+    let base = hyper(reader)?;
     Ok(PushBase {
         boot,
         base: Rev(base),
     })
 }
 
-#[tactic(auto, unfolding(crate::specs::Reading::optional_at, crate::specs::Parts::optional))]
+#[tactic(auto, unfolding(crate::specs::Reading::optional_at))]
 pub(crate) fn optional_want(reader: &mut Reader) -> Result<Option<Want>, Garbage>
-    ensures found { Reads (optional want_bytes) (λ o. IfSome o (λ w. IsWant w × IsWanted w.mode)) reader.old reader.new result }
-    ensures step { Gives (λ o. (o, reader.new)) result (optional_at want_at reader.old) }
+    ensures { Gives (λ o. (o, reader.new)) result (optional_at want_at reader.old) }
 {
     if reader.boolean()? {
         Ok(Some(want(reader)?))
@@ -148,10 +160,9 @@ pub fn optional_grant(reader: &mut Reader) -> Result<Option<Grant>, Garbage>
     }
 }
 
-#[tactic(auto, unfolding(crate::specs::Reading::optional_at, crate::specs::Parts::optional))]
+#[tactic(auto, unfolding(crate::specs::Reading::optional_at))]
 pub(crate) fn optional_push(reader: &mut Reader) -> Result<Option<PushBase>, Garbage>
-    ensures found { Reads (optional base_bytes) (λ o. IfSome o IsPushBase) reader.old reader.new result }
-    ensures step { Gives (λ o. (o, reader.new)) result (optional_at base_at reader.old) }
+    ensures { Gives (λ o. (o, reader.new)) result (optional_at base_at reader.old) }
 {
     if reader.boolean()? {
         Ok(Some(push_base(reader)?))
@@ -190,8 +201,7 @@ pub fn name(reader: &mut Reader) -> Result<Name, Garbage>
 /// The body of a block, which is lent.
 #[tactic(auto, unfolding(crate::specs::Reading::body_at))]
 pub(crate) fn lent_body<'a>(reader: &mut Reader<'a>) -> Result<LentBlock<'a>, Garbage>
-    ensures found { Reads opaque (λ b. length b ≡ 4096) reader.old reader.new result }
-    ensures step { Gives (λ b. (b, reader.new)) result (body_at reader.old) }
+    ensures { Gives (λ b. (b, reader.new)) result (body_at reader.old) }
 {
     let bytes = reader.opaque(4096)?;
     let Some(block) = LentBlock::new(bytes) else {
@@ -203,8 +213,7 @@ pub(crate) fn lent_body<'a>(reader: &mut Reader<'a>) -> Result<LentBlock<'a>, Ga
 /// The body of a block, in room that was taken ahead.
 pub(crate) fn body(reader: &mut Reader, room: &mut Spare) -> Result<Block, Garbage>
     requires { room.old ≡ true }
-    ensures found { Reads opaque (λ b. length b ≡ 4096) reader.old reader.new result }
-    ensures step { Gives (λ b. (b, reader.new)) result (body_at reader.old) }
+    ensures { Gives (λ b. (b, reader.new)) result (body_at reader.old) }
 {
     let body = lent_body(reader)?;
     Ok(body.kept(room))

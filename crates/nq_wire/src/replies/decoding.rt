@@ -3,24 +3,23 @@
 ghost use Rattle.std.specs.Prelude.{◌≡◌, ◌≢◌, true, ◌<◌, ◌≤◌, ◌↔◌, IfOk};
 ghost use Rattle.nq_base.specs.declared.Reply.{Reply};
 ghost use Rattle.nq_xdr.specs.Reading.{Gives};
-ghost use Rattle.nq_wire.specs.Reply.{results, IsRefusable, IsResults, ReadsReply, ReadsResults};
+ghost use Rattle.nq_wire.specs.Reply.{IsResults};
 ghost use Rattle.nq_wire.specs.Lent.{lent_in};
 ghost use Rattle.nq_wire.specs.Reading.{found_at, created_at, attributes_at, block_at, written_at, lease_at, resized_at, results_at, answer_at, reply_at, reply_in};
 
 use crate::fault::Garbage;
 use crate::lent::LentReply;
-use crate::parts::decoding::{end, lent_body, optional_grant};
+use crate::parts::decoding::{end, hyper, lent_body, optional_grant, word};
 use crate::{Procedure, Reply, WireFault, status};
 use nq_base::{FileId, Inc, Rev, Spare};
 use nq_xdr::Reader;
 
-#[tactic(auto, unfolding(crate::specs::Reading::found_at, crate::specs::Reply::results))]
+#[tactic(auto, unfolding(crate::specs::Reading::found_at))]
 fn found(inc: Inc, reader: &mut Reader) -> Result<Reply, Garbage>
-    ensures found { ReadsResults Procedure.Lookup inc reader.old reader.new result }
-    ensures step { Gives (λ r. (r, reader.new)) result (found_at inc reader.old) }
+    ensures { Gives (λ r. (r, reader.new)) result (found_at inc reader.old) }
 {
-    let file = reader.u32()?;
-    let blocks = reader.u32()?;
+    let file = word(reader)?;
+    let blocks = word(reader)?;
     Ok(Reply::Lookup {
         inc,
         file: FileId(file),
@@ -28,25 +27,23 @@ fn found(inc: Inc, reader: &mut Reader) -> Result<Reply, Garbage>
     })
 }
 
-#[tactic(auto, unfolding(crate::specs::Reading::created_at, crate::specs::Reply::results))]
+#[tactic(auto, unfolding(crate::specs::Reading::created_at))]
 fn created(inc: Inc, reader: &mut Reader) -> Result<Reply, Garbage>
-    ensures found { ReadsResults Procedure.Create inc reader.old reader.new result }
-    ensures step { Gives (λ r. (r, reader.new)) result (created_at inc reader.old) }
+    ensures { Gives (λ r. (r, reader.new)) result (created_at inc reader.old) }
 {
-    let file = reader.u32()?;
+    let file = word(reader)?;
     Ok(Reply::Create {
         inc,
         file: FileId(file),
     })
 }
 
-#[tactic(auto, unfolding(crate::specs::Reading::attributes_at, crate::specs::Reply::results))]
+#[tactic(auto, unfolding(crate::specs::Reading::attributes_at))]
 fn attributes(inc: Inc, reader: &mut Reader) -> Result<Reply, Garbage>
-    ensures found { ReadsResults Procedure.GetAttr inc reader.old reader.new result }
-    ensures step { Gives (λ r. (r, reader.new)) result (attributes_at inc reader.old) }
+    ensures { Gives (λ r. (r, reader.new)) result (attributes_at inc reader.old) }
 {
-    let blocks = reader.u32()?;
-    let rev = reader.u64()?;
+    let blocks = word(reader)?;
+    let rev = hyper(reader)?;
     Ok(Reply::GetAttr {
         inc,
         blocks,
@@ -55,12 +52,11 @@ fn attributes(inc: Inc, reader: &mut Reader) -> Result<Reply, Garbage>
 }
 
 /// The results of READ, which lend the body.
-#[tactic(auto, unfolding(crate::specs::Reading::block_at, crate::specs::Reply::results))]
+#[tactic(auto, unfolding(crate::specs::Reading::block_at))]
 fn block<'a>(inc: Inc, reader: &mut Reader<'a>) -> Result<LentReply<'a>, Garbage>
-    ensures found { ReadsResults Procedure.Read inc reader.old reader.new (lent_in result) }
-    ensures step { Gives (λ r. (r, reader.new)) (lent_in result) (block_at inc reader.old) }
+    ensures { Gives (λ r. (r, reader.new)) (lent_in result) (block_at inc reader.old) }
 {
-    let rev = reader.u64()?;
+    let rev = hyper(reader)?;
     let body = lent_body(reader)?;
     let grant = optional_grant(reader)?;
     Ok(LentReply::Read {
@@ -71,39 +67,34 @@ fn block<'a>(inc: Inc, reader: &mut Reader<'a>) -> Result<LentReply<'a>, Garbage
     })
 }
 
-#[tactic(auto, unfolding(crate::specs::Reading::written_at, crate::specs::Reply::results))]
+#[tactic(auto, unfolding(crate::specs::Reading::written_at))]
 fn written(inc: Inc, reader: &mut Reader) -> Result<Reply, Garbage>
-    ensures found { ReadsResults Procedure.Write inc reader.old reader.new result }
-    ensures step { Gives (λ r. (r, reader.new)) result (written_at inc reader.old) }
+    ensures { Gives (λ r. (r, reader.new)) result (written_at inc reader.old) }
 {
-    let rev = reader.u64()?;
+    let rev = hyper(reader)?;
     Ok(Reply::Write { inc, rev: Rev(rev) })
 }
 
-#[tactic(auto, unfolding(crate::specs::Reading::lease_at, crate::specs::Reply::results))]
+#[tactic(auto, unfolding(crate::specs::Reading::lease_at))]
 fn lease(inc: Inc, reader: &mut Reader) -> Result<Reply, Garbage>
-    ensures found { ReadsResults Procedure.GetLease inc reader.old reader.new result }
-    ensures step { Gives (λ r. (r, reader.new)) result (lease_at inc reader.old) }
+    ensures { Gives (λ r. (r, reader.new)) result (lease_at inc reader.old) }
 {
     let grant = optional_grant(reader)?;
     Ok(Reply::GetLease { inc, grant })
 }
 
-#[tactic(auto, unfolding(crate::specs::Reading::resized_at, crate::specs::Reply::results))]
+#[tactic(auto, unfolding(crate::specs::Reading::resized_at))]
 fn resized(inc: Inc, reader: &mut Reader) -> Result<Reply, Garbage>
-    ensures found { ReadsResults Procedure.Resize inc reader.old reader.new result }
-    ensures step { Gives (λ r. (r, reader.new)) result (resized_at inc reader.old) }
+    ensures { Gives (λ r. (r, reader.new)) result (resized_at inc reader.old) }
 {
-    let rev = reader.u64()?;
+    let rev = hyper(reader)?;
     Ok(Reply::Resize { inc, rev: Rev(rev) })
 }
 
 /// The results of a procedure but READ, behind the incarnation and the status OK.
-#[tactic(auto, unfolding(crate::specs::Reply::results))]
 fn plain_results(procedure: Procedure, inc: Inc, reader: &mut Reader) -> Result<Reply, Garbage>
     requires { procedure ≢ Procedure.Read }
-    ensures found { ReadsResults procedure inc reader.old reader.new result }
-    ensures step { Gives (λ r. (r, reader.new)) result (results_at procedure inc reader.old) }
+    ensures { Gives (λ r. (r, reader.new)) result (results_at procedure inc reader.old) }
 {
     match procedure {
         Procedure::Attach => Ok(Reply::Attach { inc }),
@@ -124,24 +115,21 @@ fn results<'a>(
     inc: Inc,
     reader: &mut Reader<'a>,
 ) -> Result<LentReply<'a>, Garbage>
-    ensures found { ReadsResults procedure inc reader.old reader.new (lent_in result) }
-    ensures step { Gives (λ r. (r, reader.new)) (lent_in result) (results_at procedure inc reader.old) }
+    ensures { Gives (λ r. (r, reader.new)) (lent_in result) (results_at procedure inc reader.old) }
 {
-    if procedure == Procedure::Read {
-        return block(inc, reader);
+    match procedure {
+        Procedure::Read => block(inc, reader),
+        _ => Ok(LentReply::Plain(plain_results(procedure, inc, reader)?)),
     }
-    let reply = plain_results(procedure, inc, reader)?;
-    Ok(LentReply::Plain(reply))
 }
 
 /// The incarnation and the status, and what follows them.
-#[tactic(auto, unfolding(crate::specs::Reading::answer_at, crate::specs::Reply::results, crate::specs::Reply::ok))]
+#[tactic(auto, unfolding(crate::specs::Reading::answer_at))]
 fn answer<'a>(procedure: Procedure, reader: &mut Reader<'a>) -> Result<LentReply<'a>, Garbage>
-    ensures found { IsRefusable procedure → ReadsReply procedure reader.old reader.new (lent_in result) }
-    ensures step { Gives (λ r. (r, reader.new)) (lent_in result) (answer_at procedure reader.old) }
+    ensures { Gives (λ r. (r, reader.new)) (lent_in result) (answer_at procedure reader.old) }
 {
-    let inc = Inc(reader.u32()?);
-    let number = reader.u32()?;
+    let inc = Inc(word(reader)?);
+    let number = word(reader)?;
     if number == status::OK {
         return results(procedure, inc, reader);
     }
@@ -149,10 +137,8 @@ fn answer<'a>(procedure: Procedure, reader: &mut Reader<'a>) -> Result<LentReply
     Ok(LentReply::Plain(Reply::Refused { inc, status }))
 }
 
-#[tactic(auto, unfolding(crate::specs::Reply::results))]
 fn reply<'a>(procedure: Procedure, reader: &mut Reader<'a>) -> Result<LentReply<'a>, Garbage>
-    ensures found { ReadsReply procedure reader.old reader.new (lent_in result) }
-    ensures step { Gives (λ r. (r, reader.new)) (lent_in result) (reply_at procedure reader.old) }
+    ensures { Gives (λ r. (r, reader.new)) (lent_in result) (reply_at procedure reader.old) }
 {
     match procedure {
         Procedure::Null => Ok(LentReply::Plain(Reply::Null)),

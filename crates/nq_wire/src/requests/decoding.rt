@@ -1,47 +1,44 @@
 //! Reading arguments.
 
-ghost use Rattle.std.specs.Prelude.{◌≡◌, ◌≢◌, true, ◌<◌, ◌≤◌, ◌++◌, ◌↔◌, IfOk, IfSome};
+ghost use Rattle.std.specs.Prelude.{◌≡◌, ◌≢◌, true, ◌<◌, ◌≤◌, ◌↔◌, IfOk};
 ghost use Rattle.nq_base.specs.declared.Request.{Request};
 ghost use Rattle.nq_xdr.specs.Reading.{Gives};
-ghost use Rattle.nq_xdr.specs.Item.{hyper};
-ghost use Rattle.nq_wire.specs.Parts.{optional, base_bytes, IsPushBase};
-ghost use Rattle.nq_wire.specs.Request.{arguments, IsOneWrite, IsArguments, ReadsRequest};
+ghost use Rattle.nq_wire.specs.Request.{IsArguments};
 ghost use Rattle.nq_wire.specs.Reading.{attach_at, lookup_at, create_at, get_attr_at, read_at, span_at, write_at, get_lease_at, vacated_at, evicted_at, resize_at, remove_at, request_at, request_in};
 
 use crate::fault::Garbage;
-use crate::parts::decoding::{body, end, name, optional_push, optional_want, tag, want, who};
+use crate::parts::decoding::{
+    body, end, hyper, name, optional_push, optional_want, tag, want, who, word,
+};
 use crate::{Procedure, PushBase, Request, WireFault};
 use nq_base::{BlockNo, FileId, Number, Seq, Spare};
 use nq_xdr::Reader;
 
-#[tactic(auto, unfolding(crate::specs::Reading::attach_at, crate::specs::Request::arguments))]
+#[tactic(auto, unfolding(crate::specs::Reading::attach_at))]
 fn attach(reader: &mut Reader) -> Result<Request, Garbage>
-    ensures found { ReadsRequest Procedure.Attach reader.old reader.new result }
-    ensures step { Gives (λ r. (r, reader.new)) result (attach_at reader.old) }
+    ensures { Gives (λ r. (r, reader.new)) result (attach_at reader.old) }
 {
     let who = who(reader)?;
     Ok(Request::Attach { who })
 }
 
-#[tactic(auto, unfolding(crate::specs::Reading::lookup_at, crate::specs::Request::arguments))]
+#[tactic(auto, unfolding(crate::specs::Reading::lookup_at))]
 fn lookup(reader: &mut Reader) -> Result<Request, Garbage>
-    ensures found { ReadsRequest Procedure.Lookup reader.old reader.new result }
-    ensures step { Gives (λ r. (r, reader.new)) result (lookup_at reader.old) }
+    ensures { Gives (λ r. (r, reader.new)) result (lookup_at reader.old) }
 {
     let who = who(reader)?;
     let name = name(reader)?;
     Ok(Request::Lookup { who, name })
 }
 
-#[tactic(auto, unfolding(crate::specs::Reading::create_at, crate::specs::Request::arguments))]
+#[tactic(auto, unfolding(crate::specs::Reading::create_at))]
 fn create(reader: &mut Reader) -> Result<Request, Garbage>
-    ensures found { ReadsRequest Procedure.Create reader.old reader.new result }
-    ensures step { Gives (λ r. (r, reader.new)) result (create_at reader.old) }
+    ensures { Gives (λ r. (r, reader.new)) result (create_at reader.old) }
 {
     let who = who(reader)?;
-    let seq = reader.u64()?;
+    let seq = hyper(reader)?;
     let name = name(reader)?;
-    let blocks = reader.u32()?;
+    let blocks = word(reader)?;
     Ok(Request::Create {
         who,
         seq: Seq(seq),
@@ -50,28 +47,26 @@ fn create(reader: &mut Reader) -> Result<Request, Garbage>
     })
 }
 
-#[tactic(auto, unfolding(crate::specs::Reading::get_attr_at, crate::specs::Request::arguments))]
+#[tactic(auto, unfolding(crate::specs::Reading::get_attr_at))]
 fn get_attr(reader: &mut Reader) -> Result<Request, Garbage>
-    ensures found { ReadsRequest Procedure.GetAttr reader.old reader.new result }
-    ensures step { Gives (λ r. (r, reader.new)) result (get_attr_at reader.old) }
+    ensures { Gives (λ r. (r, reader.new)) result (get_attr_at reader.old) }
 {
     let who = who(reader)?;
-    let file = reader.u32()?;
+    let file = word(reader)?;
     Ok(Request::GetAttr {
         who,
         file: FileId(file),
     })
 }
 
-#[tactic(auto, unfolding(crate::specs::Reading::read_at, crate::specs::Request::arguments))]
+#[tactic(auto, unfolding(crate::specs::Reading::read_at))]
 fn read(reader: &mut Reader) -> Result<Request, Garbage>
-    ensures found { ReadsRequest Procedure.Read reader.old reader.new result }
-    ensures step { Gives (λ r. (r, reader.new)) result (read_at reader.old) }
+    ensures { Gives (λ r. (r, reader.new)) result (read_at reader.old) }
 {
     let who = who(reader)?;
-    let call = reader.u64()?;
-    let file = reader.u32()?;
-    let block = reader.u32()?;
+    let call = hyper(reader)?;
+    let file = word(reader)?;
+    let block = word(reader)?;
     let want = optional_want(reader)?;
     Ok(Request::Read {
         who,
@@ -85,12 +80,10 @@ fn read(reader: &mut Reader) -> Result<Request, Garbage>
 /// The numbers of the first and the last write, which are equal where the WRITE is no push.
 #[tactic(auto, unfolding(crate::specs::Reading::span_at))]
 fn span(reader: &mut Reader) -> Result<(u64, u64, Option<PushBase>), Garbage>
-    ensures found { IfOk result (λ s. IsOneWrite s.0 s.1 s.2 × IfSome s.2 IsPushBase
-        × (reader.old ≡ hyper s.0 ++ hyper s.1 ++ optional base_bytes s.2 ++ reader.new)) }
-    ensures step { Gives (λ s. (s, reader.new)) result (span_at reader.old) }
+    ensures { Gives (λ s. (s, reader.new)) result (span_at reader.old) }
 {
-    let first = reader.u64()?;
-    let last = reader.u64()?;
+    let first = hyper(reader)?;
+    let last = hyper(reader)?;
     let push = optional_push(reader)?;
     if push.is_none() && first != last {
         return Err(Garbage);
@@ -98,16 +91,15 @@ fn span(reader: &mut Reader) -> Result<(u64, u64, Option<PushBase>), Garbage>
     Ok((first, last, push))
 }
 
-#[tactic(auto, unfolding(crate::specs::Reading::write_at, crate::specs::Request::arguments))]
+#[tactic(auto, unfolding(crate::specs::Reading::write_at))]
 fn write(reader: &mut Reader, room: &mut Spare) -> Result<Request, Garbage>
     requires { room.old ≡ true }
-    ensures found { ReadsRequest Procedure.Write reader.old reader.new result }
-    ensures step { Gives (λ r. (r, reader.new)) result (write_at reader.old) }
+    ensures { Gives (λ r. (r, reader.new)) result (write_at reader.old) }
 {
     let who = who(reader)?;
-    let seq = reader.u64()?;
-    let file = reader.u32()?;
-    let block = reader.u32()?;
+    let seq = hyper(reader)?;
+    let file = word(reader)?;
+    let block = word(reader)?;
     let (first, last, push) = span(reader)?;
     let body = body(reader, room)?;
     Ok(Request::Write {
@@ -122,13 +114,12 @@ fn write(reader: &mut Reader, room: &mut Spare) -> Result<Request, Garbage>
     })
 }
 
-#[tactic(auto, unfolding(crate::specs::Reading::get_lease_at, crate::specs::Request::arguments))]
+#[tactic(auto, unfolding(crate::specs::Reading::get_lease_at))]
 fn get_lease(reader: &mut Reader) -> Result<Request, Garbage>
-    ensures found { ReadsRequest Procedure.GetLease reader.old reader.new result }
-    ensures step { Gives (λ r. (r, reader.new)) result (get_lease_at reader.old) }
+    ensures { Gives (λ r. (r, reader.new)) result (get_lease_at reader.old) }
 {
     let who = who(reader)?;
-    let file = reader.u32()?;
+    let file = word(reader)?;
     let want = want(reader)?;
     Ok(Request::GetLease {
         who,
@@ -137,13 +128,12 @@ fn get_lease(reader: &mut Reader) -> Result<Request, Garbage>
     })
 }
 
-#[tactic(auto, unfolding(crate::specs::Reading::vacated_at, crate::specs::Request::arguments))]
+#[tactic(auto, unfolding(crate::specs::Reading::vacated_at))]
 fn vacated(reader: &mut Reader) -> Result<Request, Garbage>
-    ensures found { ReadsRequest Procedure.Vacated reader.old reader.new result }
-    ensures step { Gives (λ r. (r, reader.new)) result (vacated_at reader.old) }
+    ensures { Gives (λ r. (r, reader.new)) result (vacated_at reader.old) }
 {
     let who = who(reader)?;
-    let file = reader.u32()?;
+    let file = word(reader)?;
     let tag = tag(reader)?;
     Ok(Request::Vacated {
         who,
@@ -152,13 +142,12 @@ fn vacated(reader: &mut Reader) -> Result<Request, Garbage>
     })
 }
 
-#[tactic(auto, unfolding(crate::specs::Reading::evicted_at, crate::specs::Request::arguments))]
+#[tactic(auto, unfolding(crate::specs::Reading::evicted_at))]
 fn evicted(reader: &mut Reader) -> Result<Request, Garbage>
-    ensures found { ReadsRequest Procedure.Evicted reader.old reader.new result }
-    ensures step { Gives (λ r. (r, reader.new)) result (evicted_at reader.old) }
+    ensures { Gives (λ r. (r, reader.new)) result (evicted_at reader.old) }
 {
     let who = who(reader)?;
-    let file = reader.u32()?;
+    let file = word(reader)?;
     let tag = tag(reader)?;
     Ok(Request::Evicted {
         who,
@@ -167,16 +156,15 @@ fn evicted(reader: &mut Reader) -> Result<Request, Garbage>
     })
 }
 
-#[tactic(auto, unfolding(crate::specs::Reading::resize_at, crate::specs::Request::arguments))]
+#[tactic(auto, unfolding(crate::specs::Reading::resize_at))]
 fn resize(reader: &mut Reader) -> Result<Request, Garbage>
-    ensures found { ReadsRequest Procedure.Resize reader.old reader.new result }
-    ensures step { Gives (λ r. (r, reader.new)) result (resize_at reader.old) }
+    ensures { Gives (λ r. (r, reader.new)) result (resize_at reader.old) }
 {
     let who = who(reader)?;
-    let seq = reader.u64()?;
-    let call = reader.u64()?;
-    let file = reader.u32()?;
-    let blocks = reader.u32()?;
+    let seq = hyper(reader)?;
+    let call = hyper(reader)?;
+    let file = word(reader)?;
+    let blocks = word(reader)?;
     Ok(Request::Resize {
         who,
         seq: Seq(seq),
@@ -186,15 +174,14 @@ fn resize(reader: &mut Reader) -> Result<Request, Garbage>
     })
 }
 
-#[tactic(auto, unfolding(crate::specs::Reading::remove_at, crate::specs::Request::arguments))]
+#[tactic(auto, unfolding(crate::specs::Reading::remove_at))]
 fn remove(reader: &mut Reader) -> Result<Request, Garbage>
-    ensures found { ReadsRequest Procedure.Remove reader.old reader.new result }
-    ensures step { Gives (λ r. (r, reader.new)) result (remove_at reader.old) }
+    ensures { Gives (λ r. (r, reader.new)) result (remove_at reader.old) }
 {
     let who = who(reader)?;
-    let seq = reader.u64()?;
-    let call = reader.u64()?;
-    let file = reader.u32()?;
+    let seq = hyper(reader)?;
+    let call = hyper(reader)?;
+    let file = word(reader)?;
     Ok(Request::Remove {
         who,
         seq: Seq(seq),
@@ -204,11 +191,9 @@ fn remove(reader: &mut Reader) -> Result<Request, Garbage>
 }
 
 /// The arguments of a procedure. A WRITE alone brings a body.
-#[tactic(auto, unfolding(crate::specs::Request::arguments))]
 fn request(procedure: Procedure, reader: &mut Reader, room: &mut Spare) -> Result<Request, Garbage>
     requires { procedure ≡ Procedure.Write → room.old ≡ true }
-    ensures found { ReadsRequest procedure reader.old reader.new result }
-    ensures step { Gives (λ r. (r, reader.new)) result (request_at procedure reader.old) }
+    ensures { Gives (λ r. (r, reader.new)) result (request_at procedure reader.old) }
 {
     match procedure {
         Procedure::Null => Ok(Request::Null),

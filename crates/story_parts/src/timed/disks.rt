@@ -1,6 +1,6 @@
 //! A disk, and a store over it.
 
-use crate::stores::{Deed, fill, over};
+use crate::timed::stores::{Deed, fill, over};
 use nq_disk::Disk;
 use nq_store::{Store, format};
 use std::alloc::Global;
@@ -49,16 +49,13 @@ fn fresh<D: Disk + Drop>(alloc: Global, disk: D) -> Option<Store<D>> {
     Store::open(alloc, disk).ok()
 }
 
-fn keeps<D: Disk + Drop>(alloc: Global, disk: D, deed: Deed, times: u32) -> Option<u64> {
+/// Opens an image again and again: an empty one, or the largest one, with 16 files of 1,024 blocks.
+fn opens_often<D: Disk + Drop>(alloc: Global, disk: D, full: bool, times: u32) -> Option<u64> {
     let mut store = fresh(alloc, disk)?;
-    match deed {
-        Deed::Open => opens(alloc, store.into_disk(), times),
-        Deed::OpenFull => {
-            fill(&mut store)?;
-            opens(alloc, store.into_disk(), times)
-        }
-        _ => over(&mut store, deed, times),
+    if full {
+        fill(&mut store, 16, 1024)?;
     }
+    opens(alloc, store.into_disk(), times)
 }
 
 /// Does one thing so many times with a disk.
@@ -66,6 +63,10 @@ pub(crate) fn often<D: Disk + Drop>(alloc: Global, disk: D, deed: Deed, times: u
     let mut disk = disk;
     match deed {
         Deed::Bare => bare(alloc, &mut disk, times),
-        _ => keeps(alloc, disk, deed, times),
+        Deed::Open { full } => opens_often(alloc, disk, full, times),
+        Deed::Asked(asked) => {
+            let mut store = fresh(alloc, disk)?;
+            over(&mut store, asked, times)
+        }
     }
 }

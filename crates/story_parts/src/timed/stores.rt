@@ -1,6 +1,10 @@
 //! What a server keeps: requests that are decided over it, in lists or on a disk.
 
-use crate::disks;
+ghost use Rattle.std.specs.Prelude.{◌≡◌, true};
+ghost use Rattle.nq_files.specs.Deciding.{IsOfHost};
+ghost use Rattle.nq_model.specs.Decided.{is_decided_once};
+
+use crate::timed::disks;
 use nq_base::{
     Block, BlockNo, Decided, FileId, Gate, Host, Inc, Name, Number, Request, Seq, Verdict, Who,
 };
@@ -8,11 +12,6 @@ use nq_disk::{FileDisk, MemDisk, Room};
 use nq_files::{ReadOut, decide, read_block};
 use nq_keeper::{Keeper, ListKeeper};
 use std::alloc::Global;
-
-/// How many files of how many blocks fill an image.
-const MOST_FILES: u32 = 16;
-
-const MOST_BLOCKS: u32 = 1024;
 
 /// A disk in memory has room for the largest image, and for so many calls and bytes.
 const ROOM: Room = Room {
@@ -37,16 +36,21 @@ const SERVING: Gate = Gate::Serving {
 /// What is done again and again.
 #[derive(Clone, Copy)]
 pub(crate) enum Deed {
-    /// A change of a block.
-    Commit,
-    /// A read of a block.
-    Read,
+    /// A request, wherever what it asks for is kept.
+    Asked(Asked),
     /// Four writes and syncs, as a change of a block has.
     Bare,
-    /// The opening of an empty image.
-    Open,
-    /// The opening of the largest image.
-    OpenFull,
+    /// The opening of an empty image, or of the largest one.
+    Open { full: bool },
+}
+
+/// What is asked again and again.
+#[derive(Clone, Copy)]
+pub(crate) enum Asked {
+    /// A change of a block.
+    Commit,
+    /// A block.
+    Read,
 }
 
 /// Does one thing so many times, with lists, with a disk in memory, or with the file at this path; None where that cannot be done
@@ -62,8 +66,11 @@ pub(crate) fn often(rt: &HostRuntime, deed: Deed, place: &str, times: u64) -> Op
 }
 
 fn in_lists(alloc: Global, deed: Deed, times: u32) -> Option<u64> {
+    let Deed::Asked(asked) = deed else {
+        return None;
+    };
     let mut keeper = ListKeeper::new(alloc, Vec::new(alloc)).ok()?;
-    over(&mut keeper, deed, times)
+    over(&mut keeper, asked, times)
 }
 
 fn in_memory(alloc: Global, deed: Deed, times: u32) -> Option<u64> {
@@ -76,43 +83,49 @@ fn in_file(rt: &HostRuntime, deed: Deed, path: &str, times: u32) -> Option<u64> 
     disks::often(rt.alloc(), disk, deed, times)
 }
 
-/// Does one thing over what is kept.
-pub(crate) fn over<K: Keeper>(keeper: &mut K, deed: Deed, times: u32) -> Option<u64> {
-    match deed {
-        Deed::Commit => commits(keeper, times),
-        Deed::Read => reads(keeper, times),
+/// Asks for one thing so many times, over nothing that is kept.
+pub(crate) fn over<K: Keeper>(keeper: &mut K, asked: Asked, times: u32) -> Option<u64> {
+    fill(keeper, 1, 1)?;
+    let mut last = 0;
+    for turn in 0..times {
+        last = match asked {
+            Asked::Commit => write(keeper, turn)?,
+            Asked::Read => read(keeper)?,
+        };
+    }
+    Some(last)
+}
+
+/// Has the asker attach, and make so many files of so many blocks. The first one has the id 1.
+pub(crate) fn fill<K: Keeper>(keeper: &mut K, files: u32, blocks: u32) -> Option<()> {
+    done(keeper, Request::Attach { who: ASKER })?;
+    for number in 0..files {
+        let letter = [b'a' + (number % 26) as u8];
+        let request = Request::Create {
+            who: ASKER,
+            seq: Seq(u64::from(number) + 1),
+            name: Name::new(&letter)?,
+            blocks,
+        };
+        done(keeper, request)?;
+    }
+    Some(())
+}
+
+/// Has a request decided; its value, where it was done.
+fn done<K: Keeper>(keeper: &mut K, request: Request) -> Option<u64>
+    requires once { is_decided_once request ≡ true }
+    requires host { IsOfHost request }
+{
+    match decide(keeper, request, SERVING) {
+        Ok(
+            Decided::Fresh {
+                verdict: Verdict::Done,
+                value,
+            },
+        ) => Some(value),
         _ => None,
     }
-}
-
-/// The value of a request that was done.
-fn value_of(decided: &Decided) -> Option<u64> {
-    match decided {
-        Decided::Fresh {
-            verdict: Verdict::Done,
-            value,
-        } => Some(*value),
-        _ => None,
-    }
-}
-
-/// Has the asker attach. What it asks is refused where that failed.
-fn attach<K: Keeper>(keeper: &mut K) {
-    let request = Request::Attach { who: ASKER };
-    decide(keeper, request, SERVING).ok();
-}
-
-/// Makes a file, and says its id. The first one has the id 1.
-fn create<K: Keeper>(keeper: &mut K, number: u32, blocks: u32) -> Option<u64> {
-    let letter = [b'a' + (number % 26) as u8];
-    let request = Request::Create {
-        who: ASKER,
-        seq: Seq(u64::from(number) + 1),
-        name: Name::new(&letter)?,
-        blocks,
-    };
-    let decided = decide(keeper, request, SERVING).ok()?;
-    value_of(&decided)
 }
 
 /// Writes the first block of the first file.
@@ -128,19 +141,7 @@ fn write<K: Keeper>(keeper: &mut K, turn: u32) -> Option<u64> {
         push: None,
         body: Block::fill(turn),
     };
-    let decided = decide(keeper, request, SERVING).ok()?;
-    value_of(&decided)
-}
-
-/// So many changes of a block.
-fn commits<K: Keeper>(keeper: &mut K, times: u32) -> Option<u64> {
-    attach(keeper);
-    create(keeper, 0, 1)?;
-    let mut last = 0;
-    for turn in 0..times {
-        last = write(keeper, turn)?;
-    }
-    Some(last)
+    done(keeper, request)
 }
 
 /// Reads the first block of the first file.
@@ -149,24 +150,4 @@ fn read<K: Keeper>(keeper: &mut K) -> Option<u64> {
         ReadOut::Got { .. } => Some(1),
         _ => None,
     }
-}
-
-/// So many reads of a block.
-fn reads<K: Keeper>(keeper: &mut K, times: u32) -> Option<u64> {
-    attach(keeper);
-    create(keeper, 0, 1)?;
-    let mut last = 0;
-    for _ in 0..times {
-        last = read(keeper)?;
-    }
-    Some(last)
-}
-
-/// Fills an image.
-pub(crate) fn fill<K: Keeper>(keeper: &mut K) -> Option<()> {
-    attach(keeper);
-    for number in 0..MOST_FILES {
-        create(keeper, number, MOST_BLOCKS)?;
-    }
-    Some(())
 }

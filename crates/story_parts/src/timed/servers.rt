@@ -243,16 +243,6 @@ fn mode_of(ask: Ask) -> Mode
     }
 }
 
-fn wish(mode: Mode) -> Want
-    requires { IsWanted mode }
-    ensures { IsWanted result.mode }
-{
-    Want {
-        mode,
-        term: LONGEST,
-    }
-}
-
 fn lease(host: u32, file: u32, mode: Mode) -> Request
     requires { IsWanted mode }
     ensures { HasSpelling result }
@@ -260,7 +250,10 @@ fn lease(host: u32, file: u32, mode: Mode) -> Request
     Request::GetLease {
         who: who(host),
         file: FileId(file),
-        want: wish(mode),
+        want: Want {
+            mode,
+            term: LONGEST,
+        },
     }
 }
 
@@ -301,7 +294,10 @@ fn request(ask: Ask) -> Option<Request>
             name: name_of(1)?,
         },
         Ask::Read => read(None),
-        Ask::ReadWanted => read(Some(wish(Mode::Reading))),
+        Ask::ReadWanted => read(Some(Want {
+            mode: Mode::Reading,
+            term: LONGEST,
+        })),
         Ask::Write => write(None),
         Ask::Push => write(Some(PushBase {
             boot: 1,

@@ -1,11 +1,9 @@
-//! The program `nq_bench`: does one thing many times, to be timed from outside, and prints a number that stands on
-//! all that came out. Its words are what, which way and how often: `lookup`, `lookup-reply` or `read-reply` with
+//! What is done many times, to be timed from outside. The words say what, which way and how often: `lookup`, `lookup-reply` or `read-reply` with
 //! `encode` or `decode`; `client-read`, `client-read-cached` or `client-write` with 1 or 256, the files held, and 1, 32 or
 //! 512, the blocks read or written, or with 1-1-of-512; `find` with 1 or 256, the names that a host keeps;
 //! `server-lookup`, `server-read`, `server-read-wanted`, `server-write` or `server-push` with 1-1, 256-1 or 256-2048, the
 //! files and the rows of the server; or `store-commit` or `store-read` with `list`, `memory` or the path of a file, where is kept
 //! what a server keeps, and `store-bare`, `store-open` or `store-open-full` with `memory` or the path of a file.
-#![tactic(auto)]
 
 mod clients;
 mod datagrams;
@@ -14,53 +12,34 @@ mod finds;
 mod servers;
 mod stores;
 
-use crate::clients::Act;
-use crate::datagrams::Kind;
-use crate::servers::Ask;
-use crate::stores::Deed;
+use crate::timed::clients::Act;
+use crate::timed::datagrams::Kind;
+use crate::timed::servers::Ask;
+use crate::timed::stores::{Asked, Deed};
 use std::alloc::Global;
-use std::env;
-use std::process::ExitCode;
 
-fn main(rt: HostRuntime) -> ExitCode {
-    let Some(sum) = asked(&rt) else {
-        return ExitCode::from(1);
-    };
-    match println!(rt; "{sum}") {
-        Ok(()) => ExitCode::from(0),
-        Err(_) => ExitCode::from(1),
-    }
-}
-
-/// What the words ask for; None where they ask for nothing that is here, memory is wanting, or a disk fails.
-fn asked(rt: &HostRuntime) -> Option<u64> {
-    let mut words = env::args(rt).ok()?.skip(1);
-    let what = words.next()?;
-    let way = words.next()?;
-    let times = words.next()?.as_str().parse::<u64>().ok()?;
-    done(rt, what.as_str(), way.as_str(), times)
-}
-
-fn done(rt: &HostRuntime, what: &str, way: &str, times: u64) -> Option<u64> {
+/// Does so many times what the words say, and gives a number that stands on all that came out; None where they say nothing that is
+/// here, memory is wanting, or a disk fails.
+pub(crate) fn often(rt: &HostRuntime, what: &str, way: &str, times: u64) -> Option<u64> {
     match deed_of(what) {
         Some(deed) => stores::often(rt, deed, way, times),
-        None => done_without_store(rt.alloc(), what, way, times),
+        None => without_store(rt.alloc(), what, way, times),
     }
 }
 
 /// What is done with a store, where the word says such a thing.
 fn deed_of(what: &str) -> Option<Deed> {
     match what {
-        "store-commit" => Some(Deed::Commit),
-        "store-read" => Some(Deed::Read),
+        "store-commit" => Some(Deed::Asked(Asked::Commit)),
+        "store-read" => Some(Deed::Asked(Asked::Read)),
         "store-bare" => Some(Deed::Bare),
-        "store-open" => Some(Deed::Open),
-        "store-open-full" => Some(Deed::OpenFull),
+        "store-open" => Some(Deed::Open { full: false }),
+        "store-open-full" => Some(Deed::Open { full: true }),
         _ => None,
     }
 }
 
-fn done_without_store(alloc: Global, what: &str, way: &str, times: u64) -> Option<u64> {
+fn without_store(alloc: Global, what: &str, way: &str, times: u64) -> Option<u64> {
     match what {
         "lookup" => datagrams::often(alloc, Kind::Lookup, way, times),
         "lookup-reply" => datagrams::often(alloc, Kind::LookupReply, way, times),
