@@ -66,13 +66,27 @@ fn first_rule(whole: &[Entry], place: usize, entry: &Entry, fronts: &Fronts) -> 
     if !keeps(whole, fronts, place, entry, Rule::Ordered, fronts.ordered) {
         return Some(Rule::Ordered);
     }
-    if !keeps(whole, fronts, place, entry, Rule::Accounted, fronts.accounted) {
+    if !keeps(
+        whole,
+        fronts,
+        place,
+        entry,
+        Rule::Accounted,
+        fronts.accounted,
+    ) {
         return Some(Rule::Accounted);
     }
     if !keeps(whole, fronts, place, entry, Rule::Reported, fronts.reported) {
         return Some(Rule::Reported);
     }
-    if !keeps(whole, fronts, place, entry, Rule::Synchronized, fronts.synchronized) {
+    if !keeps(
+        whole,
+        fronts,
+        place,
+        entry,
+        Rule::Synchronized,
+        fronts.synchronized,
+    ) {
         return Some(Rule::Synchronized);
     }
     None
