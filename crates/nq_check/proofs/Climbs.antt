@@ -14,9 +14,9 @@ use Rattle.nq_check.specs.declared.links.Kind.{Kind}
 use Rattle.nq_check.specs.declared.links.Kind.TheVariants.{Calls, Covers}
 use Rattle.nq_check.specs.declared.sought.Sought.{Sought}
 use Rattle.nq_check.specs.declared.sought.Sought.TheVariants.{AnswerBy, AnswerWith, Store, Loss}
-use Rattle.nq_check.specs.Links.{IsFree, is_link}
+use Rattle.nq_check.specs.Links.{IsFree, is_link, own_spot}
 use Rattle.nq_check.specs.Marks.{Spot, same_spot, spot}
-use Rattle.nq_check.specs.Sought.{kind_sought, own_spot, passes, spot_sought}
+use Rattle.nq_check.specs.Sought.{kind_sought, passes, spot_sought}
 use Rattle.nq_rules.proofs.Places.{taken_here}
 use Rattle.nq_model.specs.Journal.{call_of, told_by}
 use Rattle.nq_model.specs.JournalTest.{exists, is_answer_by, is_within, loss_covers, store_covers}

@@ -1,6 +1,6 @@
 -- Delayed writes that are stored or told before an answer still are before a later one.
-use Rattle.std.proofs.Common.{◌≡◌, ◌<◌, ◌≤◌, ℕ, ◌-◌, List, [], ◌∷◌, length, take, reverse, Option, Some, Bool, true, false, not, ◌&&◌, ◌||◌, ◌==◌, inl, inr, refl, sym, ◌∙◌, ap, subst, arith}
-use Rattle.std.specs.Prelude.{nat_eq}
+use Rattle.std.proofs.Common.{◌≡◌, ◌<◌, ◌≤◌, ℕ, ◌-◌, List, [], ◌∷◌, length, take, reverse, Option, Some, None, Bool, true, false, not, ◌&&◌, ◌||◌, ◌==◌, inl, inr, refl, sym, ◌∙◌, ap, subst, arith}
+use Rattle.std.specs.Prelude.{nat_eq, if◌then◌else◌}
 use Rattle.std.specs.List.{slice_get}
 use Rattle.std.proofs.lemmas.Bool.{and_parts, and_from, cases_Bool, eqb-true}
 use Rattle.nq_base.specs.declared.Entry.{Entry}
@@ -12,7 +12,7 @@ use Rattle.nq_base.specs.declared.Who.{Who}
 use Rattle.nq_rules.specs.Kept.{is_kept, is_kept_at}
 use Rattle.nq_check.specs.Links.{IsFree, is_link}
 use Rattle.nq_check.specs.Marks.{Spot, spot}
-use Rattle.nq_check.specs.Settling.{is_ok_to, is_sizing_of, is_sync_of}
+use Rattle.nq_check.specs.Settling.{call_of_ok, is_sizing_of, is_sync_of}
 use Rattle.nq_check.specs.declared.links.Kind.TheVariants.{Delays}
 use Rattle.nq_check.proofs.Climbs.{climb}
 use Rattle.nq_check.proofs.Followed.{taken_last}
@@ -141,6 +141,11 @@ walk_ended journal stores who file whole at known place low below within h =
 
 -- ---- earlier answers
 
+told_ok : (test : Option Told → Bool) (b : Bool) (call : Option Told) → test None ≡ false → test (if b then call else None) ≡ true
+    → (b ≡ true) × (test call ≡ true)
+told_ok test true call none h = (refl, h)
+told_ok test false call none h = absurd (both_ways (test None) h none)
+
 synced : (whole before : List Entry) (by who : Who) (q file : ℕ) (call : Option Told) → by ≡ who → is_sync_of file call ≡ true
     → is_kept whole before by q call ≡ true → are_stored_or_told whole whole before who file ≡ true
 synced whole before by who q file (Some (Sync f)) w s h =
@@ -148,10 +153,10 @@ synced whole before by who q file (Some (Sync f)) w s h =
     (subst (λ n. are_stored_or_told whole whole before by n ≡ true) (eqb-true f file s) h)
 synced whole before by who q file other w s h = absurd (cc)
 
-pub ok_synced : (whole before : List Entry) (who : Who) (file : ℕ) (entry : Entry) → is_ok_to (is_sync_of file) whole who entry ≡ true
+pub ok_synced : (whole before : List Entry) (who : Who) (file : ℕ) (entry : Entry) → is_sync_of file (call_of_ok whole who entry) ≡ true
     → is_kept_at whole entry before ≡ true → are_stored_or_told whole whole before who file ≡ true
 ok_synced whole before who file (A by q Ok) o h =
-    let p = and_parts (same_who by who) (is_sync_of file (call_of whole by q)) o in
+    let p = told_ok (is_sync_of file) (same_who by who) (call_of whole by q) refl o in
     synced whole before by who q file (call_of whole by q) ((tells_who {a = by} {b = who}).sound p.0) p.1 h
 ok_synced whole before who file other o h = absurd (cc)
 
@@ -186,11 +191,11 @@ settled_in whole answered stores who q file (entry ∷ before) g h =
           (sym (ap (λ b. b || somewhere (is_settled_resize whole answered who q file) before) n) ∙ h)
     ]
 
-pub ok_sized : (whole before stores : List Entry) (who : Who) (file : ℕ) (entry : Entry) → is_ok_to (is_sizing_of file) whole who entry ≡ true
+pub ok_sized : (whole before stores : List Entry) (who : Who) (file : ℕ) (entry : Entry) → is_sizing_of file (call_of_ok whole who entry) ≡ true
     → is_kept_at whole entry before ≡ true → ((test : Entry → Bool) → exists test before ≡ true → exists test stores ≡ true)
     → are_stored_or_told whole stores before who file ≡ true
 ok_sized whole before stores who file (A by q Ok) o h g =
-    let p = and_parts (same_who by who) (is_sizing_of file (call_of whole by q)) o in
+    let p = told_ok (is_sizing_of file) (same_who by who) (call_of whole by q) refl o in
     settled_in whole before stores who q file before g
     (sized whole before by who q file (call_of whole by q) ((tells_who {a = by} {b = who}).sound p.0) p.1 h)
 ok_sized whole before stores who file other o h g = absurd (cc)

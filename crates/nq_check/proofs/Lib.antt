@@ -11,6 +11,7 @@ pub mod Lining
 pub mod Lowest
 pub mod MovesOn
 pub mod NamingLosses
+pub mod NextLines
 pub mod Once
 pub mod OwnWrite
 pub mod Passing

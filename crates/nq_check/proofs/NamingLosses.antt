@@ -1,6 +1,6 @@
 -- What answers name is named anew, and has a mark.
 use Rattle.std.proofs.Common.{◌≡◌, ◌<◌, ◌≤◌, ℕ, zero, suc, ◌+◌, Bool, true, false, not, ◌&&◌, ◌||◌, List, [], ◌∷◌, length, take, drop, reverse, Option, Some, inl, inr, refl, sym, ◌∙◌, ap, subst, arith}
-use Rattle.std.specs.Prelude.{nat_eq, if◌then◌else◌}
+use Rattle.std.specs.Prelude.{nat_eq, if◌then◌else◌, IsTrue, Result, Ok, Err, IfOk}
 use Rattle.std.specs.List.{slice_get}
 use Rattle.std.proofs.lemmas.Bool.{and_parts, and_from, cases_Bool, eqb-true}
 use Rattle.nq_base.specs.declared.Entry.{Entry}
@@ -214,6 +214,16 @@ up_to_all whole before who call spans k old new long h =
 
 -- ---- entries
 
-pub lost_on : (whole : List Entry) (place : ℕ) (who : Who) (q : ℕ) (spans : List Span) (old new : List (Spot × ℕ))
+lost_on : (whole : List Entry) (place : ℕ) (who : Who) (q : ℕ) (spans : List Span) (old new : List (Spot × ℕ))
     → NamesAll (reverse whole) (reverse (take place whole)) who (call_of (reverse whole) who q) spans old new → NamesLost whole place who q spans old new
 lost_on whole place who q spans old new h m = (h.names m, (h.marks, before_kept old new h.keeps (reverse (take place whole)) m))
+
+-- the same, of a result that is Ok
+pub lost_ok : {E : Type 0} (r : Result Bool E) (whole : List Entry) (place : ℕ) (who : Who) (q : ℕ) (call : Option Told) (spans : List Span)
+    (old new : List (Spot × ℕ)) → call ≡ call_of (reverse whole) who q
+    → IfOk r (λ yes. IsTrue yes → NamesAll (reverse whole) (reverse (take place whole)) who call spans old new)
+    → IfOk r (λ yes. IsTrue yes → NamesLost whole place who q spans old new)
+lost_ok (Ok made) whole place who q call spans old new is h =
+    λ t. lost_on whole place who q spans old new
+    (subst (λ (o : Option Told). NamesAll (reverse whole) (reverse (take place whole)) who o spans old new) is (h t))
+lost_ok (Err e) whole place who q call spans old new is h = tt

@@ -1,6 +1,6 @@
 -- An S or L that covers numbers outside of all that are covered on a block covers no write again.
 use Rattle.std.proofs.Common.{◌≡◌, ◌<◌, ◌≤◌, ℕ, ◌+◌, Bool, true, false, not, ◌&&◌, ◌||◌, List, [], ◌∷◌, ◌++◌, take, drop, reverse, Some, inl, inr, refl, sym, ◌∙◌, ap, subst, arith}
-use Rattle.std.specs.Prelude.{◌-◌, if◌then◌else◌, nat_eq, nat_lt, Result, Ok, Err, IfOk}
+use Rattle.std.specs.Prelude.{◌-◌, if◌then◌else◌, nat_eq, nat_lt, IsTrue, Result, Ok, Err, IfOk}
 use Rattle.std.specs.List.{slice_get}
 use Rattle.std.proofs.lemmas.Bool.{and_parts, and_from, cases_Bool, eqb-true, eq-eqb, ltb-true, or_cases}
 use Rattle.std.proofs.lemmas.List.{reverse-append, take-append-drop}
@@ -185,6 +185,24 @@ lost_once most whole who file block first last old new some h before m = (
   with_it most who file block first last old new h before m,
 )
 
+-- the same, of a result that is Ok and an entry that is one
+pub stored_ok : {E : Type 0} (r : Result Bool E) (most : ℕ) (whole : List Entry) (entry : Entry) (who : Who) (file block first last now : ℕ) (at : Spot)
+    (old new : Reach) → entry ≡ S who file block first last now → at ≡ spot who file block → IfOk r (λ anew. IsTrue anew → IsAnew most at first last old new)
+    → IfOk r (λ yes. IsTrue yes → Accounts most whole entry old new)
+stored_ok (Ok made) most whole entry who file block first last now at old new is here h =
+    λ t. subst (λ (e : Entry). Accounts most whole e old new) (sym is)
+    (stored_once most whole who file block first last now old new (subst (λ (a : Spot). IsAnew most a first last old new) here (h t)))
+stored_ok (Err e) most whole entry who file block first last now at old new is here h = tt
+
+pub lost_ok : {E : Type 0} (r : Result Bool E) (most : ℕ) (whole : List Entry) (entry : Entry) (who : Who) (file block first last : ℕ) (at : Spot)
+    (old new : Reach) → entry ≡ L who file block first last → at ≡ spot who file block → exists (covers entry) whole ≡ true
+    → IfOk r (λ anew. IsTrue anew → IsAnew most at first last old new) → IfOk r (λ yes. IsTrue yes → Accounts most whole entry old new)
+lost_ok (Ok made) most whole entry who file block first last at old new is here some h =
+    λ t. subst (λ (e : Entry). Accounts most whole e old new) (sym is)
+    (lost_once most whole who file block first last old new (subst (λ (e : Entry). exists (covers e) whole ≡ true) is some)
+    (subst (λ (a : Spot). IsAnew most a first last old new) here (h t)))
+lost_ok (Err e) most whole entry who file block first last at old new is here some h = tt
+
 -- what is said of numbers that were no lower than a mark, or were set
 pub raised_to : (at : Spot) (number : ℕ) (old new : List (Spot × ℕ)) → mark_at old at ≤ number → IsMarked at number old new → IsRaised at number old new
 raised_to at number old new low h =
@@ -218,8 +236,3 @@ exists_there test xs k x e t =
 throughout_later : (test : Entry → List Entry → Bool) (ys zs : List Entry) → throughout test (ys ++ zs) ≡ true → throughout test zs ≡ true
 throughout_later test [] zs h = h
 throughout_later test (y ∷ ys) zs h = throughout_later test ys zs (and_parts (test y (ys ++ zs)) (throughout test (ys ++ zs)) h).1
-
--- what is told of a result that is Ok
-pub ok_so : {X E : Type 0} (r : Result X E) (P Q : X → Type 0) → ((x : X) → P x → Q x) → IfOk r P → IfOk r Q
-ok_so (Ok x) P Q f h = f x h
-ok_so (Err e) P Q f h = tt

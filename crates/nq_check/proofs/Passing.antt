@@ -57,6 +57,12 @@ pass_back test whole left to true x front up e is h below =
     (pass_down test whole (left - 1) to x e (h refl) (subst (λ k. PassBetween test whole k to) same below))
 pass_back test whole left to false x front up e is h below = pass_none test whole (left - 1) front (omega arith)
 
+-- the front moves no further, whether or not another test passes there
+pub pass_if : (test : ℕ → Entry → Bool) (whole : List Entry) (from to place : ℕ) (passes : Bool) (front : ℕ) → place ≤ from
+    → front ≡ (if passes then to else place) → PassBetween test whole from to → PassBetween test whole from front
+pass_if test whole from to place true front low is h = subst (λ f. PassBetween test whole from f) (sym is) h
+pass_if test whole from to place false front low is h = pass_none test whole from front (omega arith)
+
 -- ---- the rule of losses, by its parts
 
 all_parts : (whole : List Entry) (place : ℕ) (entry : Entry) → is_naming whole place entry ≡ true → is_told whole place entry ≡ true

@@ -5,6 +5,7 @@ use Rattle.nq_base.specs.declared.Entry.{Entry}
 use Rattle.nq_base.specs.declared.Entry.TheVariants.{S}
 use Rattle.nq_base.specs.declared.Who.{Who}
 use Rattle.nq_check.specs.Links.{IsLinked}
+use Rattle.nq_check.specs.Rising.{Rises}
 use Rattle.nq_check.specs.declared.endings.Leases.{Leases}
 use Rattle.nq_check.specs.declared.links.Kind.TheVariants.{Grants, Stores, Own}
 use Rattle.nq_model.specs.CutOffTest.{ends}
@@ -15,6 +16,12 @@ pub record AreLeases (whole : List Entry) (leases : Leases) : Type 0 where
   pub grants : IsLinked Grants whole (length whole) leases.grants.heads.entries leases.grants.earlier.items
   pub stores : IsLinked Stores whole (length whole) leases.stores.heads.entries leases.stores.earlier.items
   pub writes : IsLinked Own whole (length whole) leases.writes.heads.entries leases.writes.earlier.items
+
+-- they are, and no S before a place of the journal tells a later time than one behind it
+pub record AreLinked (whole : List Entry) (found : Leases) (place : ℕ) : Type 0 where
+  pub leases : AreLeases whole found
+  pub rises : Rises whole place
+  pub within : place < length whole
 
 -- the entry is an S, and write slack has passed since
 abbrev pub IsStorePast : (now : ℕ) → Entry → Type 0

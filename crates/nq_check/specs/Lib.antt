@@ -8,6 +8,7 @@ pub mod Links
 pub mod Lines
 pub mod Losses
 pub mod Marks
+pub mod Ready
 pub mod Replies
 pub mod Reports
 pub mod Rising

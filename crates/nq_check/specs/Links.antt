@@ -11,25 +11,36 @@ use Rattle.nq_check.specs.Marks.{Spot, mark_at, same_spot, spot}
 abbrev pub block_spot : (file block : ℕ) → Spot
 block_spot file block = ((0, 0), (file, block))
 
+-- the file that an entry names, as its incarnation's own
+abbrev pub file_spot : Entry → Spot
+file_spot (G who file mode tag term now) = spot who file 0
+file_spot (S who file block first last now) = spot who file 0
+file_spot (L who file block first last) = spot who file 0
+file_spot (W who file block number value through) = spot who file 0
+file_spot other = block_spot 0 0
+
+-- the block that it names, as its incarnation's own
+abbrev pub own_spot : Entry → Spot
+own_spot (W who file block number value through) = spot who file block
+own_spot (R who q file block value served) = spot who file block
+own_spot (S who file block first last now) = spot who file block
+own_spot (L who file block first last) = spot who file block
+own_spot other = block_spot 0 0
+
 -- the key of an entry
 abbrev pub spot_of : Kind → Entry → Spot
-spot_of Grants (G who file mode tag term now) = spot who file 0
-spot_of Grants (L who file block first last) = spot who file 0
-spot_of Stores (S who file block first last now) = spot who file 0
-spot_of Stores (L who file block first last) = spot who file 0
-spot_of Own (W who file block number value through) = spot who file block
-spot_of Own (L who file block first last) = spot who file block
+spot_of Grants entry = file_spot entry
+spot_of Stores entry = file_spot entry
+spot_of Delays entry = file_spot entry
+spot_of Own entry = own_spot entry
+spot_of Covers entry = own_spot entry
 spot_of Calls (C who q told) = spot who q 0
 spot_of Calls (R who q file block value served) = spot who q 0
 spot_of Calls (A who q said) = spot who q 0
 spot_of Writes (W who file block number value through) = block_spot file block
 spot_of Writes (R who q file block value served) = block_spot file block
-spot_of Covers (S who file block first last now) = spot who file block
-spot_of Covers (L who file block first last) = spot who file block
-spot_of Covers (R who q file block value served) = spot who file block
 spot_of Cuts (Z who q file from to) = block_spot file 0
 spot_of Cuts (R who q file block value served) = block_spot file 0
-spot_of Delays (W who file block number value through) = spot who file 0
 spot_of kind other = block_spot 0 0
 
 -- whether links lead to an entry

@@ -1,5 +1,5 @@
 -- Which answers tell that delayed writes of an incarnation on a file are stored or told.
-use Rattle.std.specs.Prelude.{ℕ, List, Option, Some, Bool, false, ◌&&◌, ◌==◌}
+use Rattle.std.specs.Prelude.{ℕ, List, Option, Some, None, Bool, false, ◌==◌, if◌then◌else◌}
 use Rattle.nq_base.specs.declared.Entry.{Entry}
 use Rattle.nq_base.specs.declared.Entry.TheVariants.{A}
 use Rattle.nq_base.specs.declared.Said.TheVariants.{Ok}
@@ -20,7 +20,7 @@ is_sizing_of file (Some (Resize f blocks)) = f == file
 is_sizing_of file (Some (Remove f)) = f == file
 is_sizing_of file other = false
 
--- whether an entry says ok to a call of an incarnation that passes a test
-abbrev pub is_ok_to : (test : Option Told → Bool) (whole : List Entry) (who : Who) → Entry → Bool
-is_ok_to test whole who (A by q Ok) = same_who by who && test (call_of whole by q)
-is_ok_to test whole who other = false
+-- the call to which an entry says ok, where it is such an answer of an incarnation
+abbrev pub call_of_ok : (whole : List Entry) (who : Who) → Entry → Option Told
+call_of_ok whole who (A by q Ok) = if same_who by who then call_of whole by q else None
+call_of_ok whole who other = None

@@ -1,8 +1,7 @@
 -- What is looked for along links.
 use Rattle.std.specs.Prelude.{Bool}
 use Rattle.nq_base.specs.declared.Entry.{Entry}
-use Rattle.nq_base.specs.declared.Entry.TheVariants.{W}
-use Rattle.nq_check.specs.Links.{block_spot}
+use Rattle.nq_check.specs.Links.{own_spot}
 use Rattle.nq_check.specs.Marks.{Spot, spot}
 use Rattle.nq_check.specs.declared.links.Kind.{Kind}
 use Rattle.nq_check.specs.declared.links.Kind.TheVariants.{Calls, Covers}
@@ -17,11 +16,6 @@ passes (AnswerBy who q packet) entry = is_answer_by who.now q packet entry
 passes (AnswerWith who q value) entry = is_answer_with who.now q value entry
 passes (Store write) entry = store_covers entry write.now
 passes (Loss write) entry = loss_covers entry write.now
-
--- the block of a write, as its incarnation's own
-abbrev pub own_spot : (write : Entry) → Spot
-own_spot (W who file block number value through) = spot who file block
-own_spot other = block_spot 0 0
 
 -- the key of the links to follow
 abbrev pub spot_sought : Sought → Spot

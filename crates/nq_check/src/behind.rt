@@ -1,13 +1,11 @@
-//! A fast pass over the losses behind which no write stands that they cover.
+//! The losses behind which no write stands that they cover.
 
-ghost use Rattle.std.specs.Prelude.{◌≡◌, ◌-◌, if◌then◌else◌, IsTrue, OnOk, IfOk};
+ghost use Rattle.std.specs.Prelude.{◌≡◌, ◌-◌, if◌then◌else◌, IsTrue, OnOk};
 ghost use Rattle.nq_check.specs.Behind.{IsAbove, TakesWrite};
-ghost use Rattle.nq_check.specs.Losses.{PassBetween, is_over};
 
-use crate::marks::{Marks, mark_at, set_mark, spot};
+use crate::links::own_key;
+use crate::marks::{Marks, mark_at, set_mark};
 use nq_base::{Entry, NoMemory};
-use std::alloc::Global;
-use std::collections::HashMap;
 
 /// How far a number is below the highest one.
 pub(crate) fn below_highest(number: u64) -> u64
@@ -17,7 +15,7 @@ pub(crate) fn below_highest(number: u64) -> u64
 }
 
 /// Takes in an entry, which stands before all that were taken in: the mark of a block tells its lowest write.
-fn take_write(marks: &mut Marks, entry: &Entry) -> Result<(), NoMemory>
+pub(crate) fn take_write(marks: &mut Marks, entry: &Entry) -> Result<(), NoMemory>
     ensures { OnOk result (TakesWrite 18446744073709551615 entry.now marks.old.entries marks.new.entries) }
 {
     match entry {
@@ -28,7 +26,7 @@ fn take_write(marks: &mut Marks, entry: &Entry) -> Result<(), NoMemory>
             number,
             ..
         } => {
-            let at = spot(who, *file, *block);
+            let at = own_key(who, *file, *block);
             let low = below_highest(number.0);
             if low > mark_at(marks, at) {
                 set_mark(marks, at, low)?;
@@ -40,7 +38,7 @@ fn take_write(marks: &mut Marks, entry: &Entry) -> Result<(), NoMemory>
 }
 
 /// Whether an entry is no L, or one whose numbers are below those of the writes that were taken in.
-fn is_over(marks: &Marks, entry: &Entry) -> bool
+pub(crate) fn is_over(marks: &Marks, entry: &Entry) -> bool
     ensures { IsTrue result → IsAbove 18446744073709551615 marks.now.entries entry.now }
 {
     match entry {
@@ -50,7 +48,7 @@ fn is_over(marks: &Marks, entry: &Entry) -> bool
             block,
             last,
             ..
-        } => mark_at(marks, spot(who, *file, *block)) < below_highest(last.0),
+        } => mark_at(marks, own_key(who, *file, *block)) < below_highest(last.0),
         _ => true,
     }
 }
@@ -60,22 +58,4 @@ pub(crate) fn front_with(passes: bool, place: usize, front: usize) -> usize
     ensures { result ≡ (if passes then front else place) }
 {
     if passes { front } else { place }
-}
-
-/// A place below which no L covers a write behind it.
-pub(crate) fn behind_front(alloc: Global, whole: &[Entry]) -> Result<usize, NoMemory>
-    ensures { IfOk result (λ front. PassBetween (is_over whole.now) whole.now 0 front) }
-{
-    let mut marks = HashMap::new(alloc);
-    let mut front = whole.len();
-    let mut left = whole.len();
-    while left > 0 {
-        let place = left - 1;
-        let entry = &whole[place];
-        let over = is_over(&marks, entry);
-        front = front_with(over, place, front);
-        take_write(&mut marks, entry)?;
-        left = place;
-    }
-    Ok(front)
 }

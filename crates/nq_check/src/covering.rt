@@ -1,5 +1,4 @@
 //! A fast pass over the entries that account for the delayed writes which they cover.
-#![tactic(auto, using(nq_rules::proofs::Backwards::last_first, crate::proofs::Once::exists_there, crate::proofs::Once::raised_to, crate::proofs::Once::raised_before))]
 
 ghost use Rattle.std.specs.Prelude.{◌≡◌, true, reverse, slice_get, Some, IfOk, IfSome, IsTrue, OnOk};
 ghost use Rattle.nq_check.specs.Covered.{Accounts, IsAnew, IsExtended, IsRaised, is_outside};
@@ -8,25 +7,24 @@ ghost use Rattle.nq_rules.specs.declared.Rule.{Rule};
 ghost use Rattle.nq_model.specs.JournalTest.{covers, exists};
 
 use crate::behind::below_highest;
-use crate::marks::{Marks, Spot, mark_at, set_mark, spot};
-use nq_base::{BlockNo, Entry, FileId, NoMemory, Number, Who};
+use crate::links::{Heads, Key, head_at, own_key, set_head};
+use crate::marks::{Marks, mark_at, set_mark};
+use nq_base::{Entry, NoMemory, Number, Who};
 use nq_rules::entries::covers;
 use std::alloc::Global;
 use std::collections::HashMap;
 
-/// Where the place of a write is kept: at its incarnation and its number.
-pub(crate) fn write_spot(who: &Who, number: Number) -> Spot {
-    let high = (number.0 >> 32) as u32;
-    let low = (number.0 & 0xffff_ffff) as u32;
-    spot(who, FileId(high), BlockNo(low))
+/// The key of a write by its number, as an incarnation counts it.
+pub(crate) fn number_key(who: &Who, number: Number) -> Key {
+    ((who.host.0, who.inc.0), (number.0, 0))
 }
 
 /// The places of the writes, each at its incarnation and its number.
-pub(crate) fn places_of_writes(alloc: Global, whole: &[Entry]) -> Result<Marks, NoMemory> {
+pub(crate) fn places_of_writes(alloc: Global, whole: &[Entry]) -> Result<Heads, NoMemory> {
     let mut places = HashMap::new(alloc);
     for (place, entry) in whole.iter().enumerate() {
         if let Entry::W { who, number, .. } = entry {
-            set_mark(&mut places, write_spot(who, *number), place as u64)?;
+            set_head(&mut places, number_key(who, *number), place)?;
         }
     }
     Ok(places)
@@ -40,10 +38,10 @@ pub(crate) fn entry_at(whole: &[Entry], place: usize) -> Option<&Entry>
 }
 
 /// Whether the write at a place is one that an entry covers.
-pub(crate) fn covers_at(whole: &[Entry], place: u64, entry: &Entry) -> bool
+pub(crate) fn covers_at(whole: &[Entry], place: usize, entry: &Entry) -> bool
     ensures { IsTrue result → exists (covers entry.now) (reverse whole.now) ≡ true }
 {
-    match entry_at(whole, place as usize) {
+    match entry_at(whole, place) {
         Some(write) => covers(entry, write),
         None => false,
     }
@@ -58,8 +56,9 @@ pub(crate) struct Reach {
     lowest: Marks,
 }
 
-/// Raises the number of a spot to another where it is lower.
-fn raise(marks: &mut Marks, at: Spot, number: u64) -> Result<(), NoMemory>
+#[tactic(auto, using(crate::proofs::Once::raised_to, crate::proofs::Once::raised_before))]
+/// Raises the number at a key to another where it is lower.
+fn raise(marks: &mut Marks, at: Key, number: u64) -> Result<(), NoMemory>
     ensures { OnOk result (IsRaised at number marks.old.entries marks.new.entries) }
 {
     if mark_at(marks, at) < number {
@@ -69,14 +68,14 @@ fn raise(marks: &mut Marks, at: Spot, number: u64) -> Result<(), NoMemory>
 }
 
 /// Whether numbers are above all that are covered on a block, or below them.
-fn is_outside(reach: &Reach, at: Spot, first: Number, last: Number) -> bool
+fn is_outside(reach: &Reach, at: Key, first: Number, last: Number) -> bool
     ensures { result ≡ is_outside 18446744073709551615 reach.now at first last }
 {
     mark_at(&reach.highest, at) < first.0 || mark_at(&reach.lowest, at) < below_highest(last.0)
 }
 
 /// Takes in that numbers are covered on a block.
-fn extend(reach: &mut Reach, at: Spot, first: Number, last: Number) -> Result<(), NoMemory>
+fn extend(reach: &mut Reach, at: Key, first: Number, last: Number) -> Result<(), NoMemory>
     ensures { OnOk result (IsExtended 18446744073709551615 at first last reach.old reach.new) }
 {
     raise(&mut reach.highest, at, last.0)?;
@@ -85,7 +84,7 @@ fn extend(reach: &mut Reach, at: Spot, first: Number, last: Number) -> Result<()
 }
 
 /// Whether numbers are above all that are covered on a block, or below them. Then they are taken in.
-fn covers_anew(reach: &mut Reach, at: Spot, first: Number, last: Number) -> Result<bool, NoMemory>
+fn covers_anew(reach: &mut Reach, at: Key, first: Number, last: Number) -> Result<bool, NoMemory>
     ensures { IfOk result (λ anew. IsTrue anew → IsAnew 18446744073709551615 at first last reach.old reach.new) }
 {
     if !is_outside(reach, at, first, last) {
@@ -99,7 +98,7 @@ fn covers_anew(reach: &mut Reach, at: Spot, first: Number, last: Number) -> Resu
 /// in.
 fn accounts(
     whole: &[Entry],
-    places: &Marks,
+    places: &Heads,
     reach: &mut Reach,
     entry: &Entry,
 ) -> Result<bool, NoMemory>
@@ -113,7 +112,7 @@ fn accounts(
             first,
             last,
             ..
-        } => covers_anew(reach, spot(who, *file, *block), *first, *last),
+        } => covers_anew(reach, own_key(who, *file, *block), *first, *last),
         Entry::L {
             who,
             file,
@@ -121,11 +120,11 @@ fn accounts(
             first,
             last,
         } => {
-            let place = mark_at(places, write_spot(who, *last));
+            let place = head_at(places, number_key(who, *last));
             if !covers_at(whole, place, entry) {
                 return Ok(false);
             }
-            covers_anew(reach, spot(who, *file, *block), *first, *last)
+            covers_anew(reach, own_key(who, *file, *block), *first, *last)
         }
         _ => Ok(true),
     }
@@ -134,7 +133,7 @@ fn accounts(
 /// How far each entry does so, one after another.
 pub(crate) fn accounted_front(
     alloc: Global,
-    places: &Marks,
+    places: &Heads,
     whole: &[Entry],
 ) -> Result<usize, NoMemory>
     ensures { IfOk result (KeepsBelow Rule.Accounted whole.now) }

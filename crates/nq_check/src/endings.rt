@@ -3,16 +3,16 @@
 ghost use Rattle.std.specs.Prelude.{◌≡◌, ◌+◌, ◌<◌, ◌≤◌, ◌&&◌, nat_eq, nat_le, true, IsTrue, Some, IfOk, IfSome, length, reverse, take};
 ghost use Rattle.std.specs.List.{slice_get};
 ghost use Rattle.nq_rules.specs.Grants.{given};
-ghost use Rattle.nq_check.specs.Leases.{AreLeases, HasEnd, HasEndBetween, IsStorePast};
+ghost use Rattle.nq_check.specs.Leases.{AreLeases, AreLinked, HasEndBetween, IsStorePast};
 ghost use Rattle.nq_check.specs.Links.{IsFree, IsLinked};
 ghost use Rattle.nq_check.specs.Losses.{PassBetween, is_ended};
-ghost use Rattle.nq_check.specs.Rising.{Rises};
 ghost use Rattle.nq_model.specs.CutOff.{last_grant};
 ghost use Rattle.nq_model.specs.CutOffTest.{has_passed, is_store_over};
 ghost use Rattle.nq_model.specs.JournalTest.{each};
 ghost use Rattle.nq_model.specs.Table.{same_who};
 
 use crate::links::{Heads, Key, Kind, Links, file_key, head_at, link, own_key, set_head};
+use crate::rising::rising_front;
 use crate::sought::back_from;
 use nq_base::{Entry, FileId, NoMemory, Ticks, Who};
 use nq_rules::excused::{Granted, WRITE_SLACK, grant_by, has_passed, is_grant_over, is_long_wait};
@@ -41,7 +41,7 @@ struct Ends {
 }
 
 /// A lease of an incarnation on a file, as an entry sees it.
-#[derive(Clone, Copy)]
+#[derive(Drop)]
 struct Lease<'a> {
     who: &'a Who,
     file: FileId,
@@ -50,7 +50,7 @@ struct Lease<'a> {
 }
 
 /// Links the entries of a journal.
-pub(crate) fn link_leases(alloc: Global, whole: &[Entry]) -> Result<Leases, NoMemory>
+fn link_leases(alloc: Global, whole: &[Entry]) -> Result<Leases, NoMemory>
     ensures { IfOk result (AreLeases whole.now) }
 {
     let grants = link(alloc, Kind::Grants, whole)?;
@@ -87,8 +87,7 @@ fn last_before(
 
 /// The last grant of a lease before a place, if it is known.
 fn grant_before(leases: &Leases, whole: &[Entry], lease: &Lease, to: usize) -> Option<Granted>
-    requires leases { AreLeases whole.now leases.now }
-    requires within { lease.now.place < length whole.now }
+    requires linked { AreLinked whole.now leases.now lease.now.place }
     requires upto { to ≤ lease.now.place }
     ensures { IfSome result (λ grant. given (Some grant) ≡ last_grant (reverse (take to whole.now)) lease.now.who.now lease.now.file) }
 {
@@ -112,9 +111,7 @@ fn is_store_past(entry: &Entry, at: Ticks) -> bool
 
 /// Whether write slack has passed since each S of a lease before a place.
 fn are_stores_past(leases: &Leases, whole: &[Entry], lease: &Lease, to: usize, now: Ticks) -> bool
-    requires leases { AreLeases whole.now leases.now }
-    requires rises { Rises whole.now lease.now.place }
-    requires within { lease.now.place < length whole.now }
+    requires linked { AreLinked whole.now leases.now lease.now.place }
     requires upto { to ≤ lease.now.place }
     ensures { IsTrue result → each (is_store_over lease.now.who.now lease.now.file now) (reverse (take to whole.now)) ≡ true }
 {
@@ -141,14 +138,24 @@ fn is_late(until: Ticks, heard: Ticks, now: Ticks, grant: Option<Granted>) -> bo
         && is_grant_over(grant, now)
 }
 
-/// Whether the F at a place ends a lease, late enough.
-fn ends_in_silence(leases: &Leases, whole: &[Entry], lease: &Lease, end: usize) -> bool
-    requires leases { AreLeases whole.now leases.now }
-    requires rises { Rises whole.now lease.now.place }
-    requires within { lease.now.place < length whole.now }
-    requires upto { end < lease.now.place }
-    ensures { IsTrue result → HasEnd whole.now end lease.now.who.now lease.now.file }
+/// Whether the lease of an L ended behind a place and before the L, late enough, by the F at a place that is counted from 1.
+fn ends_in_silence(
+    leases: &Leases,
+    whole: &[Entry],
+    lease: &Lease,
+    last: usize,
+    silent: usize,
+) -> bool
+    requires linked { AreLinked whole.now leases.now lease.now.place }
+    ensures { IsTrue result → HasEndBetween whole.now last lease.now.place lease.now.who.now lease.now.file }
 {
+    if silent <= last {
+        return false;
+    }
+    if silent > lease.place {
+        return false;
+    }
+    let end = silent - 1;
     match &whole[end] {
         Entry::F {
             who,
@@ -170,25 +177,37 @@ fn ends_in_silence(leases: &Leases, whole: &[Entry], lease: &Lease, end: usize) 
     }
 }
 
-/// Whether the O at a place ends a lease, late enough since the X at another place.
+/// Whether it ended so by the last O, late enough since the last X before that.
 fn ends_by_opening(
     leases: &Leases,
     whole: &[Entry],
     lease: &Lease,
-    end: usize,
-    boot_at: usize,
+    last: usize,
+    ends: &Ends,
 ) -> bool
-    requires leases { AreLeases whole.now leases.now }
-    requires rises { Rises whole.now lease.now.place }
-    requires within { lease.now.place < length whole.now }
-    requires upto { end < lease.now.place }
-    requires booted { boot_at < end }
-    ensures { IsTrue result → HasEnd whole.now end lease.now.who.now lease.now.file }
+    requires linked { AreLinked whole.now leases.now lease.now.place }
+    ensures { IsTrue result → HasEndBetween whole.now last lease.now.place lease.now.who.now lease.now.file }
 {
+    let opened = ends.opened;
+    let since = ends.boot;
+    if opened <= last {
+        return false;
+    }
+    if opened > lease.place {
+        return false;
+    }
+    if since == 0 {
+        return false;
+    }
+    if since >= opened {
+        return false;
+    }
+    let end = opened - 1;
+    let booted = &whole[since - 1];
     match &whole[end] {
         Entry::O { boot, now, .. } => {
             let grant = grant_before(leases, whole, lease, end);
-            if !is_long_wait(&whole[boot_at], *boot, *now, &grant) {
+            if !is_long_wait(booted, *boot, *now, &grant) {
                 return false;
             }
             are_stores_past(leases, whole, lease, end, *now)
@@ -197,71 +216,22 @@ fn ends_by_opening(
     }
 }
 
-/// Whether the lease of an L ended behind a place and before the L, by the F at a place that is counted from 1.
-fn ends_silently(
-    leases: &Leases,
-    whole: &[Entry],
-    lease: &Lease,
-    last: usize,
-    silent: usize,
-) -> bool
-    requires leases { AreLeases whole.now leases.now }
-    requires rises { Rises whole.now lease.now.place }
-    requires within { lease.now.place < length whole.now }
-    ensures { IsTrue result → HasEndBetween whole.now last lease.now.place lease.now.who.now lease.now.file }
-{
-    if silent <= last {
-        return false;
-    }
-    if silent > lease.place {
-        return false;
-    }
-    ends_in_silence(leases, whole, lease, silent - 1)
-}
-
-/// Whether it ended so by the last O.
-fn ends_openly(leases: &Leases, whole: &[Entry], lease: &Lease, last: usize, ends: &Ends) -> bool
-    requires leases { AreLeases whole.now leases.now }
-    requires rises { Rises whole.now lease.now.place }
-    requires within { lease.now.place < length whole.now }
-    ensures { IsTrue result → HasEndBetween whole.now last lease.now.place lease.now.who.now lease.now.file }
-{
-    let opened = ends.opened;
-    let boot = ends.boot;
-    if opened <= last {
-        return false;
-    }
-    if opened > lease.place {
-        return false;
-    }
-    if boot == 0 {
-        return false;
-    }
-    if boot >= opened {
-        return false;
-    }
-    ends_by_opening(leases, whole, lease, opened - 1, boot - 1)
-}
-
 /// Whether the lease of an L ended behind a place and before the L.
 fn ends_behind(ends: &Ends, leases: &Leases, whole: &[Entry], lease: &Lease, last: usize) -> bool
-    requires leases { AreLeases whole.now leases.now }
-    requires rises { Rises whole.now lease.now.place }
-    requires within { lease.now.place < length whole.now }
+    requires linked { AreLinked whole.now leases.now lease.now.place }
     ensures { IsTrue result → HasEndBetween whole.now last lease.now.place lease.now.who.now lease.now.file }
 {
     let silent = head_at(&ends.silent, file_key(lease.who, lease.file));
-    if ends_silently(leases, whole, lease, last, silent) {
+    if ends_in_silence(leases, whole, lease, last, silent) {
         return true;
     }
-    ends_openly(leases, whole, lease, last, ends)
+    ends_by_opening(leases, whole, lease, last, ends)
 }
 
 /// Whether the entry at a place is no L, or a lease ended before it and behind each write that it covers.
 fn is_ended_at(ends: &Ends, leases: &Leases, whole: &[Entry], place: usize, entry: &Entry) -> bool
-    requires leases { AreLeases whole.now leases.now }
-    requires rises { Rises whole.now place }
-    requires there { (place < length whole.now) × (slice_get whole.now place ≡ Some entry.now) }
+    requires linked { AreLinked whole.now leases.now place }
+    requires there { slice_get whole.now place ≡ Some entry.now }
     ensures { IsTrue result → is_ended whole.now place entry.now ≡ true }
 {
     match entry {
@@ -300,18 +270,12 @@ fn take_end(ends: &mut Ends, place: usize, entry: &Entry) -> Result<(), NoMemory
     Ok(())
 }
 
-/// A place below which a lease ended before each L and behind each write that it covers. `rising` is a place below which
-/// the times of stores rise.
-pub(crate) fn endings_front(
-    alloc: Global,
-    leases: &Leases,
-    whole: &[Entry],
-    rising: usize,
-) -> Result<usize, NoMemory>
-    requires leases { AreLeases whole.now leases.now }
-    requires rises { Rises whole.now rising }
+/// A place below which a lease ended before each L and behind each write that it covers.
+pub(crate) fn endings_front(alloc: Global, whole: &[Entry]) -> Result<usize, NoMemory>
     ensures { IfOk result (λ front. PassBetween (is_ended whole.now) whole.now 0 front) }
 {
+    let leases = link_leases(alloc, whole)?;
+    let rising = rising_front(whole);
     let mut ends = Ends {
         silent: HashMap::new(alloc),
         opened: 0,
@@ -322,7 +286,7 @@ pub(crate) fn endings_front(
         if place >= rising {
             return Ok(place);
         }
-        if !is_ended_at(&ends, leases, whole, place, entry) {
+        if !is_ended_at(&ends, &leases, whole, place, entry) {
             return Ok(place);
         }
         take_end(&mut ends, place, entry)?;

@@ -4,12 +4,12 @@
 ghost use Rattle.std.specs.Prelude.{◌≡◌, ◌<◌, length};
 ghost use Rattle.nq_check.specs.Tables.{AreTables};
 
-use crate::covering::{covers_at, write_spot};
+use crate::covering::{covers_at, number_key};
 use crate::links::{Heads, Key, file_key, head_at, own_key, set_head};
-use crate::marks::{Marks, Spot, mark_at};
+use crate::reports::reports_of;
 use crate::sought::call_along;
 use crate::tables::Tables;
-use nq_base::{Entry, FileId, NoMemory, Number, Said, Told, Who};
+use nq_base::{Entry, NoMemory, Number, Said};
 use nq_rules::entries::covers;
 use std::alloc::Global;
 use std::collections::HashMap;
@@ -63,16 +63,15 @@ fn is_before(entry: &Entry, first: Number) -> bool {
 /// that is not known.
 fn last_covered(
     search: &Search,
-    places: &Marks,
+    places: &Heads,
     whole: &[Entry],
     entry: &Entry,
-    numbered: Spot,
+    numbered: Key,
     key: Key,
 ) -> usize {
-    let place = mark_at(places, numbered);
-    let at = place as usize;
-    if at < whole.len() && covers_at(whole, place, entry) {
-        return at + 1;
+    let place = head_at(places, numbered);
+    if place < whole.len() && covers_at(whole, place, entry) {
+        return place + 1;
     }
     head_at(&search.writes, key)
 }
@@ -106,25 +105,10 @@ fn settle(
     }
 }
 
-/// The file of a call that has to report losses.
-fn file_of(call: Option<Told>) -> FileId {
-    let Some(told) = call else {
-        return FileId(0);
-    };
-    match told {
-        Told::Write { file, .. } => file,
-        Told::WriteSync { file, .. } => file,
-        Told::Sync { file } => file,
-        Told::Resize { file, .. } => file,
-        Told::Remove { file } => file,
-        _ => FileId(0),
-    }
-}
-
 /// Sets the fates of the delayed writes that an S or L covers.
 fn settle_covered(
     search: &mut Search,
-    places: &Marks,
+    places: &Heads,
     whole: &[Entry],
     place: usize,
     entry: &Entry,
@@ -146,7 +130,7 @@ fn settle_covered(
             last,
         } => {
             let key = own_key(who, *file, *block);
-            let from = last_covered(search, places, whole, entry, write_spot(who, *last), key);
+            let from = last_covered(search, places, whole, entry, number_key(who, *last), key);
             settle(search, whole, from, *first, place, entry);
         }
         _ => {}
@@ -163,9 +147,13 @@ fn settle_named(search: &mut Search, tables: &Tables, whole: &[Entry], place: us
             q,
             said: Said::Lost(_),
         } => {
-            let file = file_of(call_along(&tables.calls, whole, who, *q));
-            let from = head_at(&search.losses, file_key(who, file));
-            settle(search, whole, from, Number(0), place, entry);
+            let Some(told) = call_along(&tables.calls, whole, who, *q) else {
+                return;
+            };
+            if let Some(key) = reports_of(who, &told) {
+                let from = head_at(&search.losses, key);
+                settle(search, whole, from, Number(0), place, entry);
+            }
         }
         _ => {}
     }
@@ -201,7 +189,7 @@ fn link_back(search: &mut Search, place: usize, entry: &Entry) -> Result<usize, 
 fn take_in(
     search: &mut Search,
     tables: &Tables,
-    places: &Marks,
+    places: &Heads,
     whole: &[Entry],
     place: usize,
     entry: &Entry,
@@ -221,7 +209,7 @@ fn take_in(
 pub(crate) fn find_fates(
     alloc: Global,
     tables: &Tables,
-    places: &Marks,
+    places: &Heads,
     whole: &[Entry],
 ) -> Result<Fates, NoMemory>
     requires tables { AreTables whole.now tables.now }

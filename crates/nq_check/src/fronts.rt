@@ -1,22 +1,22 @@
-//! How far fast passes over a journal have seen that its entries keep the rules.
+//! What fast passes over a journal have found, and how far they have seen that its entries keep the rules.
 
 ghost use Rattle.std.specs.Prelude.{IfOk};
 ghost use Rattle.nq_check.specs.Fronts.{AreFronts};
 
 use crate::covering::{accounted_front, places_of_writes};
-use crate::fates::find_fates;
+use crate::fates::{Fates, find_fates};
 use crate::kept_front::kept_front;
-use crate::legal_front::legal_front;
 use crate::ordering::ordered_front;
 use crate::reported_front::reported_front;
-use crate::tables::make_tables;
+use crate::tables::{Tables, make_tables};
 use nq_base::{Entry, NoMemory};
 use std::alloc::Global;
 
-/// A place for each rule: the entries before it keep that rule.
-#[derive(Clone, Copy)]
+/// What tells which entries are legal, and a place for each other rule: the entries before it keep that rule.
+#[derive(Drop)]
 pub(crate) struct Fronts {
-    pub(crate) legal: usize,
+    pub(crate) tables: Tables,
+    pub(crate) fates: Fates,
     pub(crate) ordered: usize,
     pub(crate) accounted: usize,
     pub(crate) reported: usize,
@@ -35,7 +35,8 @@ pub(crate) fn find_fronts(alloc: Global, whole: &[Entry]) -> Result<Fronts, NoMe
     let reported = reported_front(alloc, &tables, whole, ordered)?;
     let synchronized = kept_front(alloc, &tables, &fates, whole, ordered)?;
     Ok(Fronts {
-        legal: legal_front(&tables, &fates, accounted, whole),
+        tables,
+        fates,
         ordered,
         accounted,
         reported,

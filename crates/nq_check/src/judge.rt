@@ -1,5 +1,4 @@
 //! The judge.
-#![tactic(auto, unfolding(nq_rules::specs::Rules::first_rule))]
 
 ghost use Rattle.std.specs.Prelude.{◌≡◌, ◌+◌, ◌<◌, Some, length, reverse, take, drop};
 ghost use Rattle.std.specs.List.{slice_get};
@@ -8,10 +7,10 @@ ghost use Rattle.nq_rules.specs.Rules.{first_rule};
 ghost use Rattle.nq_rules.specs.Verdict.{IsVerdict, verdict};
 
 use crate::fronts::{Fronts, find_fronts};
+use crate::legal::{Hints, is_legal};
 use nq_base::{Entry, Journal, NoMemory};
 use nq_rules::accounted::is_accounted_at;
 use nq_rules::excused::is_cut_off;
-use nq_rules::legal::is_legal_at;
 use nq_rules::named::is_reported_at;
 use nq_rules::ordered::is_in_order;
 use nq_rules::synchronized::is_kept_at;
@@ -19,8 +18,16 @@ use nq_rules::{Judged, Rule};
 use std::alloc::Global;
 
 /// Whether the entry at a place keeps a rule, which the entries before the front are known to keep.
-fn keeps(whole: &[Entry], place: usize, entry: &Entry, rule: Rule, front: usize) -> bool
+fn keeps(
+    whole: &[Entry],
+    fronts: &Fronts,
+    place: usize,
+    entry: &Entry,
+    rule: Rule,
+    front: usize,
+) -> bool
     requires there { (place < length whole.now) × (slice_get whole.now place ≡ Some entry.now) }
+    requires fronts { AreFronts whole.now fronts.now }
     requires front { KeepsBelow rule whole.now front }
     ensures { result ≡ keeps_at rule whole.now place entry.now }
 {
@@ -30,7 +37,13 @@ fn keeps(whole: &[Entry], place: usize, entry: &Entry, rule: Rule, front: usize)
     let before = &whole[..place];
     let after = &whole[place + 1..];
     match rule {
-        Rule::Legal => is_legal_at(whole, before, entry),
+        Rule::Legal => {
+            let hints = Hints {
+                fates: &fronts.fates,
+                accounted: fronts.accounted,
+            };
+            is_legal(&fronts.tables, &hints, whole, place, entry)
+        }
         Rule::Ordered => is_in_order(whole, before, entry, after),
         Rule::Accounted => is_accounted_at(whole, before, entry),
         Rule::Reported => {
@@ -40,25 +53,40 @@ fn keeps(whole: &[Entry], place: usize, entry: &Entry, rule: Rule, front: usize)
     }
 }
 
+#[tactic(auto, unfolding(nq_rules::specs::Rules::first_rule))]
 /// The first rule under which the entry at a place is at fault.
 fn first_rule(whole: &[Entry], place: usize, entry: &Entry, fronts: &Fronts) -> Option<Rule>
     requires there { (place < length whole.now) × (slice_get whole.now place ≡ Some entry.now) }
     requires fronts { AreFronts whole.now fronts.now }
     ensures { result ≡ first_rule (reverse whole.now) (drop (place + 1) whole.now) entry.now (reverse (take place whole.now)) }
 {
-    if !keeps(whole, place, entry, Rule::Legal, fronts.legal) {
+    if !keeps(whole, fronts, place, entry, Rule::Legal, 0) {
         return Some(Rule::Legal);
     }
-    if !keeps(whole, place, entry, Rule::Ordered, fronts.ordered) {
+    if !keeps(whole, fronts, place, entry, Rule::Ordered, fronts.ordered) {
         return Some(Rule::Ordered);
     }
-    if !keeps(whole, place, entry, Rule::Accounted, fronts.accounted) {
+    if !keeps(
+        whole,
+        fronts,
+        place,
+        entry,
+        Rule::Accounted,
+        fronts.accounted,
+    ) {
         return Some(Rule::Accounted);
     }
-    if !keeps(whole, place, entry, Rule::Reported, fronts.reported) {
+    if !keeps(whole, fronts, place, entry, Rule::Reported, fronts.reported) {
         return Some(Rule::Reported);
     }
-    if !keeps(whole, place, entry, Rule::Synchronized, fronts.synchronized) {
+    if !keeps(
+        whole,
+        fronts,
+        place,
+        entry,
+        Rule::Synchronized,
+        fronts.synchronized,
+    ) {
         return Some(Rule::Synchronized);
     }
     None

@@ -1,12 +1,11 @@
 //! A fast pass over the answers that are kept.
 
-ghost use Rattle.std.specs.Prelude.{◌≡◌, ◌+◌, ◌<◌, IfOk, IsTrue, Some, length, reverse, take, true};
+ghost use Rattle.std.specs.Prelude.{◌≡◌, IfOk, IsTrue, Some, reverse, take, true};
 ghost use Rattle.std.specs.List.{slice_get};
 ghost use Rattle.nq_check.specs.Fronts.{KeepsBelow};
 ghost use Rattle.nq_rules.specs.Kept.{is_kept, is_kept_at};
-ghost use Rattle.nq_check.specs.Links.{IsLinked};
+ghost use Rattle.nq_check.specs.Ready.{IsReady};
 ghost use Rattle.nq_check.specs.Tables.{AreTables};
-ghost use Rattle.nq_check.specs.declared.links.Kind.TheVariants.{Delays};
 ghost use Rattle.nq_rules.specs.declared.Rule.{Rule};
 ghost use Rattle.nq_model.specs.JournalTest.{is_answer};
 
@@ -31,12 +30,9 @@ fn is_seen_kept(
     entry: &Entry,
     asked: &Asked,
 ) -> bool
-    requires tables { AreTables whole.now tables.now }
-    requires there { (place < length whole.now) × (slice_get whole.now place ≡ Some entry.now) }
+    requires ready { IsReady whole.now place tables.now trail.now.delays }
+    requires there { slice_get whole.now place ≡ Some entry.now }
     requires answer { is_answer asked.now.who.now asked.now.q entry.now ≡ true }
-    requires ordered { KeepsBelow Rule.Ordered whole.now (place + 1) }
-    requires kept { KeepsBelow Rule.Synchronized whole.now place }
-    requires linked { IsLinked Delays whole.now place trail.now.delays.heads.entries trail.now.delays.earlier.items }
     ensures { IsTrue result → is_kept (reverse whole.now) (reverse (take place whole.now)) asked.now.who.now asked.now.q asked.now.call ≡ true }
 {
     let Some(told) = asked.call else {
@@ -65,12 +61,9 @@ fn is_ok_kept(
     entry: &Entry,
     asked: &Asked,
 ) -> bool
-    requires tables { AreTables whole.now tables.now }
-    requires there { (place < length whole.now) × (slice_get whole.now place ≡ Some entry.now) }
+    requires ready { IsReady whole.now place tables.now trail.now.delays }
+    requires there { slice_get whole.now place ≡ Some entry.now }
     requires answer { is_answer asked.now.who.now asked.now.q entry.now ≡ true }
-    requires ordered { KeepsBelow Rule.Ordered whole.now (place + 1) }
-    requires kept { KeepsBelow Rule.Synchronized whole.now place }
-    requires linked { IsLinked Delays whole.now place trail.now.delays.heads.entries trail.now.delays.earlier.items }
     ensures { result ≡ is_kept (reverse whole.now) (reverse (take place whole.now)) asked.now.who.now asked.now.q asked.now.call }
 {
     if is_seen_kept(tables, fates, trail, whole, place, entry, asked) {
@@ -88,11 +81,8 @@ fn is_kept_at(
     place: usize,
     entry: &Entry,
 ) -> bool
-    requires tables { AreTables whole.now tables.now }
-    requires there { (place < length whole.now) × (slice_get whole.now place ≡ Some entry.now) }
-    requires ordered { KeepsBelow Rule.Ordered whole.now (place + 1) }
-    requires kept { KeepsBelow Rule.Synchronized whole.now place }
-    requires linked { IsLinked Delays whole.now place trail.now.delays.heads.entries trail.now.delays.earlier.items }
+    requires ready { IsReady whole.now place tables.now trail.now.delays }
+    requires there { slice_get whole.now place ≡ Some entry.now }
     ensures { result ≡ is_kept_at (reverse whole.now) entry.now (reverse (take place whole.now)) }
 {
     match entry {

@@ -9,7 +9,7 @@ mod fronts;
 mod judge;
 mod kept_front;
 mod latest;
-mod legal_front;
+mod legal;
 mod lines;
 mod links;
 mod marks;

@@ -1,10 +1,9 @@
 //! Links from each entry of a journal back to the last one before it that has the same key.
-#![tactic(auto, using(crate::proofs::Linking::member_marked, crate::proofs::Linking::other_marked))]
 
 ghost use Rattle.std.specs.Prelude.{◌≡◌, ◌<◌, IfOk, OnOk, length};
-ghost use Rattle.nq_check.specs.Links.{IsLinked, IsLinkedNext, is_member, spot_of};
+ghost use Rattle.nq_check.specs.Links.{IsLinked, IsLinkedNext, file_spot, is_member, own_spot, spot_of};
 ghost use Rattle.nq_check.specs.Marks.{IsMarked, mark_at, same_spot};
-ghost use Rattle.nq_check.specs.declared.links.Kind.TheVariants.{Grants, Stores, Own, Calls, Writes, Covers, Cuts, Delays};
+ghost use Rattle.nq_check.specs.declared.links.Kind.TheVariants.{Calls, Writes, Cuts};
 
 use nq_base::{BlockNo, Entry, FileId, NoMemory, Who};
 use std::alloc::Global;
@@ -84,32 +83,37 @@ pub(crate) fn same_key(a: Key, b: Key) -> bool
     (a.0.0 == b.0.0 && a.0.1 == b.0.1) && (a.1.0 == b.1.0 && a.1.1 == b.1.1)
 }
 
-/// The key of a grant, and of an L that asks for it.
-fn grant_key(entry: &Entry) -> Key
-    ensures { result ≡ spot_of Grants entry.now }
+/// The key of the file that an entry names, as its incarnation's own.
+fn file_key_of(entry: &Entry) -> Key
+    ensures { result ≡ file_spot entry.now }
 {
     match entry {
-        Entry::G { who, file, .. } | Entry::L { who, file, .. } => file_key(who, *file),
+        Entry::G { who, file, .. }
+        | Entry::S { who, file, .. }
+        | Entry::L { who, file, .. }
+        | Entry::W { who, file, .. } => file_key(who, *file),
         _ => ((0, 0), (0, 0)),
     }
 }
 
-/// The key of an S among those of its file, and of an L that asks for it.
-fn store_key(entry: &Entry) -> Key
-    ensures { result ≡ spot_of Stores entry.now }
-{
-    match entry {
-        Entry::S { who, file, .. } | Entry::L { who, file, .. } => file_key(who, *file),
-        _ => ((0, 0), (0, 0)),
-    }
-}
-
-/// The key of a write among those of its incarnation, and of an L that asks for it.
-fn write_key(entry: &Entry) -> Key
-    ensures { result ≡ spot_of Own entry.now }
+/// The key of the block that an entry names, as its incarnation's own.
+pub(crate) fn own_key_of(entry: &Entry) -> Key
+    ensures { result ≡ own_spot entry.now }
 {
     match entry {
         Entry::W {
+            who,
+            file,
+            block,
+            ..
+        }
+        | Entry::R {
+            who,
+            file,
+            block,
+            ..
+        }
+        | Entry::S {
             who,
             file,
             block,
@@ -147,33 +151,6 @@ fn block_key_of(entry: &Entry) -> Key
     }
 }
 
-/// The key of an S or L, and of a read that asks for it.
-fn cover_key(entry: &Entry) -> Key
-    ensures { result ≡ spot_of Covers entry.now }
-{
-    match entry {
-        Entry::S {
-            who,
-            file,
-            block,
-            ..
-        }
-        | Entry::L {
-            who,
-            file,
-            block,
-            ..
-        }
-        | Entry::R {
-            who,
-            file,
-            block,
-            ..
-        } => own_key(who, *file, *block),
-        _ => ((0, 0), (0, 0)),
-    }
-}
-
 /// The key of a Z, and of a read that asks for it.
 fn cut_key(entry: &Entry) -> Key
     ensures { result ≡ spot_of Cuts entry.now }
@@ -184,29 +161,16 @@ fn cut_key(entry: &Entry) -> Key
     }
 }
 
-/// The key of a delayed write among those of its file.
-fn delay_key(entry: &Entry) -> Key
-    ensures { result ≡ spot_of Delays entry.now }
-{
-    match entry {
-        Entry::W { who, file, .. } => file_key(who, *file),
-        _ => ((0, 0), (0, 0)),
-    }
-}
-
 /// The key of an entry.
 pub(crate) fn key_of(kind: Kind, entry: &Entry) -> Key
     ensures { result ≡ spot_of kind entry.now }
 {
     match kind {
-        Kind::Grants => grant_key(entry),
-        Kind::Stores => store_key(entry),
-        Kind::Own => write_key(entry),
+        Kind::Grants | Kind::Stores | Kind::Delays => file_key_of(entry),
+        Kind::Own | Kind::Covers => own_key_of(entry),
         Kind::Calls => call_key_of(entry),
         Kind::Writes => block_key_of(entry),
-        Kind::Covers => cover_key(entry),
         Kind::Cuts => cut_key(entry),
-        Kind::Delays => delay_key(entry),
     }
 }
 
@@ -244,6 +208,7 @@ pub(crate) fn set_head(heads: &mut Heads, at: Key, place: usize) -> Result<(), N
     Ok(())
 }
 
+#[tactic(auto, using(crate::proofs::Linking::member_marked, crate::proofs::Linking::other_marked))]
 /// Links one more entry.
 pub(crate) fn link_entry(
     links: &mut Links,

@@ -21,7 +21,7 @@ pub(crate) struct Names {
     /// The place of its L, counted from 1.
     lost: Heads,
     /// The place of the A that names it, counted from 1.
-    pub(crate) named: Heads,
+    named: Heads,
 }
 
 /// Where losses are named, and a place below which each A `lost` names losses anew.
@@ -174,19 +174,6 @@ fn names_anew(
     }
 }
 
-/// Takes in the entries of a journal, as far as each A `lost` names losses anew.
-fn names_front(names: &mut Names, tables: &Tables, whole: &[Entry]) -> Result<usize, NoMemory>
-    requires tables { AreTables whole.now tables.now }
-    ensures { IfOk result (λ front. PassBetween (is_naming whole.now) whole.now 0 front) }
-{
-    for (place, entry) in whole.iter().enumerate() {
-        if !names_anew(names, tables, whole, place, entry)? {
-            return Ok(place);
-        }
-    }
-    Ok(whole.len())
-}
-
 /// The names of the losses of a journal, and a place below which each A `lost` names losses anew.
 pub(crate) fn find_names(
     alloc: Global,
@@ -200,9 +187,16 @@ pub(crate) fn find_names(
         lost: HashMap::new(alloc),
         named: HashMap::new(alloc),
     };
-    let front = names_front(&mut names, tables, whole)?;
+    for (place, entry) in whole.iter().enumerate() {
+        if !names_anew(&mut names, tables, whole, place, entry)? {
+            return Ok(Namings {
+                named: names.named,
+                front: place,
+            });
+        }
+    }
     Ok(Namings {
         named: names.named,
-        front,
+        front: whole.len(),
     })
 }

@@ -1,5 +1,4 @@
 //! A fast test of entries that stand in order: it is true only where they do.
-#![tactic(auto, using(nq_rules::proofs::Backwards::last_first))]
 
 ghost use Rattle.std.specs.Prelude.{◌≡◌, ◌+◌, ◌<◌, Some, IfOk, IsTrue, length, reverse, drop};
 ghost use Rattle.std.specs.List.{slice_get};

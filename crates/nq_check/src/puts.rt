@@ -1,5 +1,4 @@
 //! A fast test that an answered `put` is kept: it is true only where it is.
-#![tactic(auto, using(nq_rules::proofs::Backwards::last_first))]
 
 ghost use Rattle.std.specs.Prelude.{◌≡◌, ◌||◌, ◌+◌, ◌<◌, IsTrue, Some, length, reverse, take, true};
 ghost use Rattle.std.specs.List.{slice_get};

@@ -1,5 +1,4 @@
 //! The packets in which calls were answered.
-#![tactic(auto, using(nq_rules::proofs::Backwards::last_first))]
 
 ghost use Rattle.std.specs.Prelude.{◌≡◌, reverse, OnOk, IfOk};
 ghost use Rattle.nq_check.specs.Replies.{AreTold, IsTold, TellsOn, is_told, may_count, reply, reply_told};

@@ -5,11 +5,9 @@ ghost use Rattle.nq_check.specs.Fronts.{KeepsBelow};
 ghost use Rattle.nq_check.specs.Tables.{AreTables};
 ghost use Rattle.nq_rules.specs.declared.Rule.{Rule};
 
-use crate::behind::behind_front;
-use crate::endings::{endings_front, link_leases};
+use crate::endings::endings_front;
 use crate::namings::find_names;
 use crate::reports::{Found, reports_front};
-use crate::rising::rising_front;
 use crate::tables::Tables;
 use nq_base::{Entry, NoMemory};
 use std::alloc::Global;
@@ -39,8 +37,6 @@ pub(crate) fn reported_front(
         ordered,
     };
     let reported = reports_front(alloc, &found, whole)?;
-    let behind = behind_front(alloc, whole)?;
-    let leases = link_leases(alloc, whole)?;
-    let ended = endings_front(alloc, &leases, whole, rising_front(whole))?;
-    Ok(lower(lower(names.front, reported), lower(behind, ended)))
+    let ended = endings_front(alloc, whole)?;
+    Ok(lower(names.front, lower(reported, ended)))
 }

@@ -1,9 +1,9 @@
-//! A fast pass over the losses that are reported by the first call that has to.
+//! A fast pass over the losses that are reported by the first call that has to, and behind which no write stands that they cover.
 
 ghost use Rattle.std.specs.Prelude.{◌≡◌, ◌+◌, ◌<◌, true, IsTrue, Some, IfOk, OnOk, length, reverse, take, drop};
 ghost use Rattle.std.specs.List.{slice_get};
 ghost use Rattle.nq_check.specs.Fronts.{KeepsBelow};
-ghost use Rattle.nq_check.specs.Losses.{PassBetween, is_told};
+ghost use Rattle.nq_check.specs.Losses.{PassBetween, is_over, is_told};
 ghost use Rattle.nq_rules.specs.Named.{is_reported};
 ghost use Rattle.nq_check.specs.Reports.{AreNext, IsReportKey, TakesReport, answers, reports_of};
 ghost use Rattle.nq_check.specs.Tables.{AreTables};
@@ -11,7 +11,7 @@ ghost use Rattle.nq_rules.specs.declared.Rule.{Rule};
 ghost use Rattle.nq_model.specs.JournalTest.{exists};
 ghost use Rattle.nq_model.specs.ReportedTest.{is_busy_answer, names};
 
-use crate::behind::front_with;
+use crate::behind::{front_with, is_over, take_write};
 use crate::covering::entry_at;
 use crate::links::{Heads, Key, file_key, head_at, set_head};
 use crate::namings::loss_key;
@@ -25,7 +25,7 @@ use std::alloc::Global;
 use std::collections::HashMap;
 
 /// The incarnation and file whose losses a call reports, if any.
-fn reports_of(who: &Who, told: &Told) -> Option<Key>
+pub(crate) fn reports_of(who: &Who, told: &Told) -> Option<Key>
     ensures { result ≡ reports_of who.now told.now }
 {
     match told {
@@ -111,7 +111,7 @@ fn answers(call: &Entry, entry: &Entry) -> bool
 }
 
 /// What passes over a journal have found of its losses.
-#[derive(Clone, Copy)]
+#[derive(Drop)]
 pub(crate) struct Found<'a> {
     /// The links of the journal.
     pub(crate) tables: &'a Tables,
@@ -197,7 +197,7 @@ fn is_told(found: &Found, next: &Heads, whole: &[Entry], place: usize, entry: &E
     }
 }
 
-/// A place below which each L is reported.
+/// A place below which each L is reported, and covers no write behind it.
 pub(crate) fn reports_front(
     alloc: Global,
     found: &Found,
@@ -205,16 +205,21 @@ pub(crate) fn reports_front(
 ) -> Result<usize, NoMemory>
     requires tables { AreTables whole.now found.now.tables.now }
     requires ordered { KeepsBelow Rule.Ordered whole.now found.now.ordered }
-    ensures { IfOk result (λ front. PassBetween (is_told whole.now) whole.now 0 front) }
+    ensures told { IfOk result (λ front. PassBetween (is_told whole.now) whole.now 0 front) }
+    ensures over { IfOk result (λ front. PassBetween (is_over whole.now) whole.now 0 front) }
 {
+    let mut lows = HashMap::new(alloc);
     let mut next = HashMap::new(alloc);
     let mut front = whole.len();
     let mut left = whole.len();
     while left > 0 {
         let place = left - 1;
         let entry = &whole[place];
+        let over = is_over(&lows, entry);
         let told = is_told(found, &next, whole, place, entry);
-        front = front_with(told, place, front);
+        let low = front_with(over, place, front);
+        front = front_with(told, place, low);
+        take_write(&mut lows, entry)?;
         take_report(&mut next, whole, place, entry)?;
         left = place;
     }

@@ -1,5 +1,4 @@
 //! A fast test that the delayed writes of an incarnation on a file are stored or told: it is true only where they are.
-#![tactic(auto, using(nq_rules::proofs::Backwards::last_first))]
 
 ghost use Rattle.std.specs.Prelude.{◌≡◌, ◌<◌, ◌≤◌, IsTrue, length, reverse, take, true};
 ghost use Rattle.nq_check.specs.Links.{IsFree, IsLinked};
@@ -18,7 +17,7 @@ use nq_base::{Entry, FileId, Loss, Who};
 use nq_rules::entries::{loss_covers, store_covers};
 
 /// Whose delayed writes have to be settled: those of an incarnation on a file, before a place.
-#[derive(Clone, Copy)]
+#[derive(Drop)]
 pub(crate) struct Settling<'a> {
     pub(crate) who: &'a Who,
     pub(crate) file: FileId,

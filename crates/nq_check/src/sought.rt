@@ -1,14 +1,13 @@
 //! Entries that are looked for along links.
-#![tactic(auto, using(nq_rules::proofs::Backwards::last_first))]
 
 ghost use Rattle.std.specs.Prelude.{◌≡◌, ◌<◌, ◌≤◌, length, reverse, take};
 ghost use Rattle.nq_check.specs.Links.{IsFree, IsLinked};
-ghost use Rattle.nq_check.specs.Sought.{kind_sought, own_spot, passes, spot_sought};
+ghost use Rattle.nq_check.specs.Sought.{kind_sought, passes, spot_sought};
 ghost use Rattle.nq_model.specs.Journal.{call_of};
 ghost use Rattle.nq_model.specs.JournalTest.{exists};
 ghost use Rattle.nq_check.specs.declared.links.Kind.TheVariants.{Calls};
 
-use crate::links::{Key, Kind, Links, call_key, head_at, key_of, own_key, same_key};
+use crate::links::{Key, Kind, Links, call_key, head_at, key_of, own_key_of, same_key};
 use nq_base::{Entry, Told, Who};
 use nq_rules::entries::{is_answer_by, is_answer_with, loss_covers, store_covers, told_by};
 
@@ -37,21 +36,6 @@ fn passes(sought: Sought, entry: &Entry) -> bool
     }
 }
 
-/// The key of the links to follow for a write.
-fn write_key(write: &Entry) -> Key
-    ensures { result ≡ own_spot write.now }
-{
-    match write {
-        Entry::W {
-            who,
-            file,
-            block,
-            ..
-        } => own_key(who, *file, *block),
-        _ => ((0, 0), (0, 0)),
-    }
-}
-
 /// The key of the links to follow.
 fn key_sought(sought: Sought) -> Key
     ensures { result ≡ spot_sought sought.entry }
@@ -59,8 +43,8 @@ fn key_sought(sought: Sought) -> Key
     match sought {
         Sought::AnswerBy { who, q, .. } => call_key(who, q),
         Sought::AnswerWith { who, q, .. } => call_key(who, q),
-        Sought::Store(write) => write_key(write),
-        Sought::Loss(write) => write_key(write),
+        Sought::Store(write) => own_key_of(write),
+        Sought::Loss(write) => own_key_of(write),
     }
 }
 

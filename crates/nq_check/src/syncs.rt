@@ -1,13 +1,9 @@
 //! Fast tests that an answered `sync`, `resize` or `remove` is kept: they are true only where it is.
-#![tactic(auto, using(nq_rules::proofs::Backwards::last_first))]
 
-ghost use Rattle.std.specs.Prelude.{◌≡◌, ◌<◌, ◌≤◌, IsTrue, length, reverse, take, true};
-ghost use Rattle.nq_check.specs.Fronts.{KeepsBelow};
-ghost use Rattle.nq_check.specs.Links.{IsLinked};
-ghost use Rattle.nq_check.specs.Settling.{is_ok_to, is_sizing_of, is_sync_of};
+ghost use Rattle.std.specs.Prelude.{◌≡◌, ◌≤◌, IsTrue, reverse, take, true};
+ghost use Rattle.nq_check.specs.Ready.{IsReady};
+ghost use Rattle.nq_check.specs.Settling.{call_of_ok, is_sizing_of, is_sync_of};
 ghost use Rattle.nq_check.specs.Tables.{AreTables};
-ghost use Rattle.nq_check.specs.declared.links.Kind.TheVariants.{Delays};
-ghost use Rattle.nq_rules.specs.declared.Rule.TheVariants.{Synchronized};
 ghost use Rattle.nq_model.specs.JournalTest.{somewhere};
 ghost use Rattle.nq_model.specs.SynchronizedTest.{are_stored_or_told, is_settled_resize};
 
@@ -22,7 +18,7 @@ use nq_base::{Entry, FileId, Said, Told, Who};
 use nq_rules::entries::is_resize_by;
 
 /// A call as its A names it, and what it asks.
-#[derive(Clone, Copy)]
+#[derive(Drop)]
 pub(crate) struct Asked<'a> {
     pub(crate) who: &'a Who,
     pub(crate) q: u64,
@@ -56,33 +52,18 @@ fn is_sizing_of(on: FileId, call: Option<Told>) -> bool
     }
 }
 
-/// Whether an entry says ok to a `sync` of a file by an incarnation.
-fn is_ok_to_sync(tables: &Tables, whole: &[Entry], by: &Who, on: FileId, entry: &Entry) -> bool
+/// The call to which an entry says ok, if it is such an answer of an incarnation.
+fn call_of_ok(tables: &Tables, whole: &[Entry], by: &Who, entry: &Entry) -> Option<Told>
     requires tables { AreTables whole.now tables.now }
-    ensures { result ≡ is_ok_to (is_sync_of on) (reverse whole.now) by.now entry.now }
+    ensures { result ≡ call_of_ok (reverse whole.now) by.now entry.now }
 {
     match entry {
         Entry::A {
             who,
             q,
             said: Said::Ok,
-        } => *by == *who && is_sync_of(on, call_along(&tables.calls, whole, who, *q)),
-        _ => false,
-    }
-}
-
-/// Whether an entry says ok to a `resize` or `remove` of a file by an incarnation.
-fn is_ok_to_sizing(tables: &Tables, whole: &[Entry], by: &Who, on: FileId, entry: &Entry) -> bool
-    requires tables { AreTables whole.now tables.now }
-    ensures { result ≡ is_ok_to (is_sizing_of on) (reverse whole.now) by.now entry.now }
-{
-    match entry {
-        Entry::A {
-            who,
-            q,
-            said: Said::Ok,
-        } => *by == *who && is_sizing_of(on, call_along(&tables.calls, whole, who, *q)),
-        _ => false,
+        } if *by == *who => call_along(&tables.calls, whole, who, *q),
+        _ => None,
     }
 }
 
@@ -95,14 +76,12 @@ fn synced_before(
     by: &Who,
     on: FileId,
 ) -> usize
-    requires tables { AreTables whole.now tables.now }
-    requires within { place < length whole.now }
-    requires kept { KeepsBelow Synchronized whole.now place }
+    requires ready { IsReady whole.now place tables.now trail.now.delays }
     ensures low { result ≤ place }
     ensures known { are_stored_or_told (reverse whole.now) (reverse whole.now) (reverse (take result whole.now)) by.now on ≡ true }
 {
-    let at = head_at(&trail.synced, file_key(by, on));
-    if at < place && is_ok_to_sync(tables, whole, by, on, &whole[at]) {
+    let at = head_at(&trail.oks.synced, file_key(by, on));
+    if at < place && is_sync_of(on, call_of_ok(tables, whole, by, &whole[at])) {
         return at;
     }
     0
@@ -118,14 +97,13 @@ fn resized_before(
     by: &Who,
     on: FileId,
 ) -> usize
-    requires tables { AreTables whole.now tables.now }
-    requires within { (resize ≤ place) × (place < length whole.now) }
-    requires kept { KeepsBelow Synchronized whole.now place }
+    requires ready { IsReady whole.now place tables.now trail.now.delays }
+    requires upto { resize ≤ place }
     ensures low { result ≤ place }
     ensures known { are_stored_or_told (reverse whole.now) (reverse (take resize whole.now)) (reverse (take result whole.now)) by.now on ≡ true }
 {
-    let at = head_at(&trail.resized, file_key(by, on));
-    if at < resize && is_ok_to_sizing(tables, whole, by, on, &whole[at]) {
+    let at = head_at(&trail.oks.resized, file_key(by, on));
+    if at < resize && is_sizing_of(on, call_of_ok(tables, whole, by, &whole[at])) {
         return at;
     }
     0
@@ -141,10 +119,7 @@ pub(crate) fn is_sync_kept(
     by: &Who,
     on: FileId,
 ) -> bool
-    requires tables { AreTables whole.now tables.now }
-    requires linked { IsLinked Delays whole.now place trail.now.delays.heads.entries trail.now.delays.earlier.items }
-    requires within { place < length whole.now }
-    requires kept { KeepsBelow Synchronized whole.now place }
+    requires ready { IsReady whole.now place tables.now trail.now.delays }
     ensures { IsTrue result → are_stored_or_told (reverse whole.now) (reverse whole.now) (reverse (take place whole.now)) by.now on ≡ true }
 {
     let known = synced_before(tables, trail, whole, place, by, on);
@@ -167,10 +142,7 @@ pub(crate) fn is_resize_kept(
     asked: &Asked,
     on: FileId,
 ) -> bool
-    requires tables { AreTables whole.now tables.now }
-    requires linked { IsLinked Delays whole.now place trail.now.delays.heads.entries trail.now.delays.earlier.items }
-    requires within { place < length whole.now }
-    requires kept { KeepsBelow Synchronized whole.now place }
+    requires ready { IsReady whole.now place tables.now trail.now.delays }
     ensures { IsTrue result → somewhere (is_settled_resize (reverse whole.now) (reverse (take place whole.now)) asked.now.who.now asked.now.q on)
         (reverse (take place whole.now)) ≡ true }
 {

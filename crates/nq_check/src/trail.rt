@@ -18,22 +18,27 @@ use std::collections::HashMap;
 pub(crate) struct Trail {
     pub(crate) delays: Links,
     pub(crate) latests: Latests,
-    /// The last ok to a `sync` of each incarnation on a file.
+    pub(crate) oks: Oks,
+}
+
+/// The last ok of each incarnation on a file.
+#[derive(Drop)]
+pub(crate) struct Oks {
+    /// To a `sync`.
     pub(crate) synced: Heads,
-    /// The last ok to a `resize` or `remove`.
+    /// To a `resize` or `remove`.
     pub(crate) resized: Heads,
 }
 
 /// Keeps the place of an ok.
 fn keep_ok(
-    trail: &mut Trail,
+    oks: &mut Oks,
     tables: &Tables,
     whole: &[Entry],
     place: usize,
     entry: &Entry,
 ) -> Result<(), NoMemory>
     requires tables { AreTables whole.now tables.now }
-    ensures { trail.new.delays ≡ trail.old.delays }
 {
     let Entry::A {
         who,
@@ -47,9 +52,9 @@ fn keep_ok(
         return Ok(());
     };
     match told {
-        Told::Sync { file } => set_head(&mut trail.synced, file_key(who, file), place),
-        Told::Resize { file, .. } => set_head(&mut trail.resized, file_key(who, file), place),
-        Told::Remove { file } => set_head(&mut trail.resized, file_key(who, file), place),
+        Told::Sync { file } => set_head(&mut oks.synced, file_key(who, file), place),
+        Told::Resize { file, .. } => set_head(&mut oks.resized, file_key(who, file), place),
+        Told::Remove { file } => set_head(&mut oks.resized, file_key(who, file), place),
         _ => Ok(()),
     }
 }
@@ -69,7 +74,7 @@ pub(crate) fn take_in(
 {
     link_entry(&mut trail.delays, Kind::Delays, place, entry)?;
     note(&mut trail.latests, place, entry)?;
-    keep_ok(trail, tables, whole, place, entry)
+    keep_ok(&mut trail.oks, tables, whole, place, entry)
 }
 
 /// What is kept before the first entry.
@@ -82,7 +87,9 @@ pub(crate) fn no_trail(alloc: Global) -> Trail
             earlier: Vec::new(alloc),
         },
         latests: HashMap::new(alloc),
-        synced: HashMap::new(alloc),
-        resized: HashMap::new(alloc),
+        oks: Oks {
+            synced: HashMap::new(alloc),
+            resized: HashMap::new(alloc),
+        },
     }
 }

@@ -1,5 +1,4 @@
 //! Which entries account for the delayed writes that they cover.
-#![tactic(auto, using(crate::proofs::Backwards::last_first))]
 
 ghost use Rattle.std.specs.Prelude.{◌≡◌, reverse};
 ghost use Rattle.nq_model.specs.FateTest.{is_accounted_at, is_first_to_cover};
@@ -8,6 +7,7 @@ ghost use Rattle.nq_model.specs.JournalTest.{covers, each, exists};
 use crate::entries::covers;
 use nq_base::Entry;
 
+#[tactic(auto, using(crate::proofs::Backwards::last_first))]
 /// Whether an entry among these covers a write.
 fn is_covered(entries: &[Entry], write: &Entry) -> bool
     ensures { result ≡ exists (λ entry. covers entry write.now) (reverse entries.now) }
@@ -27,6 +27,7 @@ fn is_first_to_cover(before: &[Entry], entry: &Entry, write: &Entry) -> bool
     !covers(entry, write) || !is_covered(before, write)
 }
 
+#[tactic(auto, using(crate::proofs::Backwards::last_first))]
 /// Whether no write that an entry covers is covered before it.
 fn is_first_to_cover_all(whole: &[Entry], before: &[Entry], entry: &Entry) -> bool
     ensures { result ≡ each (is_first_to_cover (reverse before.now) entry.now) (reverse whole.now) }
@@ -39,6 +40,7 @@ fn is_first_to_cover_all(whole: &[Entry], before: &[Entry], entry: &Entry) -> bo
     all
 }
 
+#[tactic(auto, using(crate::proofs::Backwards::last_first))]
 /// Whether an entry covers a write.
 fn covers_some(whole: &[Entry], entry: &Entry) -> bool
     ensures { result ≡ exists (covers entry.now) (reverse whole.now) }

@@ -1,5 +1,4 @@
 //! Calls, and what they ask.
-#![tactic(auto, using(crate::proofs::Backwards::last_first))]
 
 ghost use Rattle.std.specs.Prelude.{◌≡◌, ◌≤◌, length, reverse, Some, None};
 ghost use Rattle.std.specs.List.{list_any};
@@ -12,30 +11,14 @@ ghost use Rattle.nq_model.specs.ReportedTest.{is_busy_answer, is_reporting};
 use crate::entries::{is_answer, is_busy_answer, is_call, told_by};
 use nq_base::{BlockNo, Entry, FileId, Told, Who};
 
-/// Whether a C of a call stands among the entries.
-pub fn is_called(entries: &[Entry], by: &Who, n: u64) -> bool
-    ensures { result ≡ exists (is_call by.now n) (reverse entries.now) }
-{
-    let mut found = false;
-    for entry in entries {
-        let here = is_call(entry, by, n);
-        found = here || found;
-    }
-    found
-}
-
 /// Whether an A of a call stands among the entries.
 pub fn is_answered(entries: &[Entry], by: &Who, n: u64) -> bool
     ensures { result ≡ exists (is_answer by.now n) (reverse entries.now) }
 {
-    let mut found = false;
-    for entry in entries {
-        let here = is_answer(entry, by, n);
-        found = here || found;
-    }
-    found
+    is_answered_near(entries, 0, by, n)
 }
 
+#[tactic(auto, using(crate::proofs::Backwards::last_first))]
 /// Whether an A `busy` of a call stands among the entries.
 pub fn is_busy(entries: &[Entry], by: &Who, n: u64) -> bool
     ensures { result ≡ exists (is_busy_answer by.now n) (reverse entries.now) }
@@ -81,6 +64,7 @@ fn is_called_near(entries: &[Entry], near: usize, by: &Who, n: u64) -> bool
     has_call(later, by, n) || has_call(earlier, by, n)
 }
 
+#[tactic(auto, using(crate::proofs::Backwards::last_first))]
 /// What a call asks, as its first C tells it.
 pub fn call_of(entries: &[Entry], by: &Who, n: u64) -> Option<Told>
     ensures { result ≡ call_of (reverse entries.now) by.now n }
@@ -98,7 +82,7 @@ pub fn call_of(entries: &[Entry], by: &Who, n: u64) -> Option<Told>
 pub fn is_open(before: &[Entry], by: &Who, n: u64) -> bool
     ensures { result ≡ is_open (reverse before.now) by.now n }
 {
-    is_called(before, by, n) && !is_answered(before, by, n)
+    is_open_near(before, 0, by, n)
 }
 
 /// The same, for a call whose C stands at a place.
@@ -120,6 +104,7 @@ pub fn is_open_call(before: &[Entry], place: usize, by: &Who, entry: &Entry) -> 
     }
 }
 
+#[tactic(auto, using(crate::proofs::Backwards::last_first))]
 /// Whether some call of the incarnation is open behind the entries.
 pub fn has_open(before: &[Entry], by: &Who) -> bool
     ensures { result ≡ has_open (reverse before.now) by.now }
@@ -132,6 +117,7 @@ pub fn has_open(before: &[Entry], by: &Who) -> bool
     found
 }
 
+#[tactic(auto, using(crate::proofs::Backwards::last_first))]
 /// The latest call of the incarnation that is open behind the entries.
 pub fn open_call(before: &[Entry], by: &Who) -> Option<u64>
     ensures { result ≡ open_call (reverse before.now) by.now (reverse before.now) }

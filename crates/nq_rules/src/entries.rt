@@ -185,7 +185,7 @@ pub fn is_delayed_on(entry: &Entry, by: &Who, on: FileId) -> bool
 }
 
 /// Delayed writes as an S or L tells them: those of an incarnation to a block with numbers from `first` to `last`.
-#[derive(Clone, Copy)]
+#[derive(Drop)]
 pub struct Extent<'a> {
     pub who: &'a Who,
     pub file: FileId,

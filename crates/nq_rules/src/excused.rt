@@ -1,5 +1,4 @@
 //! Which losses are excused: those of clients that were cut off beyond write slack.
-#![tactic(auto, using(crate::proofs::Backwards::last_first))]
 
 ghost use Rattle.std.specs.Prelude.{◌≡◌, ◌+◌, ◌<◌, reverse, nat_le, [], ◌∷◌};
 ghost use Rattle.std.specs.List.{list_any};
@@ -30,6 +29,7 @@ pub fn has_passed(since: Ticks, wait: u64, now: Ticks) -> bool
     since.0 <= now.0 && wait <= now.0 - since.0
 }
 
+#[tactic(auto, using(crate::proofs::Backwards::last_first))]
 /// The last grant to an incarnation on a file.
 fn last_grant(before: &[Entry], by: &Who, on: FileId) -> Option<Granted>
     ensures { given result ≡ last_grant (reverse before.now) by.now on }
@@ -74,6 +74,7 @@ fn is_store_over(entry: &Entry, by: &Who, on: FileId, at: Ticks) -> bool
     }
 }
 
+#[tactic(auto, using(crate::proofs::Backwards::last_first))]
 /// Whether write slack has passed since each S of the incarnation on the file.
 fn are_stores_over(before: &[Entry], by: &Who, on: FileId, at: Ticks) -> bool
     ensures { result ≡ each (is_store_over by.now on at) (reverse before.now) }
@@ -97,7 +98,7 @@ pub fn is_grant_over(grant: Option<Granted>, at: Ticks) -> bool
 }
 
 /// The end of a writing lease in silence, as its F tells it.
-#[derive(Clone, Copy)]
+#[derive(Drop)]
 struct Silence {
     until: Ticks,
     heard: Ticks,
@@ -132,6 +133,7 @@ pub fn is_long_wait(entry: &Entry, on_boot: u32, at: Ticks, grant: &Option<Grant
     }
 }
 
+#[tactic(auto, using(crate::proofs::Backwards::last_first))]
 /// Whether a boot has waited so long for a grant.
 fn has_waited(before: &[Entry], boot: u32, at: Ticks, grant: &Option<Granted>) -> bool
     ensures { result ≡ exists (is_long_wait boot at (given grant.now)) (reverse before.now) }
@@ -181,6 +183,7 @@ fn ends(before: &[Entry], by: &Who, on: FileId, entry: &Entry) -> bool
     }
 }
 
+#[tactic(auto, using(crate::proofs::Backwards::last_first))]
 /// Whether a lease ended before an L, and after each write that it covers. The latest entries are looked at first.
 fn ends_first(before: &[Entry], loss: &Entry, by: &Who, on: FileId) -> bool
     ensures { result ≡ ends_first loss.now by.now on (reverse before.now) }

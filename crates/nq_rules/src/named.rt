@@ -1,5 +1,4 @@
 //! Which losses are reported, and which names are of losses.
-#![tactic(auto, using(crate::proofs::Backwards::last_first))]
 
 ghost use Rattle.std.specs.Prelude.{◌≡◌, ◌+◌, ◌<◌, ◌≤◌, length, reverse, take, drop, Some, slice_get};
 ghost use Rattle.nq_rules.specs.Named.{is_named_at_once, is_reported, is_reported_at};
@@ -61,6 +60,7 @@ fn names(whole: &[Entry], by: &Who, loss: &Loss, entry: &Entry) -> bool
     }
 }
 
+#[tactic(auto, using(crate::proofs::Backwards::last_first))]
 /// Whether an A that names a loss stands among the entries.
 pub fn is_named(whole: &[Entry], entries: &[Entry], by: &Who, loss: &Loss) -> bool
     ensures { result ≡ exists (names (reverse whole.now) by.now loss.now) (reverse entries.now) }
@@ -164,6 +164,7 @@ fn is_unnamed(
     }
 }
 
+#[tactic(auto, using(crate::proofs::Backwards::last_first))]
 /// Whether such an L stands before.
 fn has_unnamed(
     whole: &[Entry],

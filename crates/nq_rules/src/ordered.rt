@@ -1,5 +1,4 @@
 //! Which entries stand in the order of their client's calls.
-#![tactic(auto, using(crate::proofs::Backwards::last_first))]
 
 ghost use Rattle.std.specs.Prelude.{◌≡◌, ◌≤◌, length, reverse};
 ghost use Rattle.nq_model.specs.JournalTest.{each, exists, is_call, throughout};
@@ -15,6 +14,7 @@ use nq_base::{BlockNo, Entry, FileId, Number, Said, Who};
 
 // ---- calls
 
+#[tactic(auto, using(crate::proofs::Backwards::last_first))]
 /// Whether the numbers of all calls of the incarnation are below one.
 fn are_below(before: &[Entry], by: &Who, n: u64) -> bool
     ensures { result ≡ each (is_call_below by.now n) (reverse before.now) }
@@ -65,6 +65,7 @@ fn is_no_other(before: &[Entry], place: usize, by: &Who, n: u64, entry: &Entry) 
     }
 }
 
+#[tactic(auto, using(crate::proofs::Backwards::last_first))]
 /// Whether no call of the incarnation but this one is open.
 pub fn is_alone(before: &[Entry], by: &Who, n: u64) -> bool
     ensures { result ≡ each (is_no_other (reverse before.now) by.now n) (reverse before.now) }
@@ -88,6 +89,7 @@ fn is_before_call(before: &[Entry], called: bool, by: &Who, n: u64, entry: &Entr
     }
 }
 
+#[tactic(auto, using(crate::proofs::Backwards::last_first))]
 /// Whether all writes of the incarnation stand before the C of a call.
 fn are_before_call(before: &[Entry], by: &Who, n: u64) -> bool
     ensures { result ≡ throughout (is_before_call by.now n) (reverse before.now) }
@@ -103,6 +105,7 @@ fn are_before_call(before: &[Entry], by: &Who, n: u64) -> bool
     all
 }
 
+#[tactic(auto, using(crate::proofs::Backwards::last_first))]
 /// Whether a write of the incarnation with this number stands among the entries.
 fn has_numbered(before: &[Entry], by: &Who, n: Number) -> bool
     ensures { result ≡ exists (is_numbered by.now n) (reverse before.now) }
@@ -116,7 +119,7 @@ fn has_numbered(before: &[Entry], by: &Who, n: Number) -> bool
 }
 
 /// A write, as its W tells it.
-#[derive(Clone, Copy)]
+#[derive(Drop)]
 struct Writing<'a> {
     who: &'a Who,
     file: FileId,
@@ -152,6 +155,7 @@ fn is_write_in_order(before: &[Entry], write: &Writing) -> bool
 
 // ---- resizes, removals and reads
 
+#[tactic(auto, using(crate::proofs::Backwards::last_first))]
 /// Whether a Z of a call stands among the entries.
 fn is_resized(before: &[Entry], by: &Who, n: u64) -> bool
     ensures { result ≡ exists (is_resize_by by.now n) (reverse before.now) }
@@ -171,6 +175,7 @@ fn is_resize_in_order(before: &[Entry], by: &Who, n: u64, on: FileId, to: u32) -
     is_open(before, by, n) && resizes(on, to, call_of(before, by, n)) && !is_resized(before, by, n)
 }
 
+#[tactic(auto, using(crate::proofs::Backwards::last_first))]
 /// Whether a counted read of a call stands among the entries.
 fn has_counted(whole: &[Entry], before: &[Entry], by: &Who, n: u64) -> bool
     ensures { result ≡ exists (is_counted_by (reverse whole.now) by.now n) (reverse before.now) }

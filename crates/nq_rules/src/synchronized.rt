@@ -1,5 +1,4 @@
 //! Which answers that say ok are kept.
-#![tactic(auto, using(crate::proofs::Backwards::last_first))]
 
 ghost use Rattle.std.specs.Prelude.{◌≡◌, reverse};
 ghost use Rattle.nq_rules.specs.Kept.{is_kept, is_kept_at, is_put_kept, is_write_of_call};
@@ -37,6 +36,7 @@ fn is_write_of_call(before: &[Entry], opened: bool, by: &Who, n: u64, entry: &En
     }
 }
 
+#[tactic(auto, using(crate::proofs::Backwards::last_first))]
 /// Whether the write of an answered `put` stands among the entries and is through, or stored before the answer.
 fn is_put_kept(before: &[Entry], by: &Who, n: u64) -> bool
     ensures { result ≡ somewhere (is_put_kept (reverse before.now) by.now n) (reverse before.now) }
@@ -82,6 +82,7 @@ fn is_named_loss(whole: &[Entry], answered: &[Entry], write: &Entry, entry: &Ent
     }
 }
 
+#[tactic(auto, using(crate::proofs::Backwards::last_first))]
 /// Whether an L covers a write, and an A before the answer names it.
 fn is_told(whole: &[Entry], answered: &[Entry], write: &Entry) -> bool
     ensures { result ≡ exists (is_named_loss (reverse whole.now) (reverse answered.now) write.now) (reverse whole.now) }
@@ -107,6 +108,7 @@ fn is_stored_or_told(
     is_stored(stores, place, write) || is_told(whole, answered, write)
 }
 
+#[tactic(auto, using(crate::proofs::Backwards::last_first))]
 /// Whether it is so with each delayed write of an incarnation on a file before the answer.
 fn are_stored_or_told(
     whole: &[Entry],
@@ -146,6 +148,7 @@ fn is_settled_resize(
     }
 }
 
+#[tactic(auto, using(crate::proofs::Backwards::last_first))]
 /// Whether the Z of a call stands among the entries, with each such write settled before it.
 fn is_resize_kept(whole: &[Entry], before: &[Entry], by: &Who, n: u64, on: FileId) -> bool
     ensures { result ≡ somewhere (is_settled_resize (reverse whole.now) (reverse before.now) by.now n on) (reverse before.now) }

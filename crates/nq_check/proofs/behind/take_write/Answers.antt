@@ -11,5 +11,5 @@ returns-in_ok-set_mark-in-W c =
     let low : c.below_highest-low.result ≡ 18446744073709551615 - s.number = search rules in
     let less : c.mark_at.result < c.below_highest-low.result = c.if-low-mark_at.true in
     subst (λ e. TakesWrite 18446744073709551615 e old new) (sym s.is)
-    (lowered 18446744073709551615 c.spot-at.result c.below_highest-low.result s.who s.file s.block s.number s.value s.through old new c.spot-at.ensures
+    (lowered 18446744073709551615 c.own_key-at.result c.below_highest-low.result s.who s.file s.block s.number s.value s.through old new c.own_key-at.ensures
     low (subst (λ n. n < c.below_highest-low.result) c.mark_at.ensures less) c.in_ok-set_mark-in-W.ensures)

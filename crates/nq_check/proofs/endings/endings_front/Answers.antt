@@ -1,8 +1,15 @@
-use Rattle.std.proofs.Common.{rules, ◌≡◌, true, length, refl}
+use Rattle.std.proofs.Common.{rules, ◌≡◌, true, length, refl, arith}
 use Rattle.std.proofs.lemmas.Option.{slice_get_read}
 use Rattle.nq_check.specs.Losses.{is_ended}
 use Rattle.nq_check.proofs.Passing.{pass_up}
 use Rattle.nq_check.proofs.endings.endings_front.Goals as goal
+
+pub is_ended_at-requires-clause-linked : goal.is_ended_at-requires-clause-linked
+is_ended_at-requires-clause-linked c = record {
+  leases = c.in_ok-leases.ensures;
+  rises = λ early late x y a b there_x there_y. c.rising_front-rising.ensures early late x y a (omega arith) there_x there_y;
+  within = c.loop-place-test.true;
+}
 
 pub loop-place-preserved : goal.loop-place-preserved
 loop-place-preserved c =

@@ -16,8 +16,14 @@ loop-place-init c =
           c.no_trail-trail.ensures.1,
     )
 
-pub is_kept_at-requires-clause-ordered : goal.is_kept_at-requires-clause-ordered
-is_kept_at-requires-clause-ordered c = keeps_less Ordered c.args.whole.now c.args.ordered (c.loop-place.place + 1) c.requires.ordered (omega arith)
+pub is_kept_at-requires-clause-ready : goal.is_kept_at-requires-clause-ready
+is_kept_at-requires-clause-ready c = record {
+  tables = c.requires.tables;
+  within = c.loop-place-test.true;
+  ordered = keeps_less Ordered c.args.whole.now c.args.ordered (c.loop-place.place + 1) c.requires.ordered (omega arith);
+  kept = c.loop-place.invariant.0;
+  linked = c.loop-place.invariant.1;
+}
 
 pub loop-place-preserved : goal.loop-place-preserved
 loop-place-preserved c =

@@ -6,14 +6,11 @@ pub returns : goal.returns
 returns c =
     let named = c.in_ok-names.names.front in
     let told = c.in_ok-reported.reported in
-    let over = c.in_ok-behind.behind in
     let ended = c.in_ok-ended.ended in
-    let front = c.lower-3.result in
-    let a : c.lower.result ≤ named = c.lower.ensures.0 in
-    let b : c.lower.result ≤ told = c.lower.ensures.1 in
-    let d : c.lower-2.result ≤ over = c.lower-2.ensures.0 in
-    let e : c.lower-2.result ≤ ended = c.lower-2.ensures.1 in
-    let f : front ≤ c.lower.result = c.lower-3.ensures.0 in
-    let g : front ≤ c.lower-2.result = c.lower-3.ensures.1 in
-    all_below c.args.whole.now named told over ended front c.in_ok-names.ensures c.in_ok-reported.ensures c.in_ok-behind.ensures c.in_ok-ended.ensures
-    (omega arith) (omega arith) (omega arith) (omega arith)
+    let front = c.lower-2.result in
+    let a : c.lower.result ≤ told = c.lower.ensures.0 in
+    let b : c.lower.result ≤ ended = c.lower.ensures.1 in
+    let d : front ≤ named = c.lower-2.ensures.0 in
+    let e : front ≤ c.lower.result = c.lower-2.ensures.1 in
+    all_below c.args.whole.now named told told ended front c.in_ok-names.ensures c.in_ok-reported.ensures.told c.in_ok-reported.ensures.over
+    c.in_ok-ended.ensures (omega arith) (omega arith) (omega arith) (omega arith)

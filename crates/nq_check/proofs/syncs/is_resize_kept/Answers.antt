@@ -9,7 +9,7 @@ returns c =
     let place = c.args.place in
     let at = c.latest_of-at.result.resize in
     let below : at < place = c.if-at-place.false in
-    let within : place < length whole = c.requires.within in
+    let within : place < length whole = c.requires.ready.within in
     let there = slice_get_read whole (length whole) at c.index-whole-at.result refl (omega arith) c.index-whole-at.is in
     λ t. resize_kept whole at place c.args.asked.now.who.now c.args.asked.now.q c.args.on c.index-whole-at.result below (omega arith) there
     (sym c.is_resize_by.ensures ∙ c.if-not-is_resize_by.false) (c.are_settled.ensures t)

@@ -1,0 +1,13 @@
+use Rattle.std.proofs.Common.{◌≡◌, ◌≤◌, ◌+◌, length, reverse, take}
+use Rattle.nq_model.specs.JournalTest.{number_of}
+use Rattle.nq_model.specs.LegalTest.{is_counted_with}
+use Rattle.nq_check.proofs.legal.is_legal_answer.Given as goal
+
+abbrev pub invariant-loop-at : goal.invariant-loop-at
+invariant-loop-at l =
+    (l.number + l.at ≤ length l.whole)
+    × (number_of (is_counted_with (reverse l.whole) l.by l.n l.v) (reverse l.whole) ≡ number_of (is_counted_with (reverse l.whole) l.by l.n l.v)
+    (reverse (take l.at l.whole)) + l.number)
+
+abbrev pub decreases-loop-at : goal.decreases-loop-at
+decreases-loop-at l = l.at
