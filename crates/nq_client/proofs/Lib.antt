@@ -4,6 +4,7 @@ pub mod Counts
 pub mod Fitting
 pub mod Grants
 pub mod InPlace
+pub mod Needs
 pub mod Outcomes
 pub mod Received
 pub mod Replied

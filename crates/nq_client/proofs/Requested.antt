@@ -201,7 +201,7 @@ choice_by : {X : Type 0} (Q : X → Type 0) (b : Bool) (x y : X) → (b ≡ true
 choice_by Q true x y p q = p refl
 choice_by Q false x y p q = q refl
 
-skipped : {X : Type 0} (b : Bool) (x y : X) → b ≡ true → (if b then x else y) ≡ x
+pub skipped : {X : Type 0} (b : Bool) (x y : X) → b ≡ true → (if b then x else y) ≡ x
 skipped true x y h = refl
 skipped false x y h = absurd cc
 
@@ -219,7 +219,7 @@ stage-renews true t =
     (λ h. quiet t)
     (λ h. choice (Stage t) (nat_le t.client.pause t.client.now) _ _ (renewed t (renewed_file t.client) h) (quiet t))
 
-stays-renews : (in_tick : Bool) (t : ClientStep) → is_asking t ≡ true → then_renews in_tick t ≡ t
+pub stays-renews : (in_tick : Bool) (t : ClientStep) → is_asking t ≡ true → then_renews in_tick t ≡ t
 stays-renews false t h = refl
 stays-renews true t h = skipped (is_asking t) _ _ h
 

@@ -1,13 +1,94 @@
--- What the call under way asks for, in the steps of the code.
-use Rattle.std.specs.Prelude.{ℕ, Bool, ◌||◌, List, if◌then◌else◌}
+-- What a client needs to send next, in the steps of the code.
+use Rattle.std.specs.Prelude.{ℕ, Bool, ◌||◌, List, Option, Some, None, nat_le, if◌then◌else◌}
+use Rattle.std.specs.Bool.{then_some}
+use Rattle.std.specs.Option.{option_or}
+use Rattle.nq_base.specs.declared.Call.{Call}
+use Rattle.nq_base.specs.declared.Call.TheVariants.{Create, Lookup, Attr, Read, Fetch, Write, WriteSync, Sync, Resize, Remove}
 use Rattle.nq_base.specs.declared.Mode.{Mode}
+use Rattle.nq_base.specs.declared.Push.{Push}
 use Rattle.nq_base.specs.declared.Request.{Request}
-use Rattle.nq_model.specs.Client.{ClientStep, for_call, lease_on}
-use Rattle.nq_model.specs.Send.{sends_request, sends_write, shares_live, want_of}
+use Rattle.nq_base.specs.declared.Want.{Want}
+use Rattle.nq_base.specs.declared.Who.{Who}
+use Rattle.nq_client.specs.Settling.{called_body}
+use Rattle.nq_client.specs.declared.asking.Need.{Need}
+use Rattle.nq_model.specs.Client.{Client, ClientStep, UnderWay, for_call, is_clean_in, lease_on}
+use Rattle.nq_model.specs.Send.{after_seq, ending_file, gives_up, noticed_file, pushes, read_want, sends_request, sends_write, shares_live, then_renews, want_of}
+use Rattle.nq_wire.specs.Request.{HasSpelling}
+
+-- a file is pushed where it has delayed writes
+abbrev pub push_for : (file : ℕ) → List Push → Option Push → Option Need
+push_for file dirty push = if is_clean_in file dirty push then None else Some (Need.Push file)
+
+-- likewise the file of a push that is due, if there is one
+abbrev pub push_due : List Push → Option Push → Option ℕ → Option Need
+push_due dirty push None = None
+push_due dirty push (Some file) = push_for file dirty push
 
 -- a write that was not delayed goes through where it is to or where a non-caching lease runs, else a lease is wanted
-abbrev pub writes_or_asks : ClientStep → (through : Bool) (file block : ℕ) (body : List ℕ) → ClientStep
-writes_or_asks t through file block body =
-    if through || shares_live t.client.now (lease_on file t.client.leases)
-    then sends_write t file block body
-    else sends_request t for_call (Request.GetLease t.client.who file (want_of t.client Mode.Writing))
+abbrev pub write_need : Client → (through : Bool) (file block : ℕ) → Need
+write_need c through file block =
+    if through || shares_live c.now (lease_on file c.leases)
+    then Need.Write file block
+    else Need.Ask (Request.GetLease c.who file (want_of c Mode.Writing))
+
+-- a put: its file is pushed where its write was delayed, else the write goes through
+abbrev pub put_need : (file block : ℕ) → List Push → Option Push → (written may_ask : Bool) → Option Need
+put_need file block dirty push written may_ask =
+    if written then push_for file dirty push else then_some may_ask (Need.Write file block)
+
+-- a resize or removal: the file is pushed until it is clean; then its lease is given up, and the request is sent
+abbrev pub change_need : (file : ℕ) → List Push → Option Push → (may_ask : Bool) → Request → Option Need
+change_need file dirty push may_ask request =
+    if is_clean_in file dirty push then then_some may_ask (Need.Change file request) else Some (Need.Push file)
+
+-- the READ of a call
+abbrev pub read_need : Who → (call file block : ℕ) → Option Want → Need
+read_need who call file block want = Need.Ask (Request.Read who call file block want)
+
+-- what the call under way needs, by what it is
+abbrev pub need_by : Client → UnderWay → (may_ask : Bool) → Call → Option Need
+need_by c u may_ask (Create name blocks) = then_some may_ask (Need.Order (Request.Create c.who c.seq name blocks))
+need_by c u may_ask (Lookup name) = then_some may_ask (Need.Ask (Request.Lookup c.who name))
+need_by c u may_ask (Attr file) = then_some may_ask (Need.Ask (Request.GetAttr c.who file))
+need_by c u may_ask (Read file block) = then_some may_ask (read_need c.who u.q file block (read_want c file))
+need_by c u may_ask (Fetch file block) = then_some may_ask (read_need c.who u.q file block None)
+need_by c u may_ask (Write file block body) = then_some may_ask (write_need c u.through file block)
+need_by c u may_ask (WriteSync file block body) = put_need file block c.dirty c.push u.written may_ask
+need_by c u may_ask (Sync file) = push_for file c.dirty c.push
+need_by c u may_ask (Resize file blocks) =
+    change_need file c.dirty c.push may_ask (Request.Resize c.who c.seq u.q file blocks)
+need_by c u may_ask (Remove file) = change_need file c.dirty c.push may_ask (Request.Remove c.who c.seq u.q file)
+
+-- what the call under way needs, if there is one
+abbrev pub need_of : Client → Option UnderWay → Option Need
+need_of c None = None
+need_of c (Some u) = need_by c u (nat_le c.pause c.now) u.call
+
+-- what is sent next where no request is under way, renewals apart: a push for the least file with a notice; else one for
+-- the least file whose lease is about to end; else what the call needs
+abbrev pub next : Client → Option Need
+next c =
+    option_or
+    (push_due c.dirty c.push (noticed_file c))
+    (option_or (push_due c.dirty c.push (ending_file c)) (need_of c c.call))
+
+-- what is needed is sent
+abbrev pub meets : ClientStep → Need → ClientStep
+meets t (Need.Push file) = pushes t file
+meets t (Need.Write file block) = sends_write t file block (called_body t.client.call)
+meets t (Need.Ask request) = sends_request t for_call request
+meets t (Need.Order request) = sends_request (after_seq t) for_call request
+meets t (Need.Change file request) = sends_request (after_seq (gives_up t file)) for_call request
+
+-- where nothing is needed, a lease may be renewed
+abbrev pub meets_or_renews : (in_tick : Bool) → ClientStep → Option Need → ClientStep
+meets_or_renews in_tick t None = then_renews in_tick t
+meets_or_renews in_tick t (Some need) = meets t need
+
+-- the request that is needed has a spelling
+abbrev pub IsSpelled : Need → Type 0
+IsSpelled (Need.Push file) = Unit {0}
+IsSpelled (Need.Write file block) = Unit {0}
+IsSpelled (Need.Ask request) = HasSpelling request
+IsSpelled (Need.Order request) = HasSpelling request
+IsSpelled (Need.Change file request) = HasSpelling request

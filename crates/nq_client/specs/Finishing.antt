@@ -2,6 +2,8 @@
 use Rattle.std.specs.Prelude.{◌≡◌, ◌≤◌, ◌++◌, ℕ, true, List, All, map}
 use Rattle.nq_base.specs.declared.Party.{Party}
 use Rattle.nq_client_parts.specs.Entries.{Tells}
+use Rattle.nq_client.specs.State.{client_of}
+use Rattle.nq_client.specs.Step.{IsBegun}
 use Rattle.nq_client.specs.declared.finishing.Letters.{Letters}
 use Rattle.nq_client.specs.declared.rooms.Rooms.{Rooms}
 use Rattle.nq_client.specs.declared.step.Step.{Step}
@@ -42,3 +44,17 @@ pub record HasRoomFor (entries : ℕ) (s : Step) (out : Datagrams) (log : EntryL
   pub block : 1 ≤ s.state.dirty.spare
   pub places : 2 ≤ out.spare
   pub entries_told : entries ≤ log.spare
+
+-- there is memory for all that a step may want
+pub record IsSupplied (entries : ℕ) (s : Step) (l : Letters) (out : Datagrams) (log : EntryList) : Type 0 where
+  pub letters : HasLetters l
+  pub rooms : HasRooms l.rooms
+  pub room : HasRoomFor entries s out log
+
+-- a client between steps, an outbox and a journal are as before
+pub record IsKept (old new : Step) (out outs : Datagrams) (log logs : EntryList) : Type 0 where
+  pub begun : IsBegun new
+  pub client : client_of new.state ≡ client_of old.state
+  pub first : outs.first ≡ out.first
+  pub datagrams : outs.datagrams ≡ out.datagrams
+  pub entries : logs.entries ≡ log.entries

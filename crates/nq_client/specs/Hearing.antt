@@ -1,5 +1,5 @@
 -- What a client makes of a notice, in the steps of the code.
-use Rattle.std.specs.Prelude.{◌≡◌, ℕ, ◌≤◌, ◌+◌, Bool, false, Option, Some, None}
+use Rattle.std.specs.Prelude.{◌≡◌, ℕ, ◌≤◌, ◌<◌, ◌+◌, ◌^◌, Bool, false, Option, Some, None}
 use Rattle.nq_client.specs.declared.step.Step.{Step}
 use Rattle.nq_model.specs.Client.{Ticket}
 use Rattle.nq_model.specs.Hear.{wants_of}
@@ -8,6 +8,12 @@ use Rattle.nq_model.specs.Hear.{wants_of}
 abbrev pub is_wanted : (file : ℕ) → Option Ticket → Bool
 is_wanted file None = false
 is_wanted file (Some t) = wants_of file t.request
+
+-- nothing is sent yet, and the number of a request is left
+pub record IsSilent (s : Step) : Type 0 where
+  pub asks : s.asks ≡ false
+  pub first : s.vacated ≡ None
+  pub xid : s.state.xid + 1 < 2 ^ 32
 
 -- what stays where a lease is given up for a notice: it takes at most one number of a request
 pub record GivesUp (old new : Step) : Type 0 where

@@ -32,14 +32,15 @@ ended t q answer said = record t {
   answer = Some answer;
 }
 
--- a read was answered from what the client has, with a block of this number: the lease was used
-abbrev pub tells_read : ClientStep → (q file block value : ℕ) → ClientStep
-tells_read t q file block value = record t {
+-- a read is answered with a block that the client has: the lease was used
+abbrev pub tells_read : ClientStep → (q file block : ℕ) → (body : List ℕ) → ClientStep
+tells_read t q file block body = record t {
   client = record t.client { call = None; leases = used_lease file t.client.leases };
   entries =
-      Entry.A t.client.who q (Said.OkValue value)
-      ∷ Entry.R t.client.who q file block value None
+      Entry.A t.client.who q (Said.OkValue (value_of body))
+      ∷ Entry.R t.client.who q file block (value_of body) None
       ∷ t.entries;
+  answer = Some (Answer.Ok (Value.Body body));
   cached = true;
 }
 

@@ -1,20 +1,42 @@
 //! Answers to the call under way that a reply brings.
 
-ghost use Rattle.std.specs.Prelude.{◌≡◌, ◌≤◌, ◌+◌, ◌<◌, ◌^◌, None, Some};
-ghost use Rattle.nq_base.specs.Block.{value_of};
+ghost use Rattle.std.specs.Prelude.{◌≡◌, ◌≤◌, ◌<◌, ◌^◌, None};
 ghost use Rattle.nq_base.specs.Plain.{plain_answer, plain_said};
 ghost use Rattle.nq_base.specs.declared.Answer.TheVariants.{Ok as ok};
-ghost use Rattle.nq_base.specs.declared.Value.{Value};
-ghost use Rattle.nq_model.specs.Hear.{answer_of, answers_call, attached, knows_revision, marks_through, pauses};
+ghost use Rattle.nq_model.specs.Hear.{answer_of, answers_call, marks_through, pauses};
+ghost use Rattle.nq_model.specs.Settle.{said_body, said_value};
 ghost use Rattle.nq_client.specs.Answering.{answers_as};
 ghost use Rattle.nq_client.specs.Prepared.{Leaves};
 ghost use Rattle.nq_client.specs.Step.{step_of};
 
 use crate::step::Step;
-use nq_base::{Answer, Block, FileId, Refusal, Rev, Said, Ticks, Value};
+use nq_base::{Answer, Block, Refusal, Said, Ticks, Value};
 
 /// So long a client pauses after a request was put off, in ticks.
 const PATIENCE: u64 = 2;
+
+/// What an answer brings, as a journal tells it.
+fn said_value(value: &Value, served: Option<u64>) -> Said
+    ensures { plain_said result ≡ said_value value.now served }
+{
+    match value {
+        Value::Nothing => Said::Ok,
+        Value::File(file) => Said::OkValue(file.0),
+        Value::Blocks(blocks) => Said::OkValue(*blocks),
+        Value::Body(body) => said_body(body, served),
+    }
+}
+
+/// A block that was read, as a journal tells it: one that the server served names its packet.
+fn said_body(body: &Block, served: Option<u64>) -> Said
+    ensures { plain_said result ≡ said_body body.now served }
+{
+    let value = body.value();
+    match served {
+        Some(packet) => Said::OkBy { value, packet },
+        None => Said::OkValue(value),
+    }
+}
 
 impl Step {
     /// Answers the call under way, if there is one.
@@ -32,45 +54,15 @@ impl Step {
         }
     }
 
-    /// Answers the call under way with what it is done with.
+    /// Answers the call under way with what it brings; the server sent a block in the packet of this number.
     #[tactic(auto, unfolding(nq_model::specs::Settle::answers))]
-    pub(crate) fn answers_nothing(&mut self)
+    pub(crate) fn answers_value(&mut self, value: Value, served: Option<u64>)
         requires { 1 ≤ self.old.entries.spare }
-        ensures step { step_of self.new ≡ answers_call (step_of self.old) (ok Value.Nothing) None }
+        ensures step { step_of self.new ≡ answers_call (step_of self.old) (ok value) served }
         ensures left { Leaves 1 self.old self.new }
     {
-        self.answers_as(Answer::Ok(Value::Nothing), Said::Ok);
-    }
-
-    /// Answers the call under way with the id of a file.
-    #[tactic(auto, unfolding(nq_model::specs::Settle::answers))]
-    pub(crate) fn answers_file(&mut self, file: FileId)
-        requires { 1 ≤ self.old.entries.spare }
-        ensures step { step_of self.new ≡ answers_call (step_of self.old) (ok (Value.File file)) None }
-        ensures left { Leaves 1 self.old self.new }
-    {
-        self.answers_as(Answer::Ok(Value::File(file)), Said::OkValue(file.0));
-    }
-
-    /// Answers the call under way with the length of a file.
-    #[tactic(auto, unfolding(nq_model::specs::Settle::answers))]
-    pub(crate) fn answers_blocks(&mut self, blocks: u32)
-        requires { 1 ≤ self.old.entries.spare }
-        ensures step { step_of self.new ≡ answers_call (step_of self.old) (ok (Value.Blocks blocks)) None }
-        ensures left { Leaves 1 self.old self.new }
-    {
-        self.answers_as(Answer::Ok(Value::Blocks(blocks)), Said::OkValue(blocks));
-    }
-
-    /// Answers the call under way with a block that the server sent in the packet of this number.
-    #[tactic(auto, unfolding(nq_model::specs::Settle::answers))]
-    pub(crate) fn answers_body(&mut self, body: Block, packet: u64)
-        requires { 1 ≤ self.old.entries.spare }
-        ensures step { step_of self.new ≡ answers_call (step_of self.old) (ok (Value.Body body)) (Some packet) }
-        ensures left { Leaves 1 self.old self.new }
-    {
-        let value = body.value();
-        self.answers_as(Answer::Ok(Value::Body(body)), Said::OkBy { value, packet });
+        let said = said_value(&value, served);
+        self.answers_as(Answer::Ok(value), said);
     }
 
     /// Answers the call under way with what a refusal means.
@@ -113,24 +105,5 @@ impl Step {
     {
         self.state.pause = Ticks(self.state.time.0 + PATIENCE);
         self.marks_through(false);
-    }
-
-    /// The server knows this incarnation.
-    #[tactic(auto, unfolding(nq_model::specs::Hear::attached))]
-    pub(crate) fn is_attached(&mut self)
-        ensures step { step_of self.new ≡ attached (step_of self.old) }
-        ensures left { Leaves 0 self.old self.new }
-    {
-        self.state.attached = true;
-    }
-
-    /// A file has this revision.
-    #[tactic(auto, unfolding(nq_model::specs::Hear::knows_revision))]
-    pub(crate) fn knows_revision(&mut self, file: FileId, rev: Rev)
-        requires { 1 ≤ self.old.state.cache.spare }
-        ensures step { step_of self.new ≡ knows_revision (step_of self.old) file rev }
-        ensures left { Leaves 0 self.old self.new }
-    {
-        self.state.cache.retag(file, rev).unwrap();
     }
 }

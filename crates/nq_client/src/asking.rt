@@ -1,23 +1,31 @@
-//! The request that the call under way needs.
+//! What a client needs to send next, where no request is under way.
 
-ghost use Rattle.std.specs.Prelude.{◌≡◌, ◌+◌, ◌<◌, ◌^◌, Some, None, true, false, is_some, IsTrue, IfSome, if◌then◌else◌};
-ghost use Rattle.nq_base.specs.declared.Request.{Request};
-ghost use Rattle.nq_model.specs.Client.{for_call, lease_on};
-ghost use Rattle.nq_model.specs.Send.{asks, next_change, next_put, read_want, sends_request, sends_write, shares_live, then_calls, want_of, after_seq, gives_up};
+ghost use Rattle.std.specs.Prelude.{◌≡◌, ◌<◌, ◌^◌, nat_le};
+ghost use Rattle.nq_model.specs.Client.{lease_on};
+ghost use Rattle.nq_model.specs.Send.{read_want, shares_live, want_of};
 ghost use Rattle.nq_client_parts.specs.HoldingLeases.{lease_of};
-ghost use Rattle.nq_wire.specs.Parts.{IsWanted};
-ghost use Rattle.nq_wire.specs.Request.{HasSpelling};
-ghost use Rattle.nq_client.specs.Asking.{writes_or_asks};
-ghost use Rattle.nq_client.specs.Settling.{called_body};
-ghost use Rattle.nq_client.specs.State.{client_of};
-ghost use Rattle.nq_client.specs.Step.{HasNumbers, step_of};
+ghost use Rattle.nq_client.specs.Asking.{change_need, need_by, need_of, next, push_due, push_for, put_need, read_need, write_need};
+ghost use Rattle.nq_client.specs.State.{client_of, under_way};
 
-use crate::settling::called_body;
-use crate::state::State;
-use crate::step::Step;
-use nq_base::{BlockNo, Call, FileId, Mode, Name, Number, Request, Seq, Spare, Ticks, Want};
-use nq_client_parts::Job;
+use crate::state::{State, UnderWay};
+use nq_base::{BlockNo, Call, FileId, Mode, Request, Ticks, Want};
 use nq_client_parts::holding::Held;
+use nq_dirty::Dirty;
+
+/// What a client needs to send.
+#[derive(Drop)]
+pub(crate) enum Need {
+    /// Delayed writes of a file, which has some.
+    Push(FileId),
+    /// The WRITE of the call under way, which goes through.
+    Write(FileId, BlockNo),
+    /// A request of the call under way that takes no sequence.
+    Ask(Request),
+    /// A request of the call under way that takes the next sequence.
+    Order(Request),
+    /// Likewise, once the lease on the file is given up.
+    Change(FileId, Request),
+}
 
 /// Whether a live non-caching lease is held.
 fn shares(held: &Held, now: Ticks) -> bool
@@ -26,6 +34,55 @@ fn shares(held: &Held, now: Ticks) -> bool
     match held {
         Held::NonCaching(_) => held.live(now),
         Held::Nothing | Held::Reading(_) | Held::Writing(_) => false,
+    }
+}
+
+/// A push of a file, if it has delayed writes.
+fn push_for(dirty: &Dirty, file: FileId) -> Option<Need>
+    ensures { result ≡ push_for file dirty.now.dirty dirty.now.push }
+{
+    if dirty.is_clean(file) {
+        None
+    } else {
+        Some(Need::Push(file))
+    }
+}
+
+/// A push that is due, if its file has delayed writes.
+fn push_due(dirty: &Dirty, file: Option<FileId>) -> Option<Need>
+    ensures { result ≡ push_due dirty.now.dirty dirty.now.push file }
+{
+    match file {
+        Some(file) => push_for(dirty, file),
+        None => None,
+    }
+}
+
+/// A put: its file is pushed where its write was delayed, else the write goes through.
+fn put_need(
+    dirty: &Dirty,
+    file: FileId,
+    block: BlockNo,
+    written: bool,
+    may_ask: bool,
+) -> Option<Need>
+    ensures { result ≡ put_need file block dirty.now.dirty dirty.now.push written may_ask }
+{
+    if written {
+        push_for(dirty, file)
+    } else {
+        may_ask.then_some(Need::Write(file, block))
+    }
+}
+
+/// A resize or removal: the file is pushed until it is clean; then its lease is given up, and the request is sent.
+fn change_need(dirty: &Dirty, file: FileId, may_ask: bool, request: Request) -> Option<Need>
+    ensures { result ≡ change_need file dirty.now.dirty dirty.now.push may_ask request }
+{
+    if dirty.is_clean(file) {
+        may_ask.then_some(Need::Change(file, request))
+    } else {
+        Some(Need::Push(file))
     }
 }
 
@@ -49,8 +106,7 @@ impl State {
 
     /// What a read wants: a reading lease, and none where a non-caching lease runs.
     fn read_want(&self, file: FileId) -> Option<Want>
-        ensures want { result ≡ read_want (client_of self.now) file }
-        ensures wanted { IfSome result (λ w. IsWanted w.mode) }
+        ensures { result ≡ read_want (client_of self.now) file }
     {
         if self.is_shared(file) {
             None
@@ -58,354 +114,98 @@ impl State {
             Some(self.want(Mode::Reading))
         }
     }
-}
 
-impl Step {
-    /// Sends a request that takes the next sequence.
-    #[tactic(auto, unfolding(nq_model::specs::Send::after_seq))]
-    fn sends_in_order(&mut self, request: Request)
-        requires idle { self.old.state.asked ≡ None }
-        requires time { self.old.state.time < 2 ^ 62 }
-        requires seq { self.old.state.seq + 1 < 2 ^ 64 }
-        requires xid { self.old.state.xid + 1 < 2 ^ 32 }
-        requires spelled { HasSpelling request }
-        ensures step { step_of self.new ≡ sends_request (after_seq (step_of self.old)) for_call request }
-        ensures sent { is_some self.new.state.asked ≡ true }
+    /// A write that was not delayed goes through where it is to or where a non-caching lease runs, else a lease is wanted.
+    fn write_need(&self, through: bool, file: FileId, block: BlockNo) -> Need
+        ensures { result ≡ write_need (client_of self.now) through file block }
     {
-        self.state.seq = Seq(self.state.seq.0 + 1);
-        self.sends_request(Job::ForCall, request);
-    }
-
-    /// Sends a WRITE of the block of the call under way, which goes through.
-    #[tactic(auto, unfolding(nq_model::specs::Send::after_seq, nq_model::specs::Send::after_number))]
-    fn sends_write(&mut self, file: FileId, block: BlockNo, room: &mut Spare)
-        requires block { room.old ≡ true }
-        requires idle { self.old.state.asked ≡ None }
-        requires numbers { HasNumbers 1 self.old.state }
-        ensures step { step_of self.new ≡ sends_write (step_of self.old) file block (called_body (step_of self.old).client.call) }
-        ensures sent { is_some self.new.state.asked ≡ true }
-    {
-        let body = called_body(&self.state.call, room);
-        let number = self.state.number;
-        let seq = self.state.seq;
-        self.state.number = Number(number.0 + 1);
-        self.sends_in_order(Request::Write {
-            who: self.state.who,
-            seq,
-            file,
-            block,
-            first: number,
-            last: number,
-            push: None,
-            body,
-        });
-    }
-
-    /// A write that was not delayed goes through where it is to or where a non-caching lease runs, else a lease is wanted;
-    /// whether a request was sent.
-    fn next_write(
-        &mut self,
-        may_ask: bool,
-        through: bool,
-        file: FileId,
-        block: BlockNo,
-        room: &mut Spare,
-    ) -> bool
-        requires block { room.old ≡ true }
-        requires idle { self.old.state.asked ≡ None }
-        requires numbers { HasNumbers 1 self.old.state }
-        ensures step { step_of self.new ≡ (if may_ask then writes_or_asks (step_of self.old) through file block (called_body (step_of self.old).client.call) else step_of self.old) }
-        ensures sent { IsTrue result → is_some self.new.state.asked ≡ true }
-        ensures quiet { result ≡ false → self.new ≡ self.old }
-        ensures kept { result ≡ false → room.new ≡ room.old }
-    {
-        if !may_ask {
-            return false;
+        if through || self.is_shared(file) {
+            return Need::Write(file, block);
         }
-        if through || self.state.is_shared(file) {
-            self.sends_write(file, block, room);
-        } else {
-            self.asks_for_writing(file);
-        }
-        true
+        let who = self.who;
+        let want = self.want(Mode::Writing);
+        Need::Ask(Request::GetLease { who, file, want })
     }
 
-    /// Asks for a writing lease.
-    fn asks_for_writing(&mut self, file: FileId)
-        requires idle { self.old.state.asked ≡ None }
-        requires numbers { HasNumbers 1 self.old.state }
-        ensures step { step_of self.new ≡ sends_request (step_of self.old) for_call (Request.GetLease self.old.state.who file (want_of (client_of self.old.state) Mode.Writing)) }
-        ensures sent { is_some self.new.state.asked ≡ true }
+    /// What a call needs that is under way. Where the client pauses, it needs a push at most.
+    fn need_by(&self, u: &UnderWay) -> Option<Need>
+        ensures { result ≡ need_by (client_of self.now) (under_way u.now) (nat_le self.now.pause self.now.time) u.now.call }
     {
-        let want = self.state.want(Mode::Writing);
-        let who = self.state.who;
-        self.sends_request(Job::ForCall, Request::GetLease { who, file, want });
-    }
-
-    /// A put: its file is pushed where its write was delayed, else the write goes through; whether a request was sent.
-    fn next_put(
-        &mut self,
-        written: bool,
-        may_ask: bool,
-        file: FileId,
-        block: BlockNo,
-        room: &mut Spare,
-    ) -> bool
-        requires block { room.old ≡ true }
-        requires idle { self.old.state.asked ≡ None }
-        requires none { self.old.state.dirty.push ≡ None }
-        requires numbers { HasNumbers 1 self.old.state }
-        ensures step { step_of self.new ≡ next_put (step_of self.old) written may_ask file block (called_body (step_of self.old).client.call) }
-        ensures sent { IsTrue result → is_some self.new.state.asked ≡ true }
-        ensures quiet { result ≡ false → self.new ≡ self.old }
-        ensures kept { result ≡ false → room.new ≡ room.old }
-    {
-        if written {
-            return self.pushes(file, room);
-        }
-        if may_ask {
-            self.sends_write(file, block, room);
-        }
-        may_ask
-    }
-
-    /// Gives the lease on a file up, with its clean blocks, and sends a request that changes the file.
-    #[tactic(auto, unfolding(nq_model::specs::Send::gives_up))]
-    fn sends_change(&mut self, file: FileId, request: Request)
-        requires idle { self.old.state.asked ≡ None }
-        requires numbers { HasNumbers 1 self.old.state }
-        requires spelled { HasSpelling request }
-        ensures step { step_of self.new ≡ sends_request (after_seq (gives_up (step_of self.old) file)) for_call request }
-        ensures sent { is_some self.new.state.asked ≡ true }
-    {
-        self.state.leases.remove(file);
-        self.state.cache.purge(file);
-        self.sends_in_order(request);
-    }
-
-    /// A resize or removal: the file is pushed until it is clean; then its lease is given up, and the request is sent.
-    fn next_change(
-        &mut self,
-        may_ask: bool,
-        file: FileId,
-        request: Request,
-        room: &mut Spare,
-    ) -> bool
-        requires block { room.old ≡ true }
-        requires idle { self.old.state.asked ≡ None }
-        requires none { self.old.state.dirty.push ≡ None }
-        requires numbers { HasNumbers 1 self.old.state }
-        requires spelled { HasSpelling request }
-        ensures step { step_of self.new ≡ next_change (step_of self.old) may_ask file request }
-        ensures sent { IsTrue result → is_some self.new.state.asked ≡ true }
-        ensures quiet { result ≡ false → self.new ≡ self.old }
-        ensures kept { result ≡ false → room.new ≡ room.old }
-    {
-        if !self.state.dirty.is_clean(file) {
-            return self.pushes(file, room);
-        }
-        if may_ask {
-            self.sends_change(file, request);
-        }
-        may_ask
-    }
-
-    /// CREATE, unless the client pauses; whether it was sent.
-    fn creates(&mut self, may_ask: bool, name: Name, blocks: u32) -> bool
-        requires idle { self.old.state.asked ≡ None }
-        requires numbers { HasNumbers 1 self.old.state }
-        ensures step { step_of self.new ≡ (if may_ask then sends_request (after_seq (step_of self.old)) for_call (Request.Create self.old.state.who self.old.state.seq name blocks) else step_of self.old) }
-        ensures sent { IsTrue result → is_some self.new.state.asked ≡ true }
-        ensures quiet { result ≡ false → self.new ≡ self.old }
-    {
-        if may_ask {
-            let who = self.state.who;
-            let seq = self.state.seq;
-            self.sends_in_order(Request::Create {
+        let may_ask = self.pause <= self.time;
+        let (who, seq, call) = (self.who, self.seq, u.q);
+        match u.call {
+            Call::Create { name, blocks } => may_ask.then_some(Need::Order(Request::Create {
                 who,
                 seq,
                 name,
                 blocks,
-            });
+            })),
+            Call::Lookup { name } => may_ask.then_some(Need::Ask(Request::Lookup { who, name })),
+            Call::Attr { file } => may_ask.then_some(Need::Ask(Request::GetAttr { who, file })),
+            Call::Read { file, block } => {
+                may_ask.then_some(self.read(call, file, block, self.read_want(file)))
+            }
+            Call::Fetch { file, block } => may_ask.then_some(self.read(call, file, block, None)),
+            Call::Write { file, block, .. } => {
+                may_ask.then_some(self.write_need(u.through, file, block))
+            }
+            Call::WriteSync { file, block, .. } => {
+                put_need(&self.dirty, file, block, u.written, may_ask)
+            }
+            Call::Sync { file } => push_for(&self.dirty, file),
+            Call::Resize { file, blocks } => {
+                let request = Request::Resize {
+                    who,
+                    seq,
+                    call,
+                    file,
+                    blocks,
+                };
+                change_need(&self.dirty, file, may_ask, request)
+            }
+            Call::Remove { file } => {
+                let request = Request::Remove {
+                    who,
+                    seq,
+                    call,
+                    file,
+                };
+                change_need(&self.dirty, file, may_ask, request)
+            }
         }
-        may_ask
     }
 
-    /// LOOKUP, unless the client pauses; whether it was sent.
-    fn looks_up(&mut self, may_ask: bool, name: Name) -> bool
-        requires idle { self.old.state.asked ≡ None }
-        requires numbers { HasNumbers 1 self.old.state }
-        ensures step { step_of self.new ≡ asks (step_of self.old) may_ask (Request.Lookup self.old.state.who name) }
-        ensures sent { IsTrue result → is_some self.new.state.asked ≡ true }
-        ensures quiet { result ≡ false → self.new ≡ self.old }
+    /// The READ of a call.
+    fn read(&self, call: u64, file: FileId, block: BlockNo, want: Option<Want>) -> Need
+        ensures { result ≡ read_need self.now.who call file block want }
     {
-        if may_ask {
-            let who = self.state.who;
-            self.sends_request(Job::ForCall, Request::Lookup { who, name });
-        }
-        may_ask
-    }
-
-    /// GETATTR, unless the client pauses; whether it was sent.
-    fn measures(&mut self, may_ask: bool, file: FileId) -> bool
-        requires idle { self.old.state.asked ≡ None }
-        requires numbers { HasNumbers 1 self.old.state }
-        ensures step { step_of self.new ≡ asks (step_of self.old) may_ask (Request.GetAttr self.old.state.who file) }
-        ensures sent { IsTrue result → is_some self.new.state.asked ≡ true }
-        ensures quiet { result ≡ false → self.new ≡ self.old }
-    {
-        if may_ask {
-            let who = self.state.who;
-            self.sends_request(Job::ForCall, Request::GetAttr { who, file });
-        }
-        may_ask
-    }
-
-    /// Sends the READ of a call.
-    fn sends_read(&mut self, q: u64, file: FileId, block: BlockNo, want: Option<Want>)
-        requires idle { self.old.state.asked ≡ None }
-        requires numbers { HasNumbers 1 self.old.state }
-        requires wanted { IfSome want (λ w. IsWanted w.mode) }
-        ensures step { step_of self.new ≡ sends_request (step_of self.old) for_call (Request.Read self.old.state.who q file block want) }
-        ensures sent { is_some self.new.state.asked ≡ true }
-    {
-        self.sends_request(
-            Job::ForCall,
-            Request::Read {
-                who: self.state.who,
-                call: q,
-                file,
-                block,
-                want,
-            },
-        );
-    }
-
-    /// READ with what a read wants, unless the client pauses; whether it was sent.
-    fn reads(&mut self, may_ask: bool, q: u64, file: FileId, block: BlockNo) -> bool
-        requires idle { self.old.state.asked ≡ None }
-        requires numbers { HasNumbers 1 self.old.state }
-        ensures step { step_of self.new ≡ asks (step_of self.old) may_ask (Request.Read self.old.state.who q file block (read_want (client_of self.old.state) file)) }
-        ensures sent { IsTrue result → is_some self.new.state.asked ≡ true }
-        ensures quiet { result ≡ false → self.new ≡ self.old }
-    {
-        if may_ask {
-            let want = self.state.read_want(file);
-            self.sends_read(q, file, block, want);
-        }
-        may_ask
-    }
-
-    /// READ without a want, unless the client pauses; whether it was sent.
-    fn fetches(&mut self, may_ask: bool, q: u64, file: FileId, block: BlockNo) -> bool
-        requires idle { self.old.state.asked ≡ None }
-        requires numbers { HasNumbers 1 self.old.state }
-        ensures step { step_of self.new ≡ asks (step_of self.old) may_ask (Request.Read self.old.state.who q file block None) }
-        ensures sent { IsTrue result → is_some self.new.state.asked ≡ true }
-        ensures quiet { result ≡ false → self.new ≡ self.old }
-    {
-        if may_ask {
-            self.sends_read(q, file, block, None);
-        }
-        may_ask
-    }
-
-    /// A resize: the file is pushed until it is clean, and then RESIZE is sent; whether a request was sent.
-    fn resizes(
-        &mut self,
-        may_ask: bool,
-        q: u64,
-        file: FileId,
-        blocks: u32,
-        room: &mut Spare,
-    ) -> bool
-        requires block { room.old ≡ true }
-        requires idle { self.old.state.asked ≡ None }
-        requires none { self.old.state.dirty.push ≡ None }
-        requires numbers { HasNumbers 1 self.old.state }
-        ensures step { step_of self.new ≡ next_change (step_of self.old) may_ask file (Request.Resize self.old.state.who self.old.state.seq q file blocks) }
-        ensures sent { IsTrue result → is_some self.new.state.asked ≡ true }
-        ensures quiet { result ≡ false → self.new ≡ self.old }
-        ensures kept { result ≡ false → room.new ≡ room.old }
-    {
-        let who = self.state.who;
-        let seq = self.state.seq;
-        let request = Request::Resize {
-            who,
-            seq,
-            call: q,
+        Need::Ask(Request::Read {
+            who: self.who,
+            call,
             file,
-            blocks,
-        };
-        self.next_change(may_ask, file, request, room)
+            block,
+            want,
+        })
     }
 
-    /// A removal: the file is pushed until it is clean, and then REMOVE is sent; whether a request was sent.
-    fn removes(&mut self, may_ask: bool, q: u64, file: FileId, room: &mut Spare) -> bool
-        requires block { room.old ≡ true }
-        requires idle { self.old.state.asked ≡ None }
-        requires none { self.old.state.dirty.push ≡ None }
-        requires numbers { HasNumbers 1 self.old.state }
-        ensures step { step_of self.new ≡ next_change (step_of self.old) may_ask file (Request.Remove self.old.state.who self.old.state.seq q file) }
-        ensures sent { IsTrue result → is_some self.new.state.asked ≡ true }
-        ensures quiet { result ≡ false → self.new ≡ self.old }
-        ensures kept { result ≡ false → room.new ≡ room.old }
+    /// What the call under way needs, if there is one.
+    fn need_of(&self) -> Option<Need>
+        ensures { result ≡ need_of (client_of self.now) (client_of self.now).call }
     {
-        let who = self.state.who;
-        let seq = self.state.seq;
-        let request = Request::Remove {
-            who,
-            seq,
-            call: q,
-            file,
-        };
-        self.next_change(may_ask, file, request, room)
-    }
-
-    /// The next request of the call under way, if there is one; whether one was sent.
-    pub(crate) fn calls(&mut self, room: &mut Spare) -> bool
-        requires block { room.old ≡ true }
-        requires idle { self.old.state.asked ≡ None }
-        requires none { self.old.state.dirty.push ≡ None }
-        requires numbers { HasNumbers 1 self.old.state }
-        ensures step { step_of self.new ≡ then_calls (step_of self.old) }
-        ensures sent { IsTrue result → is_some self.new.state.asked ≡ true }
-        ensures quiet { result ≡ false → self.new ≡ self.old }
-        ensures kept { result ≡ false → room.new ≡ room.old }
-    {
-        let may_ask = self.state.pause <= self.state.time;
-        match &self.state.call {
-            Some(u) => match u.call {
-                Call::Create { name, blocks } => self.creates(may_ask, name, blocks),
-                Call::Lookup { name } => self.looks_up(may_ask, name),
-                Call::Attr { file } => self.measures(may_ask, file),
-                Call::Read { file, block } => {
-                    let q = u.q;
-                    self.reads(may_ask, q, file, block)
-                }
-                Call::Fetch { file, block } => {
-                    let q = u.q;
-                    self.fetches(may_ask, q, file, block)
-                }
-                Call::Write { file, block, .. } => {
-                    let through = u.through;
-                    self.next_write(may_ask, through, file, block, room)
-                }
-                Call::WriteSync { file, block, .. } => {
-                    let written = u.written;
-                    self.next_put(written, may_ask, file, block, room)
-                }
-                Call::Sync { file } => self.pushes(file, room),
-                Call::Resize { file, blocks } => {
-                    let q = u.q;
-                    self.resizes(may_ask, q, file, blocks, room)
-                }
-                Call::Remove { file } => {
-                    let q = u.q;
-                    self.removes(may_ask, q, file, room)
-                }
-            },
-            None => false,
+        match &self.call {
+            Some(u) => self.need_by(u),
+            None => None,
         }
+    }
+
+    /// What is sent next, renewals apart: a push for the least file with a notice; else one for the least file whose lease is
+    /// about to end; else what the call under way needs.
+    pub(crate) fn next(&self) -> Option<Need>
+        requires { self.now.time < 2 ^ 62 }
+        ensures { result ≡ next (client_of self.now) }
+    {
+        let noticed = push_due(&self.dirty, self.notices.first());
+        let ending = push_due(&self.dirty, self.leases.ending(self.time, &self.dirty));
+        noticed.or(ending.or(self.need_of()))
     }
 }

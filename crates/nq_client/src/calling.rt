@@ -2,11 +2,12 @@
 
 ghost use Rattle.std.specs.Prelude.{◌≡◌, ◌≤◌, ◌<◌, ◌+◌, ◌^◌, map, false, IfOk};
 ghost use Rattle.nq_model.specs.Client.{begun, losses_of, span_of};
-ghost use Rattle.nq_model.specs.ClientStep.{begins_call, call_freely, changed_file, client_call, is_called, losses_for, says_busy, tell_losses};
+ghost use Rattle.nq_model.specs.ClientStep.{begins_call, call_freely, changed_file, client_call, losses_for, says_busy, tell_losses};
 ghost use Rattle.nq_base.specs.Calls.{told};
 ghost use Rattle.nq_model.specs.Settle.{names_losses};
 ghost use Rattle.nq_client.specs.Finishing.{HasRooms};
 ghost use Rattle.nq_client.specs.Step.{HasNumbers, HasRoom, step_of};
+ghost use Rattle.nq_client.specs.Losing.{Keeps};
 ghost use Rattle.nq_client.specs.Prepared.{Leaves};
 ghost use Rattle.nq_client.specs.Calling.{HasRoomToCall, IsNamedFor};
 ghost use Rattle.nq_client.specs.Tied.{Tied};
@@ -134,15 +135,15 @@ impl Step {
         requires spans { named.spans.items ≡ map span_of (losses_of file self.old.state.losses.items) }
         ensures step { step_of self.new ≡ names_losses (step_of self.old) q file }
         ensures left { Leaves 1 self.old self.new }
-        ensures leases { self.old.state.leases.spare ≤ self.new.state.leases.spare }
-        ensures cache { self.new.state.cache ≡ self.old.state.cache }
+        ensures kept { Keeps self.old self.new }
     {
         self.state.losses.forget(file);
         let Named { losses, spans } = named;
         self.ends_call(q, Answer::Lost(losses), Said::Lost(spans));
     }
 
-    /// A call of a client that has none under way, and that is told of no losses.
+    /// A call of a client that has none under way, and that is told of no losses: it is under way.
+    #[tactic(auto, unfolding(nq_model::specs::ClientStep::is_called))]
     fn call_freely(&mut self, call: Call, rooms: &mut Rooms)
         requires rooms { HasRooms rooms.old }
         requires room { HasRoom self.old }
@@ -150,29 +151,15 @@ impl Step {
         requires tied { Tied self.old.state.asked self.old.state.dirty.push }
         ensures { step_of self.new ≡ call_freely (step_of self.old) call }
     {
-        self.is_called(call);
-        self.settle(&mut rooms.kept);
-        if !self.cached {
-            self.send_next(false, &mut rooms.sent);
-        }
-    }
-
-    /// The call is under way.
-    #[tactic(auto, unfolding(nq_model::specs::ClientStep::is_called))]
-    fn is_called(&mut self, call: Call)
-        requires room { HasRoom self.old }
-        requires numbers { HasNumbers 2 self.old.state }
-        ensures step { step_of self.new ≡ is_called (step_of self.old) call }
-        ensures room { HasRoom self.new }
-        ensures numbers { HasNumbers 2 self.new.state }
-        ensures asked { self.new.state.asked ≡ self.old.state.asked }
-        ensures dirty { self.new.state.dirty ≡ self.old.state.dirty }
-    {
         self.state.call = Some(UnderWay {
             q: self.state.calls,
             call,
             through: false,
             written: false,
         });
+        self.settle(&mut rooms.kept);
+        if !self.cached {
+            self.send_next(false, &mut rooms.sent);
+        }
     }
 }

@@ -1,17 +1,15 @@
 //! Requests of the call under way that were done.
 
-ghost use Rattle.std.specs.Prelude.{◌≡◌, ◌≤◌, ◌<◌, ◌+◌, ◌^◌, ℕ, List, Option, OnOk, OnErr};
-ghost use Rattle.nq_base.specs.declared.PushBase.{PushBase};
-ghost use Rattle.nq_base.specs.declared.Request.{Request};
-ghost use Rattle.nq_base.specs.declared.Want.{Want};
-ghost use Rattle.nq_base.specs.declared.Who.{Who};
-ghost use Rattle.nq_model.specs.Hear.{done_for_call, lease_done, read_done};
+ghost use Rattle.std.specs.Prelude.{◌≡◌, ◌≤◌, ◌<◌, ◌^◌, None, OnOk, OnErr};
+ghost use Rattle.nq_base.specs.declared.Answer.TheVariants.{Ok as ok};
+ghost use Rattle.nq_base.specs.declared.Value.{Value};
+ghost use Rattle.nq_model.specs.Hear.{answers_call, done_for_call, knows_revision, lease_done, read_done};
 ghost use Rattle.nq_client.specs.Prepared.{IsPrepared, Leaves};
 ghost use Rattle.nq_client.specs.Receiving.{file_at_stake};
 ghost use Rattle.nq_client.specs.Step.{HasRoom, step_of};
 
 use crate::step::Step;
-use nq_base::{Block, BlockNo, FileId, Grant, NoMemory, Reply, Request, Ticks};
+use nq_base::{Block, BlockNo, FileId, Grant, NoMemory, Reply, Request, Rev, Ticks, Value};
 use nq_client_parts::lets_cache;
 
 impl Step {
@@ -33,7 +31,7 @@ impl Step {
     {
         let answer = body.copied(self.state.alloc)?;
         self.takes_read(file, block, body, grant, sent)?;
-        self.answers_body(answer, packet);
+        self.answers_value(Value::Body(answer), Some(packet));
         Ok(())
     }
 
@@ -57,125 +55,16 @@ impl Step {
         Ok(())
     }
 
-    /// LOOKUP was done.
-    fn looked_up(&mut self, reply: &Reply)
-        requires { 1 ≤ self.old.entries.spare }
-        ensures step { (who : Who) (name : List ℕ) (packet sent : ℕ) → step_of self.new ≡ done_for_call (step_of self.old) packet sent (Request.Lookup who name) reply.now }
-        ensures left { Leaves 1 self.old self.new }
-    {
-        match reply {
-            Reply::Lookup { file, .. } => self.answers_file(*file),
-            _ => {}
-        }
-    }
-
-    /// CREATE was done.
-    fn created(&mut self, reply: &Reply)
-        requires { 1 ≤ self.old.entries.spare }
-        ensures step { (who : Who) (seq : ℕ) (name : List ℕ) (blocks packet sent : ℕ) → step_of self.new ≡ done_for_call (step_of self.old) packet sent (Request.Create who seq name blocks) reply.now }
-        ensures left { Leaves 1 self.old self.new }
-    {
-        match reply {
-            Reply::Create { file, .. } => self.answers_file(*file),
-            _ => {}
-        }
-    }
-
-    /// GETATTR was done.
-    fn measured(&mut self, reply: &Reply)
-        requires { 1 ≤ self.old.entries.spare }
-        ensures step { (who : Who) (file packet sent : ℕ) → step_of self.new ≡ done_for_call (step_of self.old) packet sent (Request.GetAttr who file) reply.now }
-        ensures left { Leaves 1 self.old self.new }
-    {
-        match reply {
-            Reply::GetAttr { blocks, .. } => self.answers_blocks(*blocks),
-            _ => {}
-        }
-    }
-
-    /// READ was done.
-    fn was_read(
-        &mut self,
-        file: FileId,
-        block: BlockNo,
-        sent: Ticks,
-        packet: u64,
-        reply: &Reply,
-    ) -> Result<(), NoMemory>
-        requires prepared { IsPrepared file self.old }
-        requires sent { sent < 2 ^ 62 }
-        ensures done { OnOk result ((who : Who) (q : ℕ) (want : Option Want) → step_of self.new ≡ done_for_call (step_of self.old) packet sent (Request.Read who q file block want) reply.now) }
-        ensures room { OnOk result (HasRoom self.new) }
-        ensures refused { OnErr result (self.new ≡ self.old) }
-    {
-        match reply {
-            Reply::Read { body, grant, .. } => {
-                self.read_done(file, block, body, grant, sent, packet)
-            }
-            _ => Ok(()),
-        }
-    }
-
-    /// GETLEASE was done.
-    fn was_leased(&mut self, file: FileId, sent: Ticks, reply: &Reply) -> Result<(), NoMemory>
-        requires prepared { IsPrepared file self.old }
-        requires sent { sent < 2 ^ 62 }
-        ensures done { OnOk result ((who : Who) (want : Want) (packet : ℕ) → step_of self.new ≡ done_for_call (step_of self.old) packet sent (Request.GetLease who file want) reply.now) }
-        ensures room { OnOk result (HasRoom self.new) }
-        ensures refused { OnErr result (self.new ≡ self.old) }
-    {
-        match reply {
-            Reply::GetLease { grant, .. } => self.lease_done(file, grant, sent),
-            _ => Ok(()),
-        }
-    }
-
-    /// A WRITE that goes through was done.
-    fn was_written(
-        &mut self,
-        file: FileId,
-        block: BlockNo,
-        body: &Block,
-        reply: &Reply,
-    ) -> Result<(), NoMemory>
+    /// RESIZE was done: the file has this revision, and the call is answered.
+    #[tactic(auto, unfolding(nq_model::specs::Hear::knows_revision))]
+    fn resized(&mut self, file: FileId, rev: Rev)
         requires entries { 1 ≤ self.old.entries.spare }
         requires revision { 1 ≤ self.old.state.cache.spare }
-        ensures done { OnOk result ((who : Who) (seq first last packet sent : ℕ) (push : Option PushBase) → step_of self.new ≡ done_for_call (step_of self.old) packet sent (Request.Write who seq file block first last push body.now) reply.now) }
-        ensures left { OnOk result (Leaves 1 self.old self.new) }
-        ensures refused { OnErr result (self.new ≡ self.old) }
-    {
-        match reply {
-            Reply::Write { rev, .. } => self.write_done(file, block, body, *rev),
-            _ => Ok(()),
-        }
-    }
-
-    /// RESIZE was done.
-    fn resized(&mut self, file: FileId, reply: &Reply)
-        requires entries { 1 ≤ self.old.entries.spare }
-        requires revision { 1 ≤ self.old.state.cache.spare }
-        ensures step { (who : Who) (seq q blocks packet sent : ℕ) → step_of self.new ≡ done_for_call (step_of self.old) packet sent (Request.Resize who seq q file blocks) reply.now }
+        ensures step { step_of self.new ≡ answers_call (knows_revision (step_of self.old) file rev) (ok Value.Nothing) None }
         ensures left { Leaves 1 self.old self.new }
     {
-        match reply {
-            Reply::Resize { rev, .. } => {
-                self.knows_revision(file, *rev);
-                self.answers_nothing();
-            }
-            _ => {}
-        }
-    }
-
-    /// REMOVE was done.
-    fn removed(&mut self, reply: &Reply)
-        requires { 1 ≤ self.old.entries.spare }
-        ensures step { (who : Who) (seq q file packet sent : ℕ) → step_of self.new ≡ done_for_call (step_of self.old) packet sent (Request.Remove who seq q file) reply.now }
-        ensures left { Leaves 1 self.old self.new }
-    {
-        match reply {
-            Reply::Remove { .. } => self.answers_nothing(),
-            _ => {}
-        }
+        self.state.cache.retag(file, rev).unwrap();
+        self.answers_value(Value::Nothing, None);
     }
 
     /// The request of the call under way was done. It was first sent at `sent`, and its reply is the packet of this number.
@@ -197,21 +86,45 @@ impl Step {
         ensures refused { OnErr result (self.new ≡ self.old) }
     {
         match request {
-            Request::Lookup { .. } => self.looked_up(reply),
-            Request::Create { .. } => self.created(reply),
-            Request::GetAttr { .. } => self.measured(reply),
-            Request::Resize { file, .. } => self.resized(*file, reply),
-            Request::Remove { .. } => self.removed(reply),
-            Request::Read { file, block, .. } => {
-                return self.was_read(*file, *block, sent, packet, reply);
-            }
-            Request::GetLease { file, .. } => return self.was_leased(*file, sent, reply),
+            Request::Lookup { .. } => match reply {
+                Reply::Lookup { file, .. } => self.answers_value(Value::File(*file), None),
+                _ => {}
+            },
+            Request::Create { .. } => match reply {
+                Reply::Create { file, .. } => self.answers_value(Value::File(*file), None),
+                _ => {}
+            },
+            Request::GetAttr { .. } => match reply {
+                Reply::GetAttr { blocks, .. } => self.answers_value(Value::Blocks(*blocks), None),
+                _ => {}
+            },
+            Request::Resize { file, .. } => match reply {
+                Reply::Resize { rev, .. } => self.resized(*file, *rev),
+                _ => {}
+            },
+            Request::Remove { .. } => match reply {
+                Reply::Remove { .. } => self.answers_value(Value::Nothing, None),
+                _ => {}
+            },
+            Request::Read { file, block, .. } => match reply {
+                Reply::Read { body, grant, .. } => {
+                    return self.read_done(*file, *block, body, grant, sent, packet);
+                }
+                _ => {}
+            },
+            Request::GetLease { file, .. } => match reply {
+                Reply::GetLease { grant, .. } => return self.lease_done(*file, grant, sent),
+                _ => {}
+            },
             Request::Write {
                 file,
                 block,
                 body,
                 ..
-            } => return self.was_written(*file, *block, body, reply),
+            } => match reply {
+                Reply::Write { rev, .. } => return self.write_done(*file, *block, body, *rev),
+                _ => {}
+            },
             Request::Null
             | Request::Attach { .. }
             | Request::Vacated { .. }

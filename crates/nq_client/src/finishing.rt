@@ -5,7 +5,7 @@ ghost use Rattle.nq_base.specs.Plain.{plain_answer};
 ghost use Rattle.nq_datagrams.specs.Messages.{FitsMessage};
 ghost use Rattle.nq_model.specs.Message.{call};
 ghost use Rattle.nq_wire.specs.Request.{HasSpelling};
-ghost use Rattle.nq_client.specs.Finishing.{Grows, HasLetters, HasRoomFor, HasRooms, longest_call, to_server};
+ghost use Rattle.nq_client.specs.Finishing.{Grows, HasLetters, HasRooms, longest_call, to_server};
 ghost use Rattle.nq_client.specs.Outcome.{IsHeard, or_pending};
 ghost use Rattle.nq_client.specs.Step.{IsBegun, request_message, step_of, vacated_message};
 
@@ -78,26 +78,16 @@ fn post_vacated(
     ensures spare { out.old.spare ≤ out.new.spare + 1 }
 {
     match vacated {
-        Some(vacated) => post_vacancy(letter, alloc, who, &vacated, out),
+        Some(vacated) => {
+            let request = Request::Vacated {
+                who,
+                file: vacated.vacancy.file(),
+                tag: vacated.vacancy.tag(),
+            };
+            post(letter, alloc, vacated.xid, &request, out);
+        }
         None => {}
     }
-}
-
-/// Sends this vacated message.
-fn post_vacancy(letter: &mut Letter, alloc: Global, who: Who, vacated: &Vacated, out: &mut Outbox)
-    requires bytes { longest_call ≤ letter.old }
-    requires place { 1 ≤ out.old.spare }
-    ensures first { out.new.first ≡ out.old.first }
-    ensures sent { out.new.datagrams ≡ out.old.datagrams ++ map to_server (vacated_message who (Some vacated.now)) }
-    ensures fit { All FitsMessage (vacated_message who (Some vacated.now)) }
-    ensures spare { out.old.spare ≤ out.new.spare + 1 }
-{
-    let request = Request::Vacated {
-        who,
-        file: vacated.vacancy.file(),
-        tag: vacated.vacancy.tag(),
-    };
-    post(letter, alloc, vacated.xid, &request, out);
 }
 
 /// Sends the request under way, if the step sends it.
@@ -122,28 +112,6 @@ fn post_request(
 }
 
 impl Step {
-    /// Makes room for so many entries, for a block that becomes dirty and for what may be sent.
-    pub(crate) fn reserve(
-        &mut self,
-        entries: usize,
-        out: &mut Outbox,
-        log: &mut Journal,
-    ) -> Result<(), NoMemory>
-        ensures step { step_of self.new ≡ step_of self.old }
-        ensures vacated { self.new.vacated ≡ self.old.vacated }
-        ensures asks { self.new.asks ≡ self.old.asks }
-        ensures answer { self.new.answer ≡ self.old.answer }
-        ensures first { out.new.first ≡ out.old.first }
-        ensures datagrams { out.new.datagrams ≡ out.old.datagrams }
-        ensures entries { log.new.entries ≡ log.old.entries }
-        ensures room { OnOk result (HasRoomFor entries self.new out.new log.new) }
-    {
-        self.entries.reserve(entries)?;
-        self.state.dirty.reserve(1)?;
-        out.reserve(2)?;
-        log.reserve(entries)
-    }
-
     /// Gives what the step gave but for its answer: its datagrams and entries go to an outbox and a journal that have room for
     /// them.
     #[tactic(auto, using(crate::proofs::Fitting::fit_both))]

@@ -6,14 +6,14 @@ ghost use Rattle.nq_model.specs.Table.{same_who};
 ghost use Rattle.nq_client.specs.Finishing.{HasRooms};
 ghost use Rattle.nq_client.specs.Hearing.{is_wanted};
 ghost use Rattle.nq_client.specs.Prepared.{IsPrepared};
-ghost use Rattle.nq_client.specs.Receiving.{Counts, IsHeeded, at_stake, on_call, on_heard, on_notice, on_reply};
+ghost use Rattle.nq_client.specs.Receiving.{IsHeeded, at_stake, on_call, on_heard};
 ghost use Rattle.nq_client.specs.State.{client_of};
 ghost use Rattle.nq_client.specs.Step.{HasNumbers, HasRoom, IsBegun, step_of};
 ghost use Rattle.nq_client.specs.Tied.{Tied};
 
 use crate::rooms::Rooms;
 use crate::step::Step;
-use nq_base::{FileId, NoMemory, Reply, Request, Tag, Who};
+use nq_base::{FileId, NoMemory, Request, Who};
 use nq_client_parts::{Asked, wants};
 use nq_datagrams::Heard;
 
@@ -71,21 +71,6 @@ impl Step {
         self.send_next(false, &mut rooms.sent);
     }
 
-    /// Takes a notice in that counts.
-    fn hears_notice(&mut self, file: FileId, tag: Tag, rooms: &mut Rooms)
-        requires rooms { HasRooms rooms.old }
-        requires begun { IsBegun self.old }
-        requires room { HasRoom self.old }
-        requires notices { 1 ≤ self.old.state.notices.spare }
-        requires tied { Tied self.old.state.asked self.old.state.dirty.push }
-        requires numbers { HasNumbers 3 self.old.state }
-        ensures { step_of self.new ≡ on_notice (client_of self.old.state) file tag }
-    {
-        self.cancels(file);
-        self.evicted(file, tag);
-        self.goes_on(rooms);
-    }
-
     /// Takes a call of the server in, of which a notice alone counts.
     fn hears_call(&mut self, request: &Request, rooms: &mut Rooms)
         requires rooms { HasRooms rooms.old }
@@ -97,25 +82,13 @@ impl Step {
         ensures { step_of self.new ≡ on_call (client_of self.old.state) request.now }
     {
         match request {
-            Request::Evicted { file, tag, .. } => self.hears_notice(*file, *tag, rooms),
+            Request::Evicted { file, tag, .. } => {
+                self.cancels(*file);
+                self.evicted(*file, *tag);
+                self.goes_on(rooms);
+            }
             _ => {}
         }
-    }
-
-    /// Takes a reply in that counts, in the packet of this number.
-    fn hears_reply(&mut self, packet: u64, reply: &Reply, rooms: &mut Rooms) -> Result<(), NoMemory>
-        requires rooms { HasRooms rooms.old }
-        requires begun { IsBegun self.old }
-        requires prepared { IsPrepared (at_stake self.old.state.asked) self.old }
-        requires tied { Tied self.old.state.asked self.old.state.dirty.push }
-        requires numbers { HasNumbers 3 self.old.state }
-        requires counts { Counts self.old.state.asked reply.now }
-        ensures heard { OnOk result (step_of self.new ≡ on_reply (client_of self.old.state) packet reply.now self.old.state.asked) }
-        ensures refused { OnErr result (self.new ≡ self.old) }
-    {
-        self.replied(packet, reply)?;
-        self.goes_on(rooms);
-        Ok(())
     }
 
     /// Takes in what counts, in the packet of this number.
@@ -144,7 +117,11 @@ impl Step {
                 self.hears_call(request, rooms);
                 Ok(())
             }
-            Heard::Reply { reply, .. } => self.hears_reply(packet, reply, rooms),
+            Heard::Reply { reply, .. } => {
+                self.replied(packet, reply)?;
+                self.goes_on(rooms);
+                Ok(())
+            }
         }
     }
 }

@@ -1,8 +1,9 @@
 //! Delayed writes that are lost.
 
-ghost use Rattle.std.specs.Prelude.{◌≡◌, ◌≤◌, ◌<◌, ◌+◌, ◌^◌, ◌++◌, None, false, length, map, option_map, reverse, slice_get, IsTrue, IfOk, OnOk, OnErr};
+ghost use Rattle.std.specs.Prelude.{◌≡◌, ◌≤◌, ◌+◌, ◌++◌, length, map, option_map, reverse, slice_get, IsTrue, IfOk, OnOk, OnErr};
 ghost use Rattle.nq_model.specs.Client.{is_clean_in, notice_on};
 ghost use Rattle.nq_model.specs.Hear.{all_dirty_in, breaks_chain, loses, loss_of, losses_in, push_of, push_refused, reports, vacates_noticed, waits_for, without_lease};
+ghost use Rattle.nq_client.specs.Hearing.{IsSilent};
 ghost use Rattle.nq_client.specs.Losing.{IsNamed, IsReadyFor, Keeps, SendsNothing};
 ghost use Rattle.nq_client_parts.specs.Lost.{lost_entry, waiting};
 ghost use Rattle.nq_client.specs.Prepared.{IsPrepared, Leaves};
@@ -200,9 +201,7 @@ impl Step {
     fn follows_loss(&mut self, file: FileId, named: Named)
         requires room { 1 ≤ self.old.entries.spare }
         requires named { IsNamed named file self.old.state.losses.items }
-        requires silent { self.old.asks ≡ false }
-        requires first { self.old.vacated ≡ None }
-        requires xid { self.old.state.xid + 1 < 2 ^ 32 }
+        requires silent { IsSilent self.old }
         requires clean { IsTrue (is_clean_in file self.old.state.dirty.dirty self.old.state.dirty.push) }
         ensures step { step_of self.new ≡ reports (vacates_noticed (step_of self.old) file (notice_on file self.old.state.notices.items)) file }
         ensures left { Leaves 1 self.old self.new }

@@ -1,12 +1,8 @@
 //! Replies to the request under way.
 
-ghost use Rattle.std.specs.Prelude.{◌≡◌, ◌≤◌, ◌<◌, ◌+◌, ◌^◌, ℕ, List, Option, Some, None, IsTrue, OnOk, OnErr};
+ghost use Rattle.std.specs.Prelude.{◌≡◌, ◌<◌, ◌^◌, Some, OnOk, OnErr};
 ghost use Rattle.std.specs.Option.{ForSome};
-ghost use Rattle.nq_base.specs.declared.PushBase.{PushBase};
-ghost use Rattle.nq_base.specs.declared.Request.{Request};
-ghost use Rattle.nq_base.specs.declared.Want.{Want};
-ghost use Rattle.nq_base.specs.declared.Who.{Who};
-ghost use Rattle.nq_model.specs.Client.{is_push_of, push_passes, pushing};
+ghost use Rattle.nq_model.specs.Client.{pushing};
 ghost use Rattle.nq_model.specs.Hear.{done, done_push, done_renewal, refused, refused_push, replied};
 ghost use Rattle.nq_client_parts.specs.Asked.{job_of};
 ghost use Rattle.nq_client.specs.Prepared.{IsPrepared};
@@ -15,8 +11,8 @@ ghost use Rattle.nq_client.specs.Step.{HasRoom, step_of};
 ghost use Rattle.nq_client.specs.Tied.{Tied, TiedFor};
 
 use crate::step::Step;
-use nq_base::{Block, BlockNo, FileId, NoMemory, Refusal, Reply, Request, Ticks};
-use nq_client_parts::{Asked, Job};
+use nq_base::{NoMemory, Refusal, Reply, Request, Ticks};
+use nq_client_parts::{Asked, Job, is_put_off};
 
 impl Step {
     /// A renewal was done. It was first sent at `sent`.
@@ -33,21 +29,10 @@ impl Step {
         ensures refused { OnErr result (self.new ≡ self.old) }
     {
         match request {
-            Request::GetLease { file, .. } => self.renewed(*file, sent, reply),
-            _ => Ok(()),
-        }
-    }
-
-    /// The lease on a file was asked for again.
-    fn renewed(&mut self, file: FileId, sent: Ticks, reply: &Reply) -> Result<(), NoMemory>
-        requires prepared { IsPrepared file self.old }
-        requires sent { sent < 2 ^ 62 }
-        ensures done { OnOk result ((who : Who) (want : Want) → step_of self.new ≡ done_renewal (step_of self.old) sent (Request.GetLease who file want) reply.now) }
-        ensures room { OnOk result (HasRoom self.new) }
-        ensures refused { OnErr result (self.new ≡ self.old) }
-    {
-        match reply {
-            Reply::GetLease { grant, .. } => self.takes_optional(file, grant, sent),
+            Request::GetLease { file, .. } => match reply {
+                Reply::GetLease { grant, .. } => self.takes_optional(*file, grant, sent),
+                _ => Ok(()),
+            },
             _ => Ok(()),
         }
     }
@@ -66,27 +51,10 @@ impl Step {
                 block,
                 body,
                 ..
-            } => self.pushed(*file, *block, body, reply),
-            _ => Ok(()),
-        }
-    }
-
-    /// A block was pushed.
-    fn pushed(
-        &mut self,
-        file: FileId,
-        block: BlockNo,
-        body: &Block,
-        reply: &Reply,
-    ) -> Result<(), NoMemory>
-        requires prepared { IsPrepared file self.old }
-        requires push { IsTrue (push_passes (is_push_of file) self.old.state.dirty.push) }
-        ensures done { OnOk result ((who : Who) (seq first last : ℕ) (push : Option PushBase) → step_of self.new ≡ done_push (step_of self.old) (Request.Write who seq file block first last push body.now) reply.now) }
-        ensures room { OnOk result (HasRoom self.new) }
-        ensures refused { OnErr result (self.new ≡ self.old) }
-    {
-        match reply {
-            Reply::Write { rev, .. } => self.push_done(file, block, body, *rev),
+            } => match reply {
+                Reply::Write { rev, .. } => self.push_done(*file, *block, body, *rev),
+                _ => Ok(()),
+            },
             _ => Ok(()),
         }
     }
@@ -105,6 +73,7 @@ impl Step {
     }
 
     /// A request was done, by what it was for.
+    #[tactic(auto, unfolding(nq_model::specs::Hear::attached))]
     fn done(&mut self, job: Job, asked: &Asked, packet: u64, reply: &Reply) -> Result<(), NoMemory>
         requires prepared { IsPrepared (file_at_stake asked.now.request) self.old }
         requires tied { TiedFor (job_of job) asked.now.request self.old.state.dirty.push }
@@ -114,7 +83,7 @@ impl Step {
     {
         match job {
             Job::Attaching => {
-                self.is_attached();
+                self.state.attached = true;
                 Ok(())
             }
             Job::ForCall => self.done_for_call(asked.request(), asked.first(), packet, reply),
@@ -132,8 +101,18 @@ impl Step {
     {
         match job {
             Job::Attaching => {}
-            Job::ForCall => self.call_refused(status),
-            Job::Renewing => self.renewal_refused(status),
+            Job::ForCall => {
+                if is_put_off(status) {
+                    self.pauses();
+                } else {
+                    self.answers_refusal(status);
+                }
+            }
+            Job::Renewing => {
+                if is_put_off(status) {
+                    self.pauses();
+                }
+            }
             Job::Pushing => return self.refused_push(asked.request()),
         }
         Ok(())

@@ -1,16 +1,18 @@
 //! Requests: each takes the next number, and is under way from then on.
 
-ghost use Rattle.std.specs.Prelude.{◌≡◌, ◌+◌, ◌<◌, ◌^◌, Some, None, true, false, is_some, IsTrue};
+ghost use Rattle.std.specs.Prelude.{◌≡◌, ◌+◌, ◌<◌, ◌^◌, Some, None, true};
 ghost use Rattle.nq_base.specs.declared.Request.{Request};
-ghost use Rattle.nq_model.specs.Client.{pushing, revision_of, revision_or_zero};
-ghost use Rattle.nq_model.specs.Send.{after_seq, base_in, boot_of, pushes, sends_request};
+ghost use Rattle.nq_model.specs.Client.{for_call, pushing, revision_of, revision_or_zero};
+ghost use Rattle.nq_model.specs.Send.{after_seq, base_in, boot_of, gives_up, pushes, sends_request, sends_write};
 ghost use Rattle.nq_wire.specs.Request.{HasSpelling};
 ghost use Rattle.nq_client_parts.specs.HoldingLeases.{lease_of};
 ghost use Rattle.nq_client_parts.specs.Asked.{job_of};
+ghost use Rattle.nq_client.specs.Settling.{called_body};
 ghost use Rattle.nq_client.specs.Step.{HasNumbers, step_of};
 
+use crate::settling::called_body;
 use crate::step::Step;
-use nq_base::{FileId, Push, PushBase, Request, Rev, Seq, Spare};
+use nq_base::{BlockNo, FileId, Number, Push, PushBase, Request, Rev, Seq, Spare};
 use nq_cache::Cache;
 use nq_client_parts::holding::Held;
 use nq_client_parts::{Asked, Job, Leases};
@@ -67,8 +69,7 @@ impl Step {
         requires time { self.old.state.time < 2 ^ 62 }
         requires xid { self.old.state.xid + 1 < 2 ^ 32 }
         requires spelled { HasSpelling request }
-        ensures step { step_of self.new ≡ sends_request (step_of self.old) (job_of job) request }
-        ensures sent { is_some self.new.state.asked ≡ true }
+        ensures { step_of self.new ≡ sends_request (step_of self.old) (job_of job) request }
     {
         let xid = self.state.xid;
         let asked = Asked::new(self.state.alloc, xid, self.state.time, request, job);
@@ -80,27 +81,22 @@ impl Step {
         }
     }
 
-    /// Pushes the first delayed writes of a file, with a copy of their block in room that is there, and says whether it has
-    /// some.
+    /// Pushes the first delayed writes of a file, if it has some, with a copy of their block in room that is there.
     #[tactic(auto, unfolding(nq_model::specs::Send::takes_push))]
-    pub(crate) fn pushes(&mut self, file: FileId, room: &mut Spare) -> bool
+    pub(crate) fn pushes(&mut self, file: FileId, room: &mut Spare)
         requires block { room.old ≡ true }
         requires idle { self.old.state.asked ≡ None }
         requires none { self.old.state.dirty.push ≡ None }
         requires numbers { HasNumbers 1 self.old.state }
-        ensures step { step_of self.new ≡ pushes (step_of self.old) file }
-        ensures sent { IsTrue result → is_some self.new.state.asked ≡ true }
-        ensures quiet { result ≡ false → self.new ≡ self.old }
-        ensures kept { result ≡ false → room.new ≡ room.old }
+        ensures { step_of self.new ≡ pushes (step_of self.old) file }
     {
         self.state.dirty.next(file);
         match self.state.dirty.under_way() {
             Some(push) => {
                 let push = copied(push, room);
                 self.sends_push(push);
-                true
             }
-            None => false,
+            None => {}
         }
     }
 
@@ -109,8 +105,7 @@ impl Step {
     fn sends_push(&mut self, push: Push)
         requires idle { self.old.state.asked ≡ None }
         requires numbers { HasNumbers 1 self.old.state }
-        ensures step { step_of self.new ≡ sends_request (after_seq (step_of self.old)) pushing (Request.Write self.old.state.who self.old.state.seq push.file push.block push.first push.last (Some (base_in push.file self.old.state.leases.items self.old.state.cache.revisions)) push.body) }
-        ensures sent { is_some self.new.state.asked ≡ true }
+        ensures { step_of self.new ≡ sends_request (after_seq (step_of self.old)) pushing (Request.Write self.old.state.who self.old.state.seq push.file push.block push.first push.last (Some (base_in push.file self.old.state.leases.items self.old.state.cache.revisions)) push.body) }
     {
         let base = base_of(&self.state.leases, &self.state.cache, push.file);
         let Push {
@@ -135,5 +130,56 @@ impl Step {
                 body,
             },
         );
+    }
+
+    /// Sends a request of the call under way that takes the next sequence.
+    #[tactic(auto, unfolding(nq_model::specs::Send::after_seq))]
+    pub(crate) fn sends_in_order(&mut self, request: Request)
+        requires idle { self.old.state.asked ≡ None }
+        requires time { self.old.state.time < 2 ^ 62 }
+        requires seq { self.old.state.seq + 1 < 2 ^ 64 }
+        requires xid { self.old.state.xid + 1 < 2 ^ 32 }
+        requires spelled { HasSpelling request }
+        ensures { step_of self.new ≡ sends_request (after_seq (step_of self.old)) for_call request }
+    {
+        self.state.seq = Seq(self.state.seq.0 + 1);
+        self.sends_request(Job::ForCall, request);
+    }
+
+    /// Sends a WRITE of the block of the call under way, which goes through.
+    #[tactic(auto, unfolding(nq_model::specs::Send::after_seq, nq_model::specs::Send::after_number))]
+    pub(crate) fn sends_write(&mut self, file: FileId, block: BlockNo, room: &mut Spare)
+        requires block { room.old ≡ true }
+        requires idle { self.old.state.asked ≡ None }
+        requires numbers { HasNumbers 1 self.old.state }
+        ensures { step_of self.new ≡ sends_write (step_of self.old) file block (called_body (step_of self.old).client.call) }
+    {
+        let body = called_body(&self.state.call, room);
+        let number = self.state.number;
+        let seq = self.state.seq;
+        self.state.number = Number(number.0 + 1);
+        self.sends_in_order(Request::Write {
+            who: self.state.who,
+            seq,
+            file,
+            block,
+            first: number,
+            last: number,
+            push: None,
+            body,
+        });
+    }
+
+    /// Gives the lease on a file up, with its clean blocks, and sends a request that changes the file.
+    #[tactic(auto, unfolding(nq_model::specs::Send::gives_up))]
+    pub(crate) fn sends_change(&mut self, file: FileId, request: Request)
+        requires idle { self.old.state.asked ≡ None }
+        requires numbers { HasNumbers 1 self.old.state }
+        requires spelled { HasSpelling request }
+        ensures { step_of self.new ≡ sends_request (after_seq (gives_up (step_of self.old) file)) for_call request }
+    {
+        self.state.leases.remove(file);
+        self.state.cache.purge(file);
+        self.sends_in_order(request);
     }
 }

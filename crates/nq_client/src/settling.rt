@@ -7,6 +7,7 @@ ghost use Rattle.nq_base.specs.declared.Answer.TheVariants.{Ok as ok};
 ghost use Rattle.nq_base.specs.declared.Value.{Value};
 ghost use Rattle.nq_model.specs.Client.{in_state, lease_on};
 ghost use Rattle.nq_model.specs.Settle.{body_in, delays, is_full_in, settle, ticket_is_for_call};
+ghost use Rattle.nq_client.specs.Losing.{Keeps};
 ghost use Rattle.nq_client.specs.Prepared.{Leaves};
 ghost use Rattle.nq_client.specs.Settling.{body_of_call, called_body, ended, goes_on_delayed, leave_to_read, leave_to_write, settles_body, settles_put, settles_read, settles_sync, settles_write, tells_read, with_written, within, writes};
 ghost use Rattle.nq_client.specs.State.{under_way};
@@ -110,20 +111,7 @@ impl Step {
         requires { 1 ≤ self.old.entries.spare }
         ensures step { step_of self.new ≡ ended (step_of self.old) q (plain_answer answer) (plain_said said) }
         ensures left { Leaves 1 self.old self.new }
-        ensures leases { self.old.state.leases.spare ≤ self.new.state.leases.spare }
-        ensures cache { self.new.state.cache ≡ self.old.state.cache }
-    {
-        self.tells_answer(q, said);
-        self.answer = Some(answer);
-    }
-
-    /// No call is under way any more, and a journal tells the answer.
-    fn tells_answer(&mut self, q: u64, said: Said)
-        requires { 1 ≤ self.old.entries.spare }
-        ensures step { step_of self.new ≡ record (ended (step_of self.old) q Answer.Busy (plain_said said)) { answer = (step_of self.old).answer } }
-        ensures left { Leaves 1 self.old self.new }
-        ensures leases { self.old.state.leases.spare ≤ self.new.state.leases.spare }
-        ensures cache { self.new.state.cache ≡ self.old.state.cache }
+        ensures kept { Keeps self.old self.new }
     {
         self.state.call = None;
         self.entries.note(Entry::A {
@@ -131,6 +119,7 @@ impl Step {
             q,
             said,
         });
+        self.answer = Some(answer);
     }
 
     /// What the call under way needs no packet for.
@@ -205,19 +194,17 @@ impl Step {
     {
         let state = &mut self.state;
         match read_held(&state.dirty, &mut state.cache, file, block, room) {
-            Some(body) => {
-                self.tells_read(q, file, block, body.value());
-                self.answer = Some(Answer::Ok(Value::Body(body)));
-            }
+            Some(body) => self.tells_read(q, file, block, body),
             None => {}
         }
     }
 
-    /// A read was answered from what the client has, with a block of this number.
-    fn tells_read(&mut self, q: u64, file: FileId, block: BlockNo, value: u32)
+    /// A read is answered with a block that the client has: the lease was used.
+    fn tells_read(&mut self, q: u64, file: FileId, block: BlockNo, body: Block)
         requires { 2 ≤ self.old.entries.spare }
-        ensures { step_of self.new ≡ tells_read (step_of self.old) q file block value }
+        ensures { step_of self.new ≡ tells_read (step_of self.old) q file block body }
     {
+        let value = body.value();
         self.state.leases.mark_used(file);
         self.entries.note(Entry::R {
             who: self.state.who,
@@ -227,7 +214,7 @@ impl Step {
             value,
             served: None,
         });
-        self.tells_answer(q, Said::OkValue(value));
+        self.ends_call(q, Answer::Ok(Value::Body(body)), Said::OkValue(value));
         self.cached = true;
     }
 

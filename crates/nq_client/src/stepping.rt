@@ -4,10 +4,10 @@ ghost use Rattle.std.specs.Prelude.{◌≡◌, ◌≤◌, ◌<◌, ◌+◌, ◌^
 ghost use Rattle.nq_base.specs.Plain.{plain_answer};
 ghost use Rattle.nq_model.specs.ClientStep.{client_call, client_tick};
 ghost use Rattle.nq_client.specs.Calling.{IsNamedFor};
-ghost use Rattle.nq_client.specs.Finishing.{Grows, HasLetters, HasRoomFor, HasRooms};
+ghost use Rattle.nq_client.specs.Finishing.{Grows, IsKept, IsSupplied};
 ghost use Rattle.nq_client.specs.Receiving.{HasRoomForFiles, IsHeeded, most_entries, on_heard};
 ghost use Rattle.nq_client.specs.State.{client_of};
-ghost use Rattle.nq_client.specs.Step.{HasNumbers, IsBegun, step_of};
+ghost use Rattle.nq_client.specs.Step.{HasNumbers, IsBegun};
 ghost use Rattle.nq_client.specs.Tied.{Tied};
 
 use crate::calling::{Named, named_for};
@@ -26,17 +26,14 @@ pub(crate) fn reserve(
     log: &mut Journal,
 ) -> Result<(), NoMemory>
     requires { IsBegun step.old }
-    ensures begun { IsBegun step.new }
-    ensures client { client_of step.new.state ≡ client_of step.old.state }
-    ensures first { out.new.first ≡ out.old.first }
-    ensures datagrams { out.new.datagrams ≡ out.old.datagrams }
-    ensures entries { log.new.entries ≡ log.old.entries }
-    ensures letters { OnOk result (HasLetters letters.new) }
-    ensures rooms { OnOk result (HasRooms letters.new.rooms) }
-    ensures room { OnOk result (HasRoomFor entries step.new out.new log.new) }
+    ensures kept { IsKept step.old step.new out.old out.new log.old log.new }
+    ensures supplied { OnOk result (IsSupplied entries step.new letters.new out.new log.new) }
 {
     letters.reserve(step.state.alloc)?;
-    step.reserve(entries, out, log)
+    step.entries.reserve(entries)?;
+    step.state.dirty.reserve(1)?;
+    out.reserve(2)?;
+    log.reserve(entries)
 }
 
 /// Takes the memory that a call may want, and makes the losses that it is told.
@@ -48,14 +45,8 @@ pub(crate) fn room_for_call(
     log: &mut Journal,
 ) -> Result<Named, NoMemory>
     requires { IsBegun step.old }
-    ensures begun { IsBegun step.new }
-    ensures client { client_of step.new.state ≡ client_of step.old.state }
-    ensures first { out.new.first ≡ out.old.first }
-    ensures datagrams { out.new.datagrams ≡ out.old.datagrams }
-    ensures entries { log.new.entries ≡ log.old.entries }
-    ensures letters { OnOk result (HasLetters letters.new) }
-    ensures rooms { OnOk result (HasRooms letters.new.rooms) }
-    ensures room { OnOk result (HasRoomFor 3 step.new out.new log.new) }
+    ensures kept { IsKept step.old step.new out.old out.new log.old log.new }
+    ensures supplied { OnOk result (IsSupplied 3 step.new letters.new out.new log.new) }
     ensures named { IfOk result (λ n. IsNamedFor n call.now step.new.state.losses.items) }
 {
     reserve(step, letters, 3, out, log)?;
@@ -72,9 +63,7 @@ pub(crate) fn make_call(
     log: &mut Journal,
 )
     requires begun { IsBegun step.old }
-    requires letters { HasLetters letters.old }
-    requires rooms { HasRooms letters.old.rooms }
-    requires room { HasRoomFor 3 step.old out.old log.old }
+    requires supplied { IsSupplied 3 step.old letters.old out.old log.old }
     requires numbers { HasNumbers 2 step.old.state }
     requires calls { step.old.state.calls < 2 ^ 62 }
     requires named { IsNamedFor named call step.old.state.losses.items }
@@ -97,9 +86,7 @@ pub(crate) fn make_tick(
     log: &mut Journal,
 )
     requires begun { IsBegun step.old }
-    requires letters { HasLetters letters.old }
-    requires rooms { HasRooms letters.old.rooms }
-    requires room { HasRoomFor 2 step.old out.old log.old }
+    requires supplied { IsSupplied 2 step.old letters.old out.old log.old }
     requires numbers { HasNumbers 2 step.old.state }
     requires early { now < 2 ^ 62 }
     requires tied { Tied step.old.state.asked step.old.state.dirty.push }
@@ -120,14 +107,8 @@ fn room_for_heard(
     log: &mut Journal,
 ) -> Result<(), NoMemory>
     requires { IsBegun step.old }
-    ensures begun { IsBegun step.new }
-    ensures client { client_of step.new.state ≡ client_of step.old.state }
-    ensures first { out.new.first ≡ out.old.first }
-    ensures datagrams { out.new.datagrams ≡ out.old.datagrams }
-    ensures entries { log.new.entries ≡ log.old.entries }
-    ensures letters { OnOk result (HasLetters letters.new) }
-    ensures rooms { OnOk result (HasRooms letters.new.rooms) }
-    ensures room { OnOk result (HasRoomFor (most_entries (client_of step.old.state)) step.new out.new log.new) }
+    ensures kept { IsKept step.old step.new out.old out.new log.old log.new }
+    ensures supplied { OnOk result (IsSupplied (most_entries (client_of step.old.state)) step.new letters.new out.new log.new) }
     ensures files { OnOk result (HasRoomForFiles step.new) }
 {
     let entries = most_entries(&step.state);
@@ -135,34 +116,6 @@ fn room_for_heard(
     step.state.leases.reserve(1)?;
     step.state.notices.reserve(1)?;
     step.state.cache.reserve(1)
-}
-
-/// Takes in what counts, with the memory that it may want. It leaves its answer in the step.
-fn make_heard(
-    step: &mut Step,
-    letters: &mut Letters,
-    packet: u64,
-    heard: &nq_datagrams::Heard,
-    out: &mut Outbox,
-    log: &mut Journal,
-) -> Result<(), NoMemory>
-    requires begun { IsBegun step.old }
-    requires letters { HasLetters letters.old }
-    requires rooms { HasRooms letters.old.rooms }
-    requires room { HasRoomFor (most_entries (client_of step.old.state)) step.old out.old log.old }
-    requires files { HasRoomForFiles step.old }
-    requires numbers { HasNumbers 3 step.old.state }
-    requires tied { Tied step.old.state.asked step.old.state.dirty.push }
-    requires heeded { IsHeeded step.old.state.asked heard.now }
-    ensures begun { OnOk result (IsBegun (record step.new { answer = None })) }
-    ensures client { OnOk result (client_of step.new.state ≡ (on_heard (client_of step.old.state) packet heard.now).client) }
-    ensures grows { OnOk result (Grows (on_heard (client_of step.old.state) packet heard.now) out.old out.new log.old log.new) }
-    ensures answer { OnOk result (option_map plain_answer step.new.answer ≡ (on_heard (client_of step.old.state) packet heard.now).answer) }
-    ensures refused { OnErr result ((step.new ≡ step.old) × (out.new ≡ out.old) × (log.new ≡ log.old)) }
-{
-    step.hears(packet, heard, &mut letters.rooms)?;
-    step.finish(letters, out, log);
-    Ok(())
 }
 
 /// Takes in what counts. It leaves its answer in the step.
@@ -182,12 +135,10 @@ pub(crate) fn hear(
     ensures client { OnOk result (client_of step.new.state ≡ (on_heard (client_of step.old.state) packet heard.now).client) }
     ensures grows { OnOk result (Grows (on_heard (client_of step.old.state) packet heard.now) out.old out.new log.old log.new) }
     ensures answer { OnOk result (option_map plain_answer step.new.answer ≡ (on_heard (client_of step.old.state) packet heard.now).answer) }
-    ensures between { OnErr result (IsBegun step.new) }
-    ensures same { OnErr result (client_of step.new.state ≡ client_of step.old.state) }
-    ensures first { OnErr result (out.new.first ≡ out.old.first) }
-    ensures datagrams { OnErr result (out.new.datagrams ≡ out.old.datagrams) }
-    ensures entries { OnErr result (log.new.entries ≡ log.old.entries) }
+    ensures kept { OnErr result (IsKept step.old step.new out.old out.new log.old log.new) }
 {
     room_for_heard(step, letters, out, log)?;
-    make_heard(step, letters, packet, heard, out, log)
+    step.hears(packet, heard, &mut letters.rooms)?;
+    step.finish(letters, out, log);
+    Ok(())
 }

@@ -1,17 +1,17 @@
 //! Replies to writes.
 
-ghost use Rattle.std.specs.Prelude.{◌≡◌, ◌==◌, ◌≤◌, ◌<◌, ◌+◌, ◌^◌, ◌&&◌, None, false, is_some, IsTrue, OnOk, OnErr, if◌then◌else◌};
+ghost use Rattle.std.specs.Prelude.{◌≡◌, ◌==◌, ◌+◌, ◌&&◌, is_some, IsTrue, OnOk, OnErr, if◌then◌else◌};
 ghost use Rattle.nq_client_parts.specs.HoldingLeases.{lease_of};
 ghost use Rattle.nq_model.specs.Client.{dirty_at, is_push_of, is_revision_before, lease_on, purge, push_passes, put_clean, revision_of};
-ghost use Rattle.nq_model.specs.Hear.{answer_of, answers_call, holds_caching, is_put_off, pauses, push_done, write_done};
-ghost use Rattle.nq_client.specs.Prepared.{Leaves};
+ghost use Rattle.nq_model.specs.Hear.{holds_caching, push_done, write_done};
+ghost use Rattle.nq_client.specs.Prepared.{IsPrepared, Leaves};
 ghost use Rattle.nq_client.specs.Step.{step_of};
 
 use crate::step::Step;
-use nq_base::{Block, BlockNo, FileId, NoMemory, Refusal, Rev};
+use nq_base::{Block, BlockNo, FileId, NoMemory, Rev, Value};
 use nq_cache::Cache;
+use nq_client_parts::Leases;
 use nq_client_parts::holding::Held;
-use nq_client_parts::{Leases, is_put_off};
 use nq_dirty::Dirty;
 use std::alloc::Global;
 
@@ -95,8 +95,7 @@ impl Step {
         body: &Block,
         rev: Rev,
     ) -> Result<(), NoMemory>
-        requires entries { 1 ≤ self.old.entries.spare }
-        requires revision { 1 ≤ self.old.state.cache.spare }
+        requires { IsPrepared file self.old }
         ensures done { OnOk result (step_of self.new ≡ write_done (step_of self.old) file block body.now rev) }
         ensures left { OnOk result (Leaves 1 self.old self.new) }
         ensures refused { OnErr result (self.new ≡ self.old) }
@@ -111,7 +110,7 @@ impl Step {
             rev,
         )?;
         self.state.cache.retag(file, rev).unwrap();
-        self.answers_nothing();
+        self.answers_value(Value::Nothing, None);
         Ok(())
     }
 
@@ -128,11 +127,8 @@ impl Step {
         body: &Block,
         rev: Rev,
     ) -> Result<(), NoMemory>
+        requires prepared { IsPrepared file self.old }
         requires push { IsTrue (push_passes (is_push_of file) self.old.state.dirty.push) }
-        requires revision { 1 ≤ self.old.state.cache.spare }
-        requires silent { self.old.asks ≡ false }
-        requires first { self.old.vacated ≡ None }
-        requires xid { self.old.state.xid + 1 < 2 ^ 32 }
         ensures done { OnOk result (step_of self.new ≡ push_done (step_of self.old) file block body.now rev) }
         ensures left { OnOk result (Leaves 0 self.old self.new) }
         ensures refused { OnErr result (self.new ≡ self.old) }
@@ -149,30 +145,5 @@ impl Step {
         self.state.cache.retag(file, rev).unwrap();
         self.vacates_if_clean(file);
         Ok(())
-    }
-
-    /// The call's request was refused: it is put off, or the call is answered.
-    pub(crate) fn call_refused(&mut self, status: Refusal)
-        requires entries { 1 ≤ self.old.entries.spare }
-        requires time { self.old.state.time < 2 ^ 62 }
-        ensures step { step_of self.new ≡ (if is_put_off status then pauses (step_of self.old) else answers_call (step_of self.old) (answer_of status) None) }
-        ensures left { Leaves 1 self.old self.new }
-    {
-        if is_put_off(status) {
-            self.pauses();
-        } else {
-            self.answers_refusal(status);
-        }
-    }
-
-    /// A renewal was refused: it is put off, or nothing comes of it.
-    pub(crate) fn renewal_refused(&mut self, status: Refusal)
-        requires { self.old.state.time < 2 ^ 62 }
-        ensures step { step_of self.new ≡ (if is_put_off status then pauses (step_of self.old) else step_of self.old) }
-        ensures left { Leaves 0 self.old self.new }
-    {
-        if is_put_off(status) {
-            self.pauses();
-        }
     }
 }

@@ -2,7 +2,7 @@
 
 ghost use Rattle.std.specs.Prelude.{◌≡◌, ◌≤◌, ◌<◌, ◌^◌, is_some, IfOk, OnErr, OnOk, if◌then◌else◌};
 ghost use Rattle.std.specs.Option.{ForSome};
-ghost use Rattle.nq_model.specs.Hear.{breaks_chain, takes_grant, takes_optional, then_caches};
+ghost use Rattle.nq_model.specs.Hear.{breaks_chain, takes_optional, then_caches};
 ghost use Rattle.nq_client.specs.Losing.{IsReadyFor, Keeps};
 ghost use Rattle.nq_client.specs.Prepared.{IsPrepared};
 ghost use Rattle.nq_client.specs.Step.{step_of};
@@ -64,27 +64,8 @@ impl Step {
         }
     }
 
-    /// Takes a grant whose request was first sent at `sent`. Where it breaks the chain of a lease over delayed writes, these are
-    /// lost.
-    ///
-    /// # Errors
-    ///
-    /// Only want of memory, and then nothing changed.
-    fn takes_grant(&mut self, file: FileId, grant: &Grant, sent: Ticks) -> Result<(), NoMemory>
-        requires prepared { IsPrepared file self.old }
-        requires sent { sent < 2 ^ 62 }
-        ensures step { OnOk result (step_of self.new ≡ takes_grant (step_of self.old) file grant.now sent) }
-        ensures spare { OnOk result (3 ≤ self.new.entries.spare) }
-        ensures block { OnOk result (1 ≤ self.new.state.dirty.spare) }
-        ensures refused { OnErr result (self.new ≡ self.old) }
-    {
-        let Taking { held, losing } = ready_to_take(&self.state, file, grant, sent)?;
-        self.breaks_with(file, losing);
-        self.holds(file, grant, sent, held);
-        Ok(())
-    }
-
-    /// Takes a grant, if there is one.
+    /// Takes a grant, if there is one, whose request was first sent at `sent`. Where it breaks the chain of a lease over delayed
+    /// writes, these are lost.
     ///
     /// # Errors
     ///
@@ -102,10 +83,13 @@ impl Step {
         ensures block { OnOk result (1 ≤ self.new.state.dirty.spare) }
         ensures refused { OnErr result (self.new ≡ self.old) }
     {
-        match grant {
-            Some(grant) => self.takes_grant(file, grant, sent),
-            None => Ok(()),
-        }
+        let Some(given) = grant else {
+            return Ok(());
+        };
+        let Taking { held, losing } = ready_to_take(&self.state, file, given, sent)?;
+        self.breaks_with(file, losing);
+        self.holds(file, given, sent, held);
+        Ok(())
     }
 
     /// Takes the grant that came with a block, if there is one; then the block is cached under it.

@@ -1,9 +1,9 @@
 //! Leases that are given up for a notice.
 
-ghost use Rattle.std.specs.Prelude.{◌≡◌, ◌+◌, ◌≤◌, ◌<◌, ◌^◌, None, false, IsTrue};
+ghost use Rattle.std.specs.Prelude.{◌≡◌, ◌≤◌, IsTrue};
 ghost use Rattle.nq_model.specs.Client.{is_clean_in, notice_on};
 ghost use Rattle.nq_model.specs.Hear.{evicted, notes_notice, vacates_if_clean, vacates_lease, vacates_noticed};
-ghost use Rattle.nq_client.specs.Hearing.{GivesUp};
+ghost use Rattle.nq_client.specs.Hearing.{GivesUp, IsSilent};
 ghost use Rattle.nq_client.specs.Step.{step_of};
 
 use crate::step::{Step, Vacated};
@@ -32,9 +32,7 @@ impl Step {
     /// Gives the lease on a clean file up: VACATED takes the next number.
     #[tactic(auto, unfolding(nq_model::specs::Hear::vacates_lease))]
     pub(crate) fn vacates_lease(&mut self, notice: Notice)
-        requires silent { self.old.asks ≡ false }
-        requires first { self.old.vacated ≡ None }
-        requires xid { self.old.state.xid + 1 < 2 ^ 32 }
+        requires silent { IsSilent self.old }
         requires clean { IsTrue (is_clean_in notice.file self.old.state.dirty.dirty self.old.state.dirty.push) }
         ensures step { step_of self.new ≡ vacates_lease (step_of self.old) notice.file notice.tag }
         ensures kept { GivesUp self.old self.new }
@@ -50,9 +48,7 @@ impl Step {
 
     /// Gives the lease on a clean file up where a notice waits for it.
     pub(crate) fn vacates_noticed(&mut self, file: FileId)
-        requires silent { self.old.asks ≡ false }
-        requires first { self.old.vacated ≡ None }
-        requires xid { self.old.state.xid + 1 < 2 ^ 32 }
+        requires silent { IsSilent self.old }
         requires clean { IsTrue (is_clean_in file self.old.state.dirty.dirty self.old.state.dirty.push) }
         ensures step { step_of self.new ≡ vacates_noticed (step_of self.old) file (notice_on file self.old.state.notices.items) }
         ensures kept { GivesUp self.old self.new }
@@ -65,9 +61,7 @@ impl Step {
 
     /// Gives the lease on a file up where the file is clean and a notice waits for it.
     pub(crate) fn vacates_if_clean(&mut self, file: FileId)
-        requires silent { self.old.asks ≡ false }
-        requires first { self.old.vacated ≡ None }
-        requires xid { self.old.state.xid + 1 < 2 ^ 32 }
+        requires { IsSilent self.old }
         ensures step { step_of self.new ≡ vacates_if_clean (step_of self.old) file }
         ensures kept { GivesUp self.old self.new }
     {
@@ -79,9 +73,7 @@ impl Step {
     /// Takes a notice in: a clean file's lease is given up at once, and another notice waits until its file is clean.
     #[tactic(auto, unfolding(nq_model::specs::Hear::notes_notice))]
     pub(crate) fn evicted(&mut self, file: FileId, tag: Tag)
-        requires silent { self.old.asks ≡ false }
-        requires first { self.old.vacated ≡ None }
-        requires xid { self.old.state.xid + 1 < 2 ^ 32 }
+        requires silent { IsSilent self.old }
         requires room { 1 ≤ self.old.state.notices.spare }
         ensures step { step_of self.new ≡ evicted (step_of self.old) file tag }
         ensures kept { GivesUp self.old self.new }

@@ -1,13 +1,17 @@
-use Rattle.std.proofs.Common.{sym, subst}
+use Rattle.std.proofs.Common.{Some, false}
 use Rattle.nq_client.proofs.Between.{none, numbers}
-use Rattle.nq_client.specs.Tied.{Tied}
+use Rattle.nq_client.specs.declared.step.Step.{Step}
 use Rattle.nq_client.proofs.step.Step.call_freely.Goals as goal
 
 pub send_next-requires-clause-none : goal.send_next-requires-clause-none
 send_next-requires-clause-none c =
-    none c.settle.new.self c.is_called.new.self c.settle.ensures
-    (subst (λ o. Tied o c.is_called.new.self.state.dirty.push) (sym c.is_called.ensures.asked)
-    (subst (λ d. Tied c.args.self.now.state.asked d.push) (sym c.is_called.ensures.dirty) c.requires.tied))
+    let s = c.args.self.now in
+    let called : Step = record s { state = record s.state { call = Some (record { q = s.state.calls; call = c.args.call; through = false; written = false }) } } in
+    none c.settle.new.self called c.settle.ensures c.requires.tied
 
 pub send_next-requires-clause-numbers : goal.send_next-requires-clause-numbers
-send_next-requires-clause-numbers c = numbers c.settle.new.self c.is_called.new.self c.settle.ensures c.is_called.ensures.numbers
+send_next-requires-clause-numbers c =
+    let s = c.args.self.now in
+    let called : Step = record s { state = record s.state { call = Some (record { q = s.state.calls; call = c.args.call; through = false; written = false }) } } in
+    let left = c.requires.numbers in
+    numbers c.settle.new.self called c.settle.ensures (record { time = left.time; seq = left.seq; number = left.number; xid = left.xid })

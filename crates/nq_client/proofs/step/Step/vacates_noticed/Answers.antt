@@ -5,6 +5,11 @@ use Rattle.nq_client.proofs.Vacated.{vacated-taken}
 use Rattle.nq_model.specs.Client.{is_clean_in}
 use Rattle.nq_client.proofs.step.Step.vacates_noticed.Goals as goal
 
+pub vacates_lease-requires-clause-silent : goal.vacates_lease-requires-clause-silent
+vacates_lease-requires-clause-silent c =
+    let silent = c.requires.silent in
+    record { asks = silent.asks; first = silent.first; xid = silent.xid }
+
 pub vacates_lease-requires-clause-clean : goal.vacates_lease-requires-clause-clean
 vacates_lease-requires-clause-clean c =
     subst (λ f. IsTrue (is_clean_in f c.args.self.now.state.dirty.dirty c.args.self.now.state.dirty.push))
