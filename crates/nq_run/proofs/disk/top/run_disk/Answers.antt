@@ -145,55 +145,55 @@ returns-in-Some-Check-clause-follows g c = g.met.D.Disk.follows_itself c.args.di
 pub returns-in-Some-Format-clause-replays : goal.returns-in-Some-Format-clause-replays
 returns-in-Some-Format-clause-replays g c = λ is.
     let no : Some Command.Format ≡ Some Command.Replay =
-        sym (sym c.command.ensures.says ∙ c.in-Some-Format.is ∙ ap Some c.in-Some-Format.field-0-is) ∙ says_replay c.args.words.now is in
+    sym (sym c.command.ensures.says ∙ c.in-Some-Format.is ∙ ap Some c.in-Some-Format.field-0-is) ∙ says_replay c.args.words.now is in
     absurd (cc)
 
 pub returns-in-Some-Format-clause-checks : goal.returns-in-Some-Format-clause-checks
 returns-in-Some-Format-clause-checks g c = λ is.
     let no : Some Command.Format ≡ Some Command.Check =
-        sym (sym c.command.ensures.says ∙ c.in-Some-Format.is ∙ ap Some c.in-Some-Format.field-0-is) ∙ says_check c.args.words.now is in
+    sym (sym c.command.ensures.says ∙ c.in-Some-Format.is ∙ ap Some c.in-Some-Format.field-0-is) ∙ says_check c.args.words.now is in
     absurd (cc)
 
 pub returns-in-Some-Format-clause-stages : goal.returns-in-Some-Format-clause-stages
 returns-in-Some-Format-clause-stages g c = λ is.
     let no : Some Command.Format ≡ Some Command.Staged =
-        sym (sym c.command.ensures.says ∙ c.in-Some-Format.is ∙ ap Some c.in-Some-Format.field-0-is) ∙ says_staged c.args.words.now is in
+    sym (sym c.command.ensures.says ∙ c.in-Some-Format.is ∙ ap Some c.in-Some-Format.field-0-is) ∙ says_staged c.args.words.now is in
     absurd (cc)
 
 pub returns-in-Some-Format-clause-names : goal.returns-in-Some-Format-clause-names
 returns-in-Some-Format-clause-names g c = λ is.
     let no : Some Command.Format ≡ Some Command.Names =
-        sym (sym c.command.ensures.says ∙ c.in-Some-Format.is ∙ ap Some c.in-Some-Format.field-0-is) ∙ says_names c.args.words.now is in
+    sym (sym c.command.ensures.says ∙ c.in-Some-Format.is ∙ ap Some c.in-Some-Format.field-0-is) ∙ says_names c.args.words.now is in
     absurd (cc)
 
 pub returns-in-Some-Format-clause-serves : goal.returns-in-Some-Format-clause-serves
 returns-in-Some-Format-clause-serves g c = λ turns longest is.
     let no : Some Command.Format ≡ Some (Command.Serve turns longest) =
-        sym (sym c.command.ensures.says ∙ c.in-Some-Format.is ∙ ap Some c.in-Some-Format.field-0-is) ∙ is in
+    sym (sym c.command.ensures.says ∙ c.in-Some-Format.is ∙ ap Some c.in-Some-Format.field-0-is) ∙ is in
     absurd (cc)
 
 pub returns-in-Some-Format-clause-attends : goal.returns-in-Some-Format-clause-attends
 returns-in-Some-Format-clause-attends g c = λ host inc turns is.
     let no : Some Command.Format ≡ Some (Command.Client host inc turns) =
-        sym (sym c.command.ensures.says ∙ c.in-Some-Format.is ∙ ap Some c.in-Some-Format.field-0-is) ∙ is in
+    sym (sym c.command.ensures.says ∙ c.in-Some-Format.is ∙ ap Some c.in-Some-Format.field-0-is) ∙ is in
     absurd (cc)
 
 pub returns-in-Some-Format-clause-storms : goal.returns-in-Some-Format-clause-storms
 returns-in-Some-Format-clause-storms g c = λ kind start events is.
     let no : Some Command.Format ≡ Some (Command.Storm kind start events) =
-        sym (sym c.command.ensures.says ∙ c.in-Some-Format.is ∙ ap Some c.in-Some-Format.field-0-is) ∙ is in
+    sym (sym c.command.ensures.says ∙ c.in-Some-Format.is ∙ ap Some c.in-Some-Format.field-0-is) ∙ is in
     absurd (cc)
 
 pub returns-in-Some-Format-clause-loops : goal.returns-in-Some-Format-clause-loops
 returns-in-Some-Format-clause-loops g c = λ hosts turns is.
     let no : Some Command.Format ≡ Some (Command.Loop hosts turns) =
-        sym (sym c.command.ensures.says ∙ c.in-Some-Format.is ∙ ap Some c.in-Some-Format.field-0-is) ∙ is in
+    sym (sym c.command.ensures.says ∙ c.in-Some-Format.is ∙ ap Some c.in-Some-Format.field-0-is) ∙ is in
     absurd (cc)
 
 pub returns-in-Some-Format-clause-disk : goal.returns-in-Some-Format-clause-disk
 returns-in-Some-Format-clause-disk g c = λ no.
     let bad : true ≡ false =
-        sym (ap uses_disk (sym c.command.ensures.says ∙ c.in-Some-Format.is ∙ ap Some c.in-Some-Format.field-0-is)) ∙ no in
+    sym (ap uses_disk (sym c.command.ensures.says ∙ c.in-Some-Format.is ∙ ap Some c.in-Some-Format.field-0-is)) ∙ no in
     absurd (cc)
 
 pub returns-in-Some-Format-clause-input : goal.returns-in-Some-Format-clause-input
@@ -214,61 +214,61 @@ returns-in-Some-Format-clause-fates g c = λ no. refl
 pub returns-in-Some-Serve-clause-formats : goal.returns-in-Some-Serve-clause-formats
 returns-in-Some-Serve-clause-formats g c = λ is.
     let no : Some (Command.Serve c.in-Some-Serve.turns c.in-Some-Serve.longest) ≡ Some Command.Format =
-        sym (sym c.command.ensures.says ∙ c.in-Some-Serve.is ∙ ap Some c.in-Some-Serve.field-0-is) ∙ says_format c.args.words.now is in
+    sym (sym c.command.ensures.says ∙ c.in-Some-Serve.is ∙ ap Some c.in-Some-Serve.field-0-is) ∙ says_format c.args.words.now is in
     absurd (cc)
 
 pub returns-in-Some-Serve-clause-quiet : goal.returns-in-Some-Serve-clause-quiet
 returns-in-Some-Serve-clause-quiet g c = λ is.
     let no : Some (Command.Serve c.in-Some-Serve.turns c.in-Some-Serve.longest) ≡ Some Command.Format =
-        sym (sym c.command.ensures.says ∙ c.in-Some-Serve.is ∙ ap Some c.in-Some-Serve.field-0-is) ∙ says_format c.args.words.now is in
+    sym (sym c.command.ensures.says ∙ c.in-Some-Serve.is ∙ ap Some c.in-Some-Serve.field-0-is) ∙ says_format c.args.words.now is in
     absurd (cc)
 
 pub returns-in-Some-Serve-clause-replays : goal.returns-in-Some-Serve-clause-replays
 returns-in-Some-Serve-clause-replays g c = λ is.
     let no : Some (Command.Serve c.in-Some-Serve.turns c.in-Some-Serve.longest) ≡ Some Command.Replay =
-        sym (sym c.command.ensures.says ∙ c.in-Some-Serve.is ∙ ap Some c.in-Some-Serve.field-0-is) ∙ says_replay c.args.words.now is in
+    sym (sym c.command.ensures.says ∙ c.in-Some-Serve.is ∙ ap Some c.in-Some-Serve.field-0-is) ∙ says_replay c.args.words.now is in
     absurd (cc)
 
 pub returns-in-Some-Serve-clause-checks : goal.returns-in-Some-Serve-clause-checks
 returns-in-Some-Serve-clause-checks g c = λ is.
     let no : Some (Command.Serve c.in-Some-Serve.turns c.in-Some-Serve.longest) ≡ Some Command.Check =
-        sym (sym c.command.ensures.says ∙ c.in-Some-Serve.is ∙ ap Some c.in-Some-Serve.field-0-is) ∙ says_check c.args.words.now is in
+    sym (sym c.command.ensures.says ∙ c.in-Some-Serve.is ∙ ap Some c.in-Some-Serve.field-0-is) ∙ says_check c.args.words.now is in
     absurd (cc)
 
 pub returns-in-Some-Serve-clause-stages : goal.returns-in-Some-Serve-clause-stages
 returns-in-Some-Serve-clause-stages g c = λ is.
     let no : Some (Command.Serve c.in-Some-Serve.turns c.in-Some-Serve.longest) ≡ Some Command.Staged =
-        sym (sym c.command.ensures.says ∙ c.in-Some-Serve.is ∙ ap Some c.in-Some-Serve.field-0-is) ∙ says_staged c.args.words.now is in
+    sym (sym c.command.ensures.says ∙ c.in-Some-Serve.is ∙ ap Some c.in-Some-Serve.field-0-is) ∙ says_staged c.args.words.now is in
     absurd (cc)
 
 pub returns-in-Some-Serve-clause-names : goal.returns-in-Some-Serve-clause-names
 returns-in-Some-Serve-clause-names g c = λ is.
     let no : Some (Command.Serve c.in-Some-Serve.turns c.in-Some-Serve.longest) ≡ Some Command.Names =
-        sym (sym c.command.ensures.says ∙ c.in-Some-Serve.is ∙ ap Some c.in-Some-Serve.field-0-is) ∙ says_names c.args.words.now is in
+    sym (sym c.command.ensures.says ∙ c.in-Some-Serve.is ∙ ap Some c.in-Some-Serve.field-0-is) ∙ says_names c.args.words.now is in
     absurd (cc)
 
 pub returns-in-Some-Serve-clause-attends : goal.returns-in-Some-Serve-clause-attends
 returns-in-Some-Serve-clause-attends g c = λ host inc turns is.
     let no : Some (Command.Serve c.in-Some-Serve.turns c.in-Some-Serve.longest) ≡ Some (Command.Client host inc turns) =
-        sym (sym c.command.ensures.says ∙ c.in-Some-Serve.is ∙ ap Some c.in-Some-Serve.field-0-is) ∙ is in
+    sym (sym c.command.ensures.says ∙ c.in-Some-Serve.is ∙ ap Some c.in-Some-Serve.field-0-is) ∙ is in
     absurd (cc)
 
 pub returns-in-Some-Serve-clause-storms : goal.returns-in-Some-Serve-clause-storms
 returns-in-Some-Serve-clause-storms g c = λ kind start events is.
     let no : Some (Command.Serve c.in-Some-Serve.turns c.in-Some-Serve.longest) ≡ Some (Command.Storm kind start events) =
-        sym (sym c.command.ensures.says ∙ c.in-Some-Serve.is ∙ ap Some c.in-Some-Serve.field-0-is) ∙ is in
+    sym (sym c.command.ensures.says ∙ c.in-Some-Serve.is ∙ ap Some c.in-Some-Serve.field-0-is) ∙ is in
     absurd (cc)
 
 pub returns-in-Some-Serve-clause-loops : goal.returns-in-Some-Serve-clause-loops
 returns-in-Some-Serve-clause-loops g c = λ hosts turns is.
     let no : Some (Command.Serve c.in-Some-Serve.turns c.in-Some-Serve.longest) ≡ Some (Command.Loop hosts turns) =
-        sym (sym c.command.ensures.says ∙ c.in-Some-Serve.is ∙ ap Some c.in-Some-Serve.field-0-is) ∙ is in
+    sym (sym c.command.ensures.says ∙ c.in-Some-Serve.is ∙ ap Some c.in-Some-Serve.field-0-is) ∙ is in
     absurd (cc)
 
 pub returns-in-Some-Serve-clause-disk : goal.returns-in-Some-Serve-clause-disk
 returns-in-Some-Serve-clause-disk g c = λ no.
     let bad : true ≡ false =
-        sym (ap uses_disk (sym c.command.ensures.says ∙ c.in-Some-Serve.is ∙ ap Some c.in-Some-Serve.field-0-is)) ∙ no in
+    sym (ap uses_disk (sym c.command.ensures.says ∙ c.in-Some-Serve.is ∙ ap Some c.in-Some-Serve.field-0-is)) ∙ no in
     absurd (cc)
 
 pub returns-in-Some-Serve-clause-input : goal.returns-in-Some-Serve-clause-input
@@ -277,7 +277,7 @@ returns-in-Some-Serve-clause-input g c = λ no. refl
 pub returns-in-Some-Serve-clause-link : goal.returns-in-Some-Serve-clause-link
 returns-in-Some-Serve-clause-link g c = λ no.
     let bad : true ≡ false =
-        sym (ap uses_link (sym c.command.ensures.says ∙ c.in-Some-Serve.is ∙ ap Some c.in-Some-Serve.field-0-is)) ∙ no in
+    sym (ap uses_link (sym c.command.ensures.says ∙ c.in-Some-Serve.is ∙ ap Some c.in-Some-Serve.field-0-is)) ∙ no in
     absurd (cc)
 
 pub returns-in-Some-Serve-clause-hosts : goal.returns-in-Some-Serve-clause-hosts
@@ -286,7 +286,7 @@ returns-in-Some-Serve-clause-hosts g c = λ no. refl
 pub returns-in-Some-Serve-clause-clock : goal.returns-in-Some-Serve-clause-clock
 returns-in-Some-Serve-clause-clock g c = λ no.
     let bad : true ≡ false =
-        sym (ap reads_clock (sym c.command.ensures.says ∙ c.in-Some-Serve.is ∙ ap Some c.in-Some-Serve.field-0-is)) ∙ no in
+    sym (ap reads_clock (sym c.command.ensures.says ∙ c.in-Some-Serve.is ∙ ap Some c.in-Some-Serve.field-0-is)) ∙ no in
     absurd (cc)
 
 pub returns-in-Some-Serve-clause-fates : goal.returns-in-Some-Serve-clause-fates
@@ -295,67 +295,67 @@ returns-in-Some-Serve-clause-fates g c = λ no. refl
 pub returns-in-Some-Replay-clause-formats : goal.returns-in-Some-Replay-clause-formats
 returns-in-Some-Replay-clause-formats g c = λ is.
     let no : Some Command.Replay ≡ Some Command.Format =
-        sym (sym c.command.ensures.says ∙ c.in-Some-Replay.is ∙ ap Some c.in-Some-Replay.field-0-is) ∙ says_format c.args.words.now is in
+    sym (sym c.command.ensures.says ∙ c.in-Some-Replay.is ∙ ap Some c.in-Some-Replay.field-0-is) ∙ says_format c.args.words.now is in
     absurd (cc)
 
 pub returns-in-Some-Replay-clause-quiet : goal.returns-in-Some-Replay-clause-quiet
 returns-in-Some-Replay-clause-quiet g c = λ is.
     let no : Some Command.Replay ≡ Some Command.Format =
-        sym (sym c.command.ensures.says ∙ c.in-Some-Replay.is ∙ ap Some c.in-Some-Replay.field-0-is) ∙ says_format c.args.words.now is in
+    sym (sym c.command.ensures.says ∙ c.in-Some-Replay.is ∙ ap Some c.in-Some-Replay.field-0-is) ∙ says_format c.args.words.now is in
     absurd (cc)
 
 pub returns-in-Some-Replay-clause-checks : goal.returns-in-Some-Replay-clause-checks
 returns-in-Some-Replay-clause-checks g c = λ is.
     let no : Some Command.Replay ≡ Some Command.Check =
-        sym (sym c.command.ensures.says ∙ c.in-Some-Replay.is ∙ ap Some c.in-Some-Replay.field-0-is) ∙ says_check c.args.words.now is in
+    sym (sym c.command.ensures.says ∙ c.in-Some-Replay.is ∙ ap Some c.in-Some-Replay.field-0-is) ∙ says_check c.args.words.now is in
     absurd (cc)
 
 pub returns-in-Some-Replay-clause-stages : goal.returns-in-Some-Replay-clause-stages
 returns-in-Some-Replay-clause-stages g c = λ is.
     let no : Some Command.Replay ≡ Some Command.Staged =
-        sym (sym c.command.ensures.says ∙ c.in-Some-Replay.is ∙ ap Some c.in-Some-Replay.field-0-is) ∙ says_staged c.args.words.now is in
+    sym (sym c.command.ensures.says ∙ c.in-Some-Replay.is ∙ ap Some c.in-Some-Replay.field-0-is) ∙ says_staged c.args.words.now is in
     absurd (cc)
 
 pub returns-in-Some-Replay-clause-names : goal.returns-in-Some-Replay-clause-names
 returns-in-Some-Replay-clause-names g c = λ is.
     let no : Some Command.Replay ≡ Some Command.Names =
-        sym (sym c.command.ensures.says ∙ c.in-Some-Replay.is ∙ ap Some c.in-Some-Replay.field-0-is) ∙ says_names c.args.words.now is in
+    sym (sym c.command.ensures.says ∙ c.in-Some-Replay.is ∙ ap Some c.in-Some-Replay.field-0-is) ∙ says_names c.args.words.now is in
     absurd (cc)
 
 pub returns-in-Some-Replay-clause-serves : goal.returns-in-Some-Replay-clause-serves
 returns-in-Some-Replay-clause-serves g c = λ turns longest is.
     let no : Some Command.Replay ≡ Some (Command.Serve turns longest) =
-        sym (sym c.command.ensures.says ∙ c.in-Some-Replay.is ∙ ap Some c.in-Some-Replay.field-0-is) ∙ is in
+    sym (sym c.command.ensures.says ∙ c.in-Some-Replay.is ∙ ap Some c.in-Some-Replay.field-0-is) ∙ is in
     absurd (cc)
 
 pub returns-in-Some-Replay-clause-attends : goal.returns-in-Some-Replay-clause-attends
 returns-in-Some-Replay-clause-attends g c = λ host inc turns is.
     let no : Some Command.Replay ≡ Some (Command.Client host inc turns) =
-        sym (sym c.command.ensures.says ∙ c.in-Some-Replay.is ∙ ap Some c.in-Some-Replay.field-0-is) ∙ is in
+    sym (sym c.command.ensures.says ∙ c.in-Some-Replay.is ∙ ap Some c.in-Some-Replay.field-0-is) ∙ is in
     absurd (cc)
 
 pub returns-in-Some-Replay-clause-storms : goal.returns-in-Some-Replay-clause-storms
 returns-in-Some-Replay-clause-storms g c = λ kind start events is.
     let no : Some Command.Replay ≡ Some (Command.Storm kind start events) =
-        sym (sym c.command.ensures.says ∙ c.in-Some-Replay.is ∙ ap Some c.in-Some-Replay.field-0-is) ∙ is in
+    sym (sym c.command.ensures.says ∙ c.in-Some-Replay.is ∙ ap Some c.in-Some-Replay.field-0-is) ∙ is in
     absurd (cc)
 
 pub returns-in-Some-Replay-clause-loops : goal.returns-in-Some-Replay-clause-loops
 returns-in-Some-Replay-clause-loops g c = λ hosts turns is.
     let no : Some Command.Replay ≡ Some (Command.Loop hosts turns) =
-        sym (sym c.command.ensures.says ∙ c.in-Some-Replay.is ∙ ap Some c.in-Some-Replay.field-0-is) ∙ is in
+    sym (sym c.command.ensures.says ∙ c.in-Some-Replay.is ∙ ap Some c.in-Some-Replay.field-0-is) ∙ is in
     absurd (cc)
 
 pub returns-in-Some-Replay-clause-disk : goal.returns-in-Some-Replay-clause-disk
 returns-in-Some-Replay-clause-disk g c = λ no.
     let bad : true ≡ false =
-        sym (ap uses_disk (sym c.command.ensures.says ∙ c.in-Some-Replay.is ∙ ap Some c.in-Some-Replay.field-0-is)) ∙ no in
+    sym (ap uses_disk (sym c.command.ensures.says ∙ c.in-Some-Replay.is ∙ ap Some c.in-Some-Replay.field-0-is)) ∙ no in
     absurd (cc)
 
 pub returns-in-Some-Replay-clause-input : goal.returns-in-Some-Replay-clause-input
 returns-in-Some-Replay-clause-input g c = λ no.
     let bad : true ≡ false =
-        sym (ap reads_input (sym c.command.ensures.says ∙ c.in-Some-Replay.is ∙ ap Some c.in-Some-Replay.field-0-is)) ∙ no in
+    sym (ap reads_input (sym c.command.ensures.says ∙ c.in-Some-Replay.is ∙ ap Some c.in-Some-Replay.field-0-is)) ∙ no in
     absurd (cc)
 
 pub returns-in-Some-Replay-clause-link : goal.returns-in-Some-Replay-clause-link
@@ -373,61 +373,61 @@ returns-in-Some-Replay-clause-fates g c = λ no. refl
 pub returns-in-Some-Storm-clause-formats : goal.returns-in-Some-Storm-clause-formats
 returns-in-Some-Storm-clause-formats g c = λ is.
     let no : Some (Command.Storm c.in-Some-Storm.field-0-0 c.in-Some-Storm.field-0-1 c.in-Some-Storm.field-0-2) ≡ Some Command.Format =
-        sym (sym c.command.ensures.says ∙ c.in-Some-Storm.is ∙ ap Some c.in-Some-Storm.field-0-is) ∙ says_format c.args.words.now is in
+    sym (sym c.command.ensures.says ∙ c.in-Some-Storm.is ∙ ap Some c.in-Some-Storm.field-0-is) ∙ says_format c.args.words.now is in
     absurd (cc)
 
 pub returns-in-Some-Storm-clause-quiet : goal.returns-in-Some-Storm-clause-quiet
 returns-in-Some-Storm-clause-quiet g c = λ is.
     let no : Some (Command.Storm c.in-Some-Storm.field-0-0 c.in-Some-Storm.field-0-1 c.in-Some-Storm.field-0-2) ≡ Some Command.Format =
-        sym (sym c.command.ensures.says ∙ c.in-Some-Storm.is ∙ ap Some c.in-Some-Storm.field-0-is) ∙ says_format c.args.words.now is in
+    sym (sym c.command.ensures.says ∙ c.in-Some-Storm.is ∙ ap Some c.in-Some-Storm.field-0-is) ∙ says_format c.args.words.now is in
     absurd (cc)
 
 pub returns-in-Some-Storm-clause-replays : goal.returns-in-Some-Storm-clause-replays
 returns-in-Some-Storm-clause-replays g c = λ is.
     let no : Some (Command.Storm c.in-Some-Storm.field-0-0 c.in-Some-Storm.field-0-1 c.in-Some-Storm.field-0-2) ≡ Some Command.Replay =
-        sym (sym c.command.ensures.says ∙ c.in-Some-Storm.is ∙ ap Some c.in-Some-Storm.field-0-is) ∙ says_replay c.args.words.now is in
+    sym (sym c.command.ensures.says ∙ c.in-Some-Storm.is ∙ ap Some c.in-Some-Storm.field-0-is) ∙ says_replay c.args.words.now is in
     absurd (cc)
 
 pub returns-in-Some-Storm-clause-checks : goal.returns-in-Some-Storm-clause-checks
 returns-in-Some-Storm-clause-checks g c = λ is.
     let no : Some (Command.Storm c.in-Some-Storm.field-0-0 c.in-Some-Storm.field-0-1 c.in-Some-Storm.field-0-2) ≡ Some Command.Check =
-        sym (sym c.command.ensures.says ∙ c.in-Some-Storm.is ∙ ap Some c.in-Some-Storm.field-0-is) ∙ says_check c.args.words.now is in
+    sym (sym c.command.ensures.says ∙ c.in-Some-Storm.is ∙ ap Some c.in-Some-Storm.field-0-is) ∙ says_check c.args.words.now is in
     absurd (cc)
 
 pub returns-in-Some-Storm-clause-stages : goal.returns-in-Some-Storm-clause-stages
 returns-in-Some-Storm-clause-stages g c = λ is.
     let no : Some (Command.Storm c.in-Some-Storm.field-0-0 c.in-Some-Storm.field-0-1 c.in-Some-Storm.field-0-2) ≡ Some Command.Staged =
-        sym (sym c.command.ensures.says ∙ c.in-Some-Storm.is ∙ ap Some c.in-Some-Storm.field-0-is) ∙ says_staged c.args.words.now is in
+    sym (sym c.command.ensures.says ∙ c.in-Some-Storm.is ∙ ap Some c.in-Some-Storm.field-0-is) ∙ says_staged c.args.words.now is in
     absurd (cc)
 
 pub returns-in-Some-Storm-clause-names : goal.returns-in-Some-Storm-clause-names
 returns-in-Some-Storm-clause-names g c = λ is.
     let no : Some (Command.Storm c.in-Some-Storm.field-0-0 c.in-Some-Storm.field-0-1 c.in-Some-Storm.field-0-2) ≡ Some Command.Names =
-        sym (sym c.command.ensures.says ∙ c.in-Some-Storm.is ∙ ap Some c.in-Some-Storm.field-0-is) ∙ says_names c.args.words.now is in
+    sym (sym c.command.ensures.says ∙ c.in-Some-Storm.is ∙ ap Some c.in-Some-Storm.field-0-is) ∙ says_names c.args.words.now is in
     absurd (cc)
 
 pub returns-in-Some-Storm-clause-serves : goal.returns-in-Some-Storm-clause-serves
 returns-in-Some-Storm-clause-serves g c = λ turns longest is.
     let no : Some (Command.Storm c.in-Some-Storm.field-0-0 c.in-Some-Storm.field-0-1 c.in-Some-Storm.field-0-2) ≡ Some (Command.Serve turns longest) =
-        sym (sym c.command.ensures.says ∙ c.in-Some-Storm.is ∙ ap Some c.in-Some-Storm.field-0-is) ∙ is in
+    sym (sym c.command.ensures.says ∙ c.in-Some-Storm.is ∙ ap Some c.in-Some-Storm.field-0-is) ∙ is in
     absurd (cc)
 
 pub returns-in-Some-Storm-clause-attends : goal.returns-in-Some-Storm-clause-attends
 returns-in-Some-Storm-clause-attends g c = λ host inc turns is.
     let no : Some (Command.Storm c.in-Some-Storm.field-0-0 c.in-Some-Storm.field-0-1 c.in-Some-Storm.field-0-2) ≡ Some (Command.Client host inc turns) =
-        sym (sym c.command.ensures.says ∙ c.in-Some-Storm.is ∙ ap Some c.in-Some-Storm.field-0-is) ∙ is in
+    sym (sym c.command.ensures.says ∙ c.in-Some-Storm.is ∙ ap Some c.in-Some-Storm.field-0-is) ∙ is in
     absurd (cc)
 
 pub returns-in-Some-Storm-clause-loops : goal.returns-in-Some-Storm-clause-loops
 returns-in-Some-Storm-clause-loops g c = λ hosts turns is.
     let no : Some (Command.Storm c.in-Some-Storm.field-0-0 c.in-Some-Storm.field-0-1 c.in-Some-Storm.field-0-2) ≡ Some (Command.Loop hosts turns) =
-        sym (sym c.command.ensures.says ∙ c.in-Some-Storm.is ∙ ap Some c.in-Some-Storm.field-0-is) ∙ is in
+    sym (sym c.command.ensures.says ∙ c.in-Some-Storm.is ∙ ap Some c.in-Some-Storm.field-0-is) ∙ is in
     absurd (cc)
 
 pub returns-in-Some-Storm-clause-disk : goal.returns-in-Some-Storm-clause-disk
 returns-in-Some-Storm-clause-disk g c = λ no.
     let bad : true ≡ false =
-        sym (ap uses_disk (sym c.command.ensures.says ∙ c.in-Some-Storm.is ∙ ap Some c.in-Some-Storm.field-0-is)) ∙ no in
+    sym (ap uses_disk (sym c.command.ensures.says ∙ c.in-Some-Storm.is ∙ ap Some c.in-Some-Storm.field-0-is)) ∙ no in
     absurd (cc)
 
 pub returns-in-Some-Storm-clause-input : goal.returns-in-Some-Storm-clause-input
@@ -445,67 +445,67 @@ returns-in-Some-Storm-clause-clock g c = c.run_emptied.ensures.clock
 pub returns-in-Some-Storm-clause-fates : goal.returns-in-Some-Storm-clause-fates
 returns-in-Some-Storm-clause-fates g c = λ no.
     let bad : true ≡ false =
-        sym (ap uses_fates (sym c.command.ensures.says ∙ c.in-Some-Storm.is ∙ ap Some c.in-Some-Storm.field-0-is)) ∙ no in
+    sym (ap uses_fates (sym c.command.ensures.says ∙ c.in-Some-Storm.is ∙ ap Some c.in-Some-Storm.field-0-is)) ∙ no in
     absurd (cc)
 
 pub returns-in-Some-Loop-clause-formats : goal.returns-in-Some-Loop-clause-formats
 returns-in-Some-Loop-clause-formats g c = λ is.
     let no : Some (Command.Loop c.in-Some-Loop.field-0-0 c.in-Some-Loop.field-0-1) ≡ Some Command.Format =
-        sym (sym c.command.ensures.says ∙ c.in-Some-Loop.is ∙ ap Some c.in-Some-Loop.field-0-is) ∙ says_format c.args.words.now is in
+    sym (sym c.command.ensures.says ∙ c.in-Some-Loop.is ∙ ap Some c.in-Some-Loop.field-0-is) ∙ says_format c.args.words.now is in
     absurd (cc)
 
 pub returns-in-Some-Loop-clause-quiet : goal.returns-in-Some-Loop-clause-quiet
 returns-in-Some-Loop-clause-quiet g c = λ is.
     let no : Some (Command.Loop c.in-Some-Loop.field-0-0 c.in-Some-Loop.field-0-1) ≡ Some Command.Format =
-        sym (sym c.command.ensures.says ∙ c.in-Some-Loop.is ∙ ap Some c.in-Some-Loop.field-0-is) ∙ says_format c.args.words.now is in
+    sym (sym c.command.ensures.says ∙ c.in-Some-Loop.is ∙ ap Some c.in-Some-Loop.field-0-is) ∙ says_format c.args.words.now is in
     absurd (cc)
 
 pub returns-in-Some-Loop-clause-replays : goal.returns-in-Some-Loop-clause-replays
 returns-in-Some-Loop-clause-replays g c = λ is.
     let no : Some (Command.Loop c.in-Some-Loop.field-0-0 c.in-Some-Loop.field-0-1) ≡ Some Command.Replay =
-        sym (sym c.command.ensures.says ∙ c.in-Some-Loop.is ∙ ap Some c.in-Some-Loop.field-0-is) ∙ says_replay c.args.words.now is in
+    sym (sym c.command.ensures.says ∙ c.in-Some-Loop.is ∙ ap Some c.in-Some-Loop.field-0-is) ∙ says_replay c.args.words.now is in
     absurd (cc)
 
 pub returns-in-Some-Loop-clause-checks : goal.returns-in-Some-Loop-clause-checks
 returns-in-Some-Loop-clause-checks g c = λ is.
     let no : Some (Command.Loop c.in-Some-Loop.field-0-0 c.in-Some-Loop.field-0-1) ≡ Some Command.Check =
-        sym (sym c.command.ensures.says ∙ c.in-Some-Loop.is ∙ ap Some c.in-Some-Loop.field-0-is) ∙ says_check c.args.words.now is in
+    sym (sym c.command.ensures.says ∙ c.in-Some-Loop.is ∙ ap Some c.in-Some-Loop.field-0-is) ∙ says_check c.args.words.now is in
     absurd (cc)
 
 pub returns-in-Some-Loop-clause-stages : goal.returns-in-Some-Loop-clause-stages
 returns-in-Some-Loop-clause-stages g c = λ is.
     let no : Some (Command.Loop c.in-Some-Loop.field-0-0 c.in-Some-Loop.field-0-1) ≡ Some Command.Staged =
-        sym (sym c.command.ensures.says ∙ c.in-Some-Loop.is ∙ ap Some c.in-Some-Loop.field-0-is) ∙ says_staged c.args.words.now is in
+    sym (sym c.command.ensures.says ∙ c.in-Some-Loop.is ∙ ap Some c.in-Some-Loop.field-0-is) ∙ says_staged c.args.words.now is in
     absurd (cc)
 
 pub returns-in-Some-Loop-clause-names : goal.returns-in-Some-Loop-clause-names
 returns-in-Some-Loop-clause-names g c = λ is.
     let no : Some (Command.Loop c.in-Some-Loop.field-0-0 c.in-Some-Loop.field-0-1) ≡ Some Command.Names =
-        sym (sym c.command.ensures.says ∙ c.in-Some-Loop.is ∙ ap Some c.in-Some-Loop.field-0-is) ∙ says_names c.args.words.now is in
+    sym (sym c.command.ensures.says ∙ c.in-Some-Loop.is ∙ ap Some c.in-Some-Loop.field-0-is) ∙ says_names c.args.words.now is in
     absurd (cc)
 
 pub returns-in-Some-Loop-clause-serves : goal.returns-in-Some-Loop-clause-serves
 returns-in-Some-Loop-clause-serves g c = λ turns longest is.
     let no : Some (Command.Loop c.in-Some-Loop.field-0-0 c.in-Some-Loop.field-0-1) ≡ Some (Command.Serve turns longest) =
-        sym (sym c.command.ensures.says ∙ c.in-Some-Loop.is ∙ ap Some c.in-Some-Loop.field-0-is) ∙ is in
+    sym (sym c.command.ensures.says ∙ c.in-Some-Loop.is ∙ ap Some c.in-Some-Loop.field-0-is) ∙ is in
     absurd (cc)
 
 pub returns-in-Some-Loop-clause-attends : goal.returns-in-Some-Loop-clause-attends
 returns-in-Some-Loop-clause-attends g c = λ host inc turns is.
     let no : Some (Command.Loop c.in-Some-Loop.field-0-0 c.in-Some-Loop.field-0-1) ≡ Some (Command.Client host inc turns) =
-        sym (sym c.command.ensures.says ∙ c.in-Some-Loop.is ∙ ap Some c.in-Some-Loop.field-0-is) ∙ is in
+    sym (sym c.command.ensures.says ∙ c.in-Some-Loop.is ∙ ap Some c.in-Some-Loop.field-0-is) ∙ is in
     absurd (cc)
 
 pub returns-in-Some-Loop-clause-storms : goal.returns-in-Some-Loop-clause-storms
 returns-in-Some-Loop-clause-storms g c = λ kind start events is.
     let no : Some (Command.Loop c.in-Some-Loop.field-0-0 c.in-Some-Loop.field-0-1) ≡ Some (Command.Storm kind start events) =
-        sym (sym c.command.ensures.says ∙ c.in-Some-Loop.is ∙ ap Some c.in-Some-Loop.field-0-is) ∙ is in
+    sym (sym c.command.ensures.says ∙ c.in-Some-Loop.is ∙ ap Some c.in-Some-Loop.field-0-is) ∙ is in
     absurd (cc)
 
 pub returns-in-Some-Loop-clause-disk : goal.returns-in-Some-Loop-clause-disk
 returns-in-Some-Loop-clause-disk g c = λ no.
     let bad : true ≡ false =
-        sym (ap uses_disk (sym c.command.ensures.says ∙ c.in-Some-Loop.is ∙ ap Some c.in-Some-Loop.field-0-is)) ∙ no in
+    sym (ap uses_disk (sym c.command.ensures.says ∙ c.in-Some-Loop.is ∙ ap Some c.in-Some-Loop.field-0-is)) ∙ no in
     absurd (cc)
 
 pub returns-in-Some-Loop-clause-input : goal.returns-in-Some-Loop-clause-input
@@ -517,13 +517,13 @@ returns-in-Some-Loop-clause-link g c = c.run_emptied-in-Some-Loop.ensures.link
 pub returns-in-Some-Loop-clause-hosts : goal.returns-in-Some-Loop-clause-hosts
 returns-in-Some-Loop-clause-hosts g c = λ no.
     let bad : true ≡ false =
-        sym (ap uses_links (sym c.command.ensures.says ∙ c.in-Some-Loop.is ∙ ap Some c.in-Some-Loop.field-0-is)) ∙ no in
+    sym (ap uses_links (sym c.command.ensures.says ∙ c.in-Some-Loop.is ∙ ap Some c.in-Some-Loop.field-0-is)) ∙ no in
     absurd (cc)
 
 pub returns-in-Some-Loop-clause-clock : goal.returns-in-Some-Loop-clause-clock
 returns-in-Some-Loop-clause-clock g c = λ no.
     let bad : true ≡ false =
-        sym (ap reads_clock (sym c.command.ensures.says ∙ c.in-Some-Loop.is ∙ ap Some c.in-Some-Loop.field-0-is)) ∙ no in
+    sym (ap reads_clock (sym c.command.ensures.says ∙ c.in-Some-Loop.is ∙ ap Some c.in-Some-Loop.field-0-is)) ∙ no in
     absurd (cc)
 
 pub returns-in-Some-Loop-clause-fates : goal.returns-in-Some-Loop-clause-fates
