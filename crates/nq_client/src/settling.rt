@@ -117,7 +117,11 @@ impl Step {
         requires block { room.old ≡ true }
         ensures { step_of self.new ≡ settles_read (step_of self.old) q file block (lease_on file self.old.state.leases.items) }
     {
-        match self.state.leases.leave_to_read(self.state.time, file, block) {
+        match self
+            .state
+            .leases
+            .leave_to_read(self.state.time, file, block)
+        {
             Leave::None => {}
             Leave::PastEnd => self.ends_call(q, Answer::Range, Said::Range),
             Leave::Granted => self.settle_body(q, file, block, room),
@@ -198,7 +202,11 @@ impl Step {
         if through || self.state.notices.waits(file) {
             return;
         }
-        match self.state.leases.leave_to_write(self.state.time, file, block) {
+        match self
+            .state
+            .leases
+            .leave_to_write(self.state.time, file, block)
+        {
             Leave::None => {}
             Leave::PastEnd => self.ends_call(q, Answer::Range, Said::Range),
             Leave::Granted => self.writes(q, sync, file, block, room),
