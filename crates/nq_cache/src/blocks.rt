@@ -1,13 +1,11 @@
 //! The clean blocks of a client.
 
-ghost use Rattle.std.specs.Prelude.{◌≡◌, ◌≤◌, [], length, is_some, option_copied, IsSome, IsOk, OnOk, OnErr, IfOk};
+ghost use Rattle.std.specs.Prelude.{◌≡◌, [], option_copied, IsSome, IsOk, OnOk, OnErr, IfOk};
 ghost use Rattle.nq_model.specs.Client.{clean_at, drop_clean, purge, put_clean};
-ghost use Rattle.nq_model.specs.Profile.{most_clean};
 ghost use Rattle.nq_model.specs.Settle.{clean_body, looked_up};
 
 use crate::entries::{
-    Entries, Key, MOST, bring_forward, cut, holds, leave_first, put_first, read, take_file,
-    take_out,
+    Entries, Key, MOST, bring_forward, cut, leave_first, put_first, read, take_file, take_out,
 };
 use nq_base::{Block, FileId, NoMemory};
 use std::alloc::Global;
@@ -54,14 +52,6 @@ impl Blocks {
         ensures { self.new ≡ looked_up key.now.file key.now.block self.old }
     {
         bring_forward(&mut self.entries, key);
-    }
-
-    /// Whether a block is there.
-    pub(crate) fn holds(&self, key: &Key) -> bool
-        ensures found { result ≡ is_some (clean_at key.now.file key.now.block self.now) }
-        ensures few { length self.now ≤ most_clean }
-    {
-        holds(&self.entries, key)
     }
 
     /// Puts a block in front. The last one goes where there would be more than 512.

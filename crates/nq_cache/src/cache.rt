@@ -1,14 +1,13 @@
 //! The cache of a client.
 
-ghost use Rattle.std.specs.Prelude.{◌≡◌, ◌≤◌, ◌+◌, [], length, is_some, option_copied, option_map, IsSome, IsOk, OnOk, OnErr, IfOk};
-ghost use Rattle.nq_model.specs.Client.{clean_at, drop_clean, purge, put_clean, revision_of, put_revision};
-ghost use Rattle.nq_model.specs.Profile.{most_clean};
+ghost use Rattle.std.specs.Prelude.{◌≡◌, ◌≤◌, ◌+◌, [], option_map, true, IsSome, IsOk, OnOk, OnErr, IfOk};
+ghost use Rattle.nq_model.specs.Client.{clean_at, drop_clean, purge, put_clean, revision_of, revision_or_zero, put_revision};
 ghost use Rattle.nq_model.specs.Settle.{clean_body, looked_up};
 
 use crate::blocks::Blocks;
 use crate::entries::Key;
 use crate::revisions::Revisions;
-use nq_base::{Block, BlockNo, FileId, NoMemory, Rev};
+use nq_base::{Block, BlockNo, FileId, NoMemory, Rev, Spare};
 use std::alloc::Global;
 use std::marker::Model;
 
@@ -41,26 +40,19 @@ impl Cache {
         })
     }
 
-    /// A block, if it is there. It stays where it is: [`Cache::touch`] brings it to the front.
-    pub fn get(&self, file: FileId, block: BlockNo) -> Option<&Block>
-        ensures { option_copied result ≡ clean_body (clean_at file block self.now.clean) }
+    /// A copy of a block, if it is there, in room that is there. It comes to the front.
+    pub fn read(&mut self, file: FileId, block: BlockNo, room: &mut Spare) -> Option<Block>
+        requires { room.old ≡ true }
+        ensures body { result ≡ clean_body (clean_at file block self.old.clean) }
+        ensures front { self.new ≡ record self.old { clean = looked_up file block self.old.clean } }
     {
-        self.clean.get(&Key { file, block })
-    }
-
-    /// Brings a block to the front, if it is there.
-    pub fn touch(&mut self, file: FileId, block: BlockNo)
-        ensures { self.new ≡ record self.old { clean = looked_up file block self.old.clean } }
-    {
-        self.clean.touch(&Key { file, block });
-    }
-
-    /// Whether a block is there.
-    pub fn holds(&self, file: FileId, block: BlockNo) -> bool
-        ensures found { result ≡ is_some (clean_at file block self.now.clean) }
-        ensures few { length self.now.clean ≤ most_clean }
-    {
-        self.clean.holds(&Key { file, block })
+        let key = Key { file, block };
+        let body = match self.clean.get(&key) {
+            Some(body) => Some(body.copied_in(room)),
+            None => None,
+        };
+        self.clean.touch(&key);
+        body
     }
 
     /// Puts a block in front. The last one goes where there would be more than 512.
@@ -108,6 +100,16 @@ impl Cache {
         ensures { result ≡ option_map (λ r. r.rev) (revision_of file self.now.revisions) }
     {
         self.revisions.get(file)
+    }
+
+    /// The revision of a file's clean blocks, or 0.
+    pub fn rev_or_zero(&self, file: FileId) -> Rev
+        ensures { result ≡ revision_or_zero (revision_of file self.now.revisions) }
+    {
+        match self.rev(file) {
+            Some(rev) => rev,
+            None => Rev(0),
+        }
     }
 
     /// Makes room for the revisions of `files` files that have none.

@@ -1,7 +1,7 @@
 //! Clean blocks on an `LruCache`: it has room for one more than there may be, so that a block can be put in before
 //! another goes.
 
-ghost use Rattle.std.specs.Prelude.{◌≡◌, ◌≤◌, ◌<◌, ◌+◌, ◌-◌, ◌∷◌, ◌++◌, [], false, true, length, take, drop, filter, is_some, option_copied, option_map, IsSome, IsOk, OnOk, OnErr, IfOk, IsTrue, if◌then◌else◌};
+ghost use Rattle.std.specs.Prelude.{◌≡◌, ◌≤◌, ◌<◌, ◌+◌, ◌-◌, ◌∷◌, ◌++◌, [], false, true, length, take, drop, filter, option_copied, option_map, IsSome, IsOk, OnOk, OnErr, IfOk, IsTrue, if◌then◌else◌};
 ghost use Rattle.nq_model.specs.Client.{clean_at, drop_clean, purge, put_clean};
 ghost use Rattle.nq_model.specs.Profile.{most_clean, at_most};
 ghost use Rattle.nq_model.specs.Settle.{clean_body, looked_up};
@@ -40,14 +40,13 @@ pub(crate) fn put_first(entries: &mut Entries, key: &Key, body: Block) -> Result
 }
 
 /// Brings a block to the front, if it is there.
-pub(crate) fn bring_forward(entries: &mut Entries, key: &Key) -> bool
-    ensures found { result ≡ is_some (clean_at key.now.file key.now.block (clean_blocks entries.old.entries)) }
+pub(crate) fn bring_forward(entries: &mut Entries, key: &Key)
     ensures order { clean_blocks entries.new.entries ≡ looked_up key.now.file key.now.block (clean_blocks entries.old.entries) }
     ensures count { length entries.new.entries ≡ length entries.old.entries }
     ensures room { entries.new.cap ≡ entries.old.cap }
 {
     let _distinct = entries.len();
-    entries.promote(key)
+    entries.promote(key);
 }
 
 /// Takes a block out, if it is there.
@@ -65,13 +64,6 @@ pub(crate) fn read<'a>(entries: &'a Entries, key: &Key) -> Option<&'a Block>
     ensures { option_copied result ≡ clean_body (clean_at key.now.file key.now.block (clean_blocks entries.now.entries)) }
 {
     entries.peek(key)
-}
-
-/// Whether a block is there.
-pub(crate) fn holds(entries: &Entries, key: &Key) -> bool
-    ensures { result ≡ is_some (clean_at key.now.file key.now.block (clean_blocks entries.now.entries)) }
-{
-    entries.contains(key)
 }
 
 /// Takes the last block out.

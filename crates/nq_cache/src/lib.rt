@@ -4,6 +4,8 @@
 mod blocks;
 mod cache;
 mod entries;
+mod granting;
 mod revisions;
 
 pub use cache::Cache;
+pub use granting::{caches_read, caches_written, cleans, lets_cache};

@@ -1,7 +1,8 @@
 -- Grants that are taken: the loss that they may bring leaves the cache as it was.
 use Rattle.std.proofs.Common.{◌≡◌, ℕ, Bool, true, false, not, ◌&&◌, List, Option, Some, None, if◌then◌else◌, refl, sym, ap, ◌∙◌}
 use Rattle.nq_base.specs.declared.Grant.{Grant}
-use Rattle.nq_client_parts.specs.Granting.{clean_after_reply, keeps, with_clean}
+use Rattle.nq_cache.specs.Granting.{clean_after_reply}
+use Rattle.nq_client.specs.Granting.{keeps, with_clean}
 use Rattle.nq_client_parts.specs.Takes.{is_broken, taking}
 use Rattle.nq_model.specs.Client.{Clean, ClientStep, Lease, Notice, Revision, UnderWay, is_clean, lease_on, notice_on}
 use Rattle.nq_model.specs.Hear.{breaks, breaks_chain, caches_block, holds, if_broken, loses, reports_to, takes_optional, then_caches, vacates_lease, vacates_noticed, waits_for}

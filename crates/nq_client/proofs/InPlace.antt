@@ -3,7 +3,8 @@ use Rattle.std.proofs.Common.{◌≡◌, ℕ, Bool, true, false, not, ◌&&◌, 
 use Rattle.std.specs.Option.{option_map}
 use Rattle.nq_base.specs.declared.Answer.{Answer}
 use Rattle.nq_base.specs.declared.Call.{Call}
-use Rattle.nq_client.specs.Settling.{body_of_call, called_body, goes_on_delayed, settles_body, settles_put, settles_read, settles_write, with_written}
+use Rattle.nq_client_parts.specs.Calls.{body_of_call}
+use Rattle.nq_client.specs.Settling.{called_body, goes_on_delayed, settles_body, settles_put, settles_read, settles_write, with_written}
 use Rattle.nq_client.specs.State.{under_way}
 use Rattle.nq_client.specs.declared.state.UnderWay as code
 use Rattle.nq_model.specs.Client.{ClientStep, Lease, UnderWay, in_state, lease_on, lets_read, lets_write, notice_on}

@@ -9,7 +9,8 @@ use Rattle.nq_client.proofs.Replied.{Kept, answered-kept, answered-none}
 use Rattle.nq_client.proofs.Requested.{sends, Sent}
 use Rattle.nq_client.proofs.Settled.{choice, settled, Settled, is_given}
 use Rattle.nq_client.proofs.Ties.{tied-cancelled}
-use Rattle.nq_client.specs.Receiving.{answered, after_reply, at_stake, Counts, file_at_stake, IsHeeded, most_entries, on_call, on_heard, on_notice, on_reply}
+use Rattle.nq_client_parts.specs.Calls.{file_at_stake}
+use Rattle.nq_client.specs.Receiving.{answered, after_reply, at_stake, Counts, IsHeeded, most_entries, on_call, on_heard, on_notice, on_reply}
 use Rattle.nq_client.specs.State.{client_of}
 use Rattle.nq_client.specs.Step.{HasNumbers, step_of}
 use Rattle.nq_client.specs.Tied.{Tied, TiedFor}

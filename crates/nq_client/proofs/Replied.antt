@@ -12,7 +12,8 @@ use Rattle.nq_base.specs.declared.Tag.{Tag}
 use Rattle.nq_base.specs.declared.Value.{Value}
 use Rattle.nq_base.specs.declared.Who.{Who}
 use Rattle.nq_client.proofs.Settled.{choice, is_given}
-use Rattle.nq_client.specs.Receiving.{answered, file_at_stake}
+use Rattle.nq_client_parts.specs.Calls.{file_at_stake}
+use Rattle.nq_client.specs.Receiving.{answered}
 use Rattle.nq_client.specs.Tied.{TiedFor, Stores}
 use Rattle.nq_model.specs.Client.{Notice, UnderWay, Job, attaching, for_call, renewing, pushing, Ticket, ClientStep, is_push_of, push_passes, is_clean, lease_on, notice_on, is_revision_before, revision_of, dirty_at}
 use Rattle.nq_model.specs.Hear.{vacates_lease, vacates_noticed, all_dirty, loss_entry, loses, waits_for, reports_to, reports, without_lease, push_refused, breaks, breaks_chain, if_broken, holds, takes_grant, takes_optional, answers_call_of, answers_call, caches_block, purges, knows_revision, grant_caches, then_caches, read_done, marks_through, lease_done, holds_caching, caches_write, write_done, ends_push, caches_push, vacates_if_clean, push_done, answer_of, is_put_off, attached, pauses, done_for_call, done_renewal, done_push, done, refused_push, refused, other_push, is_of_procedure, reply_counts}

@@ -3,11 +3,11 @@ pub mod Asking
 pub mod Calling
 pub mod Counted
 pub mod Finishing
+pub mod Granting
 pub mod Hearing
 pub mod Losing
 pub mod Outcome
 pub mod Prepared
-pub mod Reading
 pub mod Receiving
 pub mod Settling
 pub mod State

@@ -3,6 +3,7 @@ use Rattle.std.specs.Prelude.{◌≤◌, ◌+◌, ℕ, Bool, false, length, Opti
 use Rattle.nq_base.specs.declared.Reply.{Reply}
 use Rattle.nq_base.specs.declared.Request.{Request}
 use Rattle.nq_base.specs.declared.Tag.{Tag}
+use Rattle.nq_client_parts.specs.Calls.{file_at_stake}
 use Rattle.nq_client.specs.declared.step.Step.{Step}
 use Rattle.nq_datagrams.specs.declared.Heard.{Heard}
 use Rattle.nq_model.specs.Client.{Client, ClientStep, Ticket, begun}
@@ -13,14 +14,7 @@ abbrev pub counts : Client → (xid : ℕ) → Reply → Option Ticket → Bool
 counts c xid r None = false
 counts c xid r (Some ticket) = is_reply_to c xid r ticket
 
--- the file whose delayed writes the reply to a request may lose, or 0
-abbrev pub file_at_stake : Request → ℕ
-file_at_stake (Request.Read who q file block want) = file
-file_at_stake (Request.Write who seq file block first last push body) = file
-file_at_stake (Request.GetLease who file want) = file
-file_at_stake other = 0
-
--- likewise of the request under way
+-- the file whose delayed writes the reply to the request under way may lose, or 0
 abbrev pub at_stake : Option Ticket → ℕ
 at_stake None = 0
 at_stake (Some ticket) = file_at_stake ticket.request

@@ -2,27 +2,12 @@
 use Rattle.std.specs.Prelude.{ℕ, Bool, true, false, not, ◌&&◌, List, ◌∷◌, Option, Some, None, is_some, nat_le, if◌then◌else◌}
 use Rattle.nq_base.specs.Block.{filled, value_of}
 use Rattle.nq_base.specs.declared.Answer.{Answer}
-use Rattle.nq_base.specs.declared.Call.{Call}
 use Rattle.nq_base.specs.declared.Entry.{Entry}
 use Rattle.nq_base.specs.declared.Said.{Said}
 use Rattle.nq_base.specs.declared.Value.{Value}
-use Rattle.nq_client.specs.declared.settling.Leave.{Leave}
+use Rattle.nq_client_parts.specs.Calls.{body_of_call}
 use Rattle.nq_model.specs.Client.{Lease, ClientStep, UnderWay, in_state, is_clean, lease_on, lets_read, lets_write, notice_on, noting, used_lease}
 use Rattle.nq_model.specs.Settle.{after_read, answers, cached_body, delays, is_full}
-
--- whether a block is below a length
-abbrev pub within : (blocks block : ℕ) → Leave
-within blocks block = if nat_le blocks block then Leave.PastEnd else Leave.Granted
-
--- what a lease lets a read do
-abbrev pub leave_to_read : (now block : ℕ) → Option Lease → Leave
-leave_to_read now block None = Leave.None
-leave_to_read now block (Some l) = if lets_read now l then within l.blocks block else Leave.None
-
--- what a lease lets a write do
-abbrev pub leave_to_write : (now block : ℕ) → Option Lease → Leave
-leave_to_write now block None = Leave.None
-leave_to_write now block (Some l) = if lets_write now l then within l.blocks block else Leave.None
 
 -- an answer, as a journal tells it, ends the call under way
 abbrev pub ended : ClientStep → (q : ℕ) → Answer → Said → ClientStep
@@ -76,12 +61,7 @@ abbrev pub goes_on_delayed : ClientStep → (q : ℕ) → (sync : Bool) → Clie
 goes_on_delayed t q true = in_state t (record t.client { call = with_written t.client.call })
 goes_on_delayed t q false = answers t q (Answer.Ok Value.Nothing) None
 
--- the block that the call under way writes; no other call is delayed
-abbrev pub body_of_call : Call → List ℕ
-body_of_call (Call.Write file block body) = body
-body_of_call (Call.WriteSync file block body) = body
-body_of_call other = filled 0
-
+-- the block that the call under way writes
 abbrev pub called_body : Option UnderWay → List ℕ
 called_body None = filled 0
 called_body (Some u) = body_of_call u.call

@@ -4,39 +4,16 @@ ghost use Rattle.std.specs.Prelude.{◌≡◌, ◌≤◌, ◌<◌, ◌^◌, None
 ghost use Rattle.nq_base.specs.Plain.{plain_answer, plain_said};
 ghost use Rattle.nq_base.specs.declared.Answer.TheVariants.{Ok as ok};
 ghost use Rattle.nq_model.specs.Hear.{answer_of, answers_call, marks_through, pauses};
-ghost use Rattle.nq_model.specs.Settle.{said_body, said_value};
 ghost use Rattle.nq_client.specs.Answering.{answers_as};
 ghost use Rattle.nq_client.specs.Prepared.{Leaves};
 ghost use Rattle.nq_client.specs.Step.{step_of};
 
 use crate::step::Step;
-use nq_base::{Answer, Block, Refusal, Said, Ticks, Value};
+use nq_base::{Answer, Refusal, Said, Ticks, Value};
+use nq_client_parts::{answer_of, said_value};
 
 /// So long a client pauses after a request was put off, in ticks.
 const PATIENCE: u64 = 2;
-
-/// What an answer brings, as a journal tells it.
-fn said_value(value: &Value, served: Option<u64>) -> Said
-    ensures { plain_said result ≡ said_value value.now served }
-{
-    match value {
-        Value::Nothing => Said::Ok,
-        Value::File(file) => Said::OkValue(file.0),
-        Value::Blocks(blocks) => Said::OkValue(*blocks),
-        Value::Body(body) => said_body(body, served),
-    }
-}
-
-/// A block that was read, as a journal tells it: one that the server served names its packet.
-fn said_body(body: &Block, served: Option<u64>) -> Said
-    ensures { plain_said result ≡ said_body body.now served }
-{
-    let value = body.value();
-    match served {
-        Some(packet) => Said::OkBy { value, packet },
-        None => Said::OkValue(value),
-    }
-}
 
 impl Step {
     /// Answers the call under way, if there is one.
@@ -72,16 +49,8 @@ impl Step {
         ensures step { step_of self.new ≡ answers_call (step_of self.old) (answer_of status) None }
         ensures left { Leaves 1 self.old self.new }
     {
-        match status {
-            Refusal::NoEnt => self.answers_as(Answer::NoEntry, Said::NoEntry),
-            Refusal::Exist => self.answers_as(Answer::Exists, Said::Exists),
-            Refusal::Inval => self.answers_as(Answer::Range, Said::Range),
-            Refusal::NoSpc => self.answers_as(Answer::NoSpace, Said::NoSpace),
-            Refusal::Stale => self.answers_as(Answer::Stale, Said::Stale),
-            Refusal::TryLater | Refusal::Fenced | Refusal::NotAttached | Refusal::Old => {
-                self.answers_as(Answer::Busy, Said::Busy);
-            }
-        }
+        let (answer, said) = answer_of(status);
+        self.answers_as(answer, said);
     }
 
     /// The write of the call under way is to go through, or not.

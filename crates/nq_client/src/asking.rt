@@ -3,13 +3,11 @@
 ghost use Rattle.std.specs.Prelude.{◌≡◌, ◌<◌, ◌^◌, nat_le};
 ghost use Rattle.nq_model.specs.Client.{lease_on};
 ghost use Rattle.nq_model.specs.Send.{read_want, shares_live, want_of};
-ghost use Rattle.nq_client_parts.specs.HoldingLeases.{lease_of};
 ghost use Rattle.nq_client.specs.Asking.{change_need, need_by, need_of, next, push_due, push_for, put_need, read_need, write_need};
 ghost use Rattle.nq_client.specs.State.{client_of, under_way};
 
 use crate::state::{State, UnderWay};
-use nq_base::{BlockNo, Call, FileId, Mode, Request, Ticks, Want};
-use nq_client_parts::holding::Held;
+use nq_base::{BlockNo, Call, FileId, Mode, Request, Want};
 use nq_dirty::Dirty;
 
 /// What a client needs to send.
@@ -25,16 +23,6 @@ pub(crate) enum Need {
     Order(Request),
     /// Likewise, once the lease on the file is given up.
     Change(FileId, Request),
-}
-
-/// Whether a live non-caching lease is held.
-fn shares(held: &Held, now: Ticks) -> bool
-    ensures { result ≡ shares_live now (lease_of held.now) }
-{
-    match held {
-        Held::NonCaching(_) => held.live(now),
-        Held::Nothing | Held::Reading(_) | Held::Writing(_) => false,
-    }
 }
 
 /// A push of a file, if it has delayed writes.
@@ -91,7 +79,7 @@ impl State {
     fn is_shared(&self, file: FileId) -> bool
         ensures { result ≡ shares_live self.now.time (lease_on file self.now.leases.items) }
     {
-        shares(&self.leases.on(file), self.time)
+        self.leases.shares(file, self.time)
     }
 
     /// A want of this kind, with the term that the client wants.
@@ -205,7 +193,7 @@ impl State {
         ensures { result ≡ next (client_of self.now) }
     {
         let noticed = push_due(&self.dirty, self.notices.first());
-        let ending = push_due(&self.dirty, self.leases.ending(self.time, &self.dirty));
+        let ending = push_due(&self.dirty, self.dirty.ending(self.time, &self.leases));
         noticed.or(ending.or(self.need_of()))
     }
 }

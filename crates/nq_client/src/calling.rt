@@ -1,7 +1,7 @@
 //! A call of a user.
 
-ghost use Rattle.std.specs.Prelude.{◌≡◌, ◌≤◌, ◌<◌, ◌+◌, ◌^◌, map, false, IfOk};
-ghost use Rattle.nq_model.specs.Client.{begun, losses_of, span_of};
+ghost use Rattle.std.specs.Prelude.{◌≡◌, ◌≤◌, ◌<◌, ◌+◌, ◌^◌, false};
+ghost use Rattle.nq_model.specs.Client.{begun, losses_of};
 ghost use Rattle.nq_model.specs.ClientStep.{begins_call, call_freely, changed_file, client_call, losses_for, says_busy, tell_losses};
 ghost use Rattle.nq_base.specs.Calls.{told};
 ghost use Rattle.nq_model.specs.Settle.{names_losses};
@@ -9,52 +9,14 @@ ghost use Rattle.nq_client.specs.Finishing.{HasRooms};
 ghost use Rattle.nq_client.specs.Step.{HasNumbers, HasRoom, step_of};
 ghost use Rattle.nq_client.specs.Losing.{Keeps};
 ghost use Rattle.nq_client.specs.Prepared.{Leaves};
-ghost use Rattle.nq_client.specs.Calling.{HasRoomToCall, IsNamedFor};
+ghost use Rattle.nq_client.specs.Calling.{HasRoomToCall};
 ghost use Rattle.nq_client.specs.Tied.{Tied};
 
 use crate::rooms::Rooms;
-use crate::state::{State, UnderWay};
+use crate::state::UnderWay;
 use crate::step::Step;
-use nq_base::{Answer, Call, Entry, FileId, Losses, NoMemory, Said, Spans};
-use nq_client_parts::spans_of;
-use std::alloc::Global;
-
-/// The losses that a call is told before anything else, as its answer and as a journal names them.
-#[derive(Drop)]
-pub(crate) struct Named {
-    pub(crate) losses: Losses,
-    pub(crate) spans: Spans,
-}
-
-/// The losses of the file that a call changes or syncs, if it does.
-pub(crate) fn named_for(state: &State, call: &Call) -> Result<Named, NoMemory>
-    ensures { IfOk result (λ n. IsNamedFor n call.now state.now.losses.items) }
-{
-    let losses = match changed_file(call) {
-        Some(file) => state.losses.of(state.alloc, file)?,
-        None => Losses::new(state.alloc).unwrap(),
-    };
-    let spans = spans_of(state.alloc, &losses)?;
-    Ok(Named { losses, spans })
-}
-
-/// The file whose losses a call is told, if it changes or syncs one.
-fn changed_file(call: &Call) -> Option<FileId>
-    ensures { result ≡ changed_file call.now }
-{
-    match call {
-        Call::Write { file, .. }
-        | Call::WriteSync { file, .. }
-        | Call::Sync { file }
-        | Call::Resize { file, .. }
-        | Call::Remove { file } => Some(*file),
-        Call::Create { .. }
-        | Call::Lookup { .. }
-        | Call::Attr { .. }
-        | Call::Read { .. }
-        | Call::Fetch { .. } => None,
-    }
-}
+use nq_base::{Answer, Call, Entry, FileId, Said};
+use nq_client_parts::{Named, changed_file};
 
 impl Step {
     /// A call: busy, or told of losses, or under way.
@@ -64,7 +26,7 @@ impl Step {
         requires numbers { HasNumbers 2 self.old.state }
         requires calls { self.old.state.calls < 2 ^ 62 }
         requires tied { Tied self.old.state.asked self.old.state.dirty.push }
-        requires named { IsNamedFor named call self.old.state.losses.items }
+        requires named { named ≡ losses_for (changed_file call) self.old.state.losses.items }
         requires begun { step_of self.old ≡ begun (step_of self.old).client }
         ensures { step_of self.new ≡ client_call (step_of self.old).client call }
     {
@@ -72,7 +34,7 @@ impl Step {
         self.begins_call(&call);
         if busy {
             self.says_busy();
-        } else if named.losses.is_empty() {
+        } else if named.is_empty() {
             self.call_freely(call, rooms);
         } else {
             self.tells_losses(&call, named);
@@ -118,7 +80,7 @@ impl Step {
     /// The call is told its losses, which are then named.
     fn tells_losses(&mut self, call: &Call, named: Named)
         requires room { HasRoom self.old }
-        requires named { IsNamedFor named call.now self.old.state.losses.items }
+        requires named { named ≡ losses_for (changed_file call.now) self.old.state.losses.items }
         ensures { step_of self.new ≡ tell_losses (step_of self.old) (changed_file call.now) }
     {
         match changed_file(call) {
@@ -131,14 +93,13 @@ impl Step {
     #[tactic(auto, unfolding(nq_model::specs::Settle::answers))]
     pub(crate) fn names_losses(&mut self, q: u64, file: FileId, named: Named)
         requires room { 1 ≤ self.old.entries.spare }
-        requires losses { named.losses.items ≡ losses_of file self.old.state.losses.items }
-        requires spans { named.spans.items ≡ map span_of (losses_of file self.old.state.losses.items) }
+        requires named { named ≡ losses_of file self.old.state.losses.items }
         ensures step { step_of self.new ≡ names_losses (step_of self.old) q file }
         ensures left { Leaves 1 self.old self.new }
         ensures kept { Keeps self.old self.new }
     {
         self.state.losses.forget(file);
-        let Named { losses, spans } = named;
+        let (losses, spans) = named.told();
         self.ends_call(q, Answer::Lost(losses), Said::Lost(spans));
     }
 

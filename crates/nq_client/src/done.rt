@@ -5,12 +5,12 @@ ghost use Rattle.nq_base.specs.declared.Answer.TheVariants.{Ok as ok};
 ghost use Rattle.nq_base.specs.declared.Value.{Value};
 ghost use Rattle.nq_model.specs.Hear.{answers_call, done_for_call, knows_revision, lease_done, read_done};
 ghost use Rattle.nq_client.specs.Prepared.{IsPrepared, Leaves};
-ghost use Rattle.nq_client.specs.Receiving.{file_at_stake};
+ghost use Rattle.nq_client_parts.specs.Calls.{file_at_stake};
 ghost use Rattle.nq_client.specs.Step.{HasRoom, step_of};
 
 use crate::step::Step;
 use nq_base::{Block, BlockNo, FileId, Grant, NoMemory, Reply, Request, Rev, Ticks, Value};
-use nq_client_parts::lets_cache;
+use nq_cache::lets_cache;
 
 impl Step {
     /// READ of a block was done: a grant that came with it is taken, the block is cached under it, and the call is answered.

@@ -9,12 +9,12 @@ ghost use Rattle.nq_client.specs.Finishing.{Grows, HasLetters, HasRooms, longest
 ghost use Rattle.nq_client.specs.Outcome.{IsHeard, or_pending};
 ghost use Rattle.nq_client.specs.Step.{IsBegun, request_message, step_of, vacated_message};
 
+use crate::asked::Asked;
 use crate::heard::Heard;
 use crate::letters::Letter;
 use crate::rooms::Rooms;
 use crate::step::{Step, Vacated};
 use nq_base::{Answer, Journal, NoMemory, Party, Request, Who};
-use nq_client_parts::Asked;
 use nq_wire::Outbox;
 use std::alloc::Global;
 

@@ -11,10 +11,11 @@ ghost use Rattle.nq_client.specs.State.{client_of};
 ghost use Rattle.nq_client.specs.Step.{HasNumbers, HasRoom, IsBegun, step_of};
 ghost use Rattle.nq_client.specs.Tied.{Tied};
 
+use crate::asked::Asked;
 use crate::rooms::Rooms;
 use crate::step::Step;
 use nq_base::{FileId, NoMemory, Request, Who};
-use nq_client_parts::{Asked, wants};
+use nq_client_parts::wants;
 use nq_datagrams::Heard;
 
 /// Whether a request that wants a lease on the file is under way.

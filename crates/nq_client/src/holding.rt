@@ -4,13 +4,14 @@ ghost use Rattle.std.specs.Prelude.{◌≡◌, ◌≤◌, Some, IfSome};
 ghost use Rattle.nq_client_parts.specs.HoldingLeases.{lease_of};
 ghost use Rattle.nq_model.specs.Client.{put_lease};
 ghost use Rattle.nq_model.specs.Hear.{granted_lease, holds};
-ghost use Rattle.nq_client_parts.specs.Granting.{keeps};
+ghost use Rattle.nq_client.specs.Granting.{keeps};
 ghost use Rattle.nq_client.specs.Step.{step_of};
 
 use crate::step::Step;
 use nq_base::{FileId, Grant, Mode, Ticks};
+use nq_cache::cleans;
+use nq_client_parts::Leases;
 use nq_client_parts::holding::Held;
-use nq_client_parts::{Leases, cleans};
 
 /// Puts what is held in the place of another lease of its file, in room that is there.
 fn put_held(leases: &mut Leases, held: Held)

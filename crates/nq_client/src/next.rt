@@ -58,8 +58,8 @@ impl Step {
         }
         let state = &self.state;
         match state
-            .leases
-            .renewed(state.time, &state.notices, &state.dirty)
+            .dirty
+            .renewed(state.time, &state.leases, &state.notices)
         {
             Some(file) => {
                 let held = self.state.leases.on(file);

@@ -3,15 +3,16 @@
 ghost use Rattle.std.specs.Prelude.{◌≡◌, ℕ, Some, None, IfSome, IsTrue, if◌then◌else◌, option_map};
 ghost use Rattle.nq_datagrams.specs.Incoming.{awaited_of, hears_in};
 ghost use Rattle.nq_datagrams.specs.Told.{owned, told_message};
-ghost use Rattle.nq_model.specs.Hear.{hear, hear_call};
+ghost use Rattle.nq_model.specs.Hear.{hear, hear_call, inc_of, reply_counts};
 ghost use Rattle.nq_wire.specs.Lent.{lent_reply};
-ghost use Rattle.nq_client.specs.Receiving.{IsHeeded, at_stake, counts, file_at_stake, most_entries, on_call, on_heard};
+ghost use Rattle.nq_client.specs.Receiving.{IsHeeded, at_stake, counts, most_entries, on_call, on_heard};
 ghost use Rattle.nq_client.specs.State.{client_of};
 
+use crate::asked::Asked;
 use crate::hearing::is_same;
 use crate::state::State;
-use nq_base::{FileId, Request};
-use nq_client_parts::{Asked, holds_later, inc_of, reply_counts};
+use nq_base::{FileId, Inc, Reply, Request};
+use nq_client_parts::{file_at_stake, holds_later, is_of_procedure, refusal_counts};
 use nq_datagrams::{Awaited, LentHeard, read_heard_in_place};
 use nq_wire::{LentReply, Procedure};
 
@@ -25,6 +26,45 @@ fn awaited(asked: &Option<Asked>) -> Option<Awaited>
             procedure: Procedure::of(asked.request()),
         }),
         None => None,
+    }
+}
+
+/// Whether a reply without a body counts.
+fn plain_counts(reply: &Reply, asked: &Asked) -> bool
+    ensures { result ≡ reply_counts reply.now asked.now }
+{
+    match reply {
+        Reply::Refused { status, .. } => refusal_counts(*status, asked.request(), asked.job()),
+        Reply::Null
+        | Reply::Attach { .. }
+        | Reply::Lookup { .. }
+        | Reply::Create { .. }
+        | Reply::GetAttr { .. }
+        | Reply::Read { .. }
+        | Reply::Write { .. }
+        | Reply::GetLease { .. }
+        | Reply::Resize { .. }
+        | Reply::Remove { .. } => is_of_procedure(reply, asked.request()),
+    }
+}
+
+/// Whether a reply counts for the request under way: it is of its procedure, or a refusal that counts for it.
+fn reply_counts(reply: &LentReply<'_>, asked: &Asked) -> bool
+    ensures { result ≡ reply_counts (lent_reply reply.now) asked.now }
+{
+    match reply {
+        LentReply::Read { .. } => matches!(asked.request(), Request::Read { .. }),
+        LentReply::Plain(reply) => plain_counts(reply, asked),
+    }
+}
+
+/// The incarnation that a reply repeats.
+fn inc_of(reply: &LentReply<'_>) -> Inc
+    ensures { result ≡ inc_of (lent_reply reply.now) }
+{
+    match reply {
+        LentReply::Read { inc, .. } => *inc,
+        LentReply::Plain(reply) => nq_client_parts::inc_of(reply),
     }
 }
 
@@ -75,25 +115,6 @@ pub(crate) fn read<'a>(state: &State, datagram: &'a [u8]) -> Option<LentHeard<'a
         Some(heard)
     } else {
         None
-    }
-}
-
-/// The file whose delayed writes the reply to a request may lose, or 0.
-fn file_at_stake(request: &Request) -> FileId
-    ensures { result ≡ file_at_stake request.now }
-{
-    match request {
-        Request::Read { file, .. } | Request::Write { file, .. } | Request::GetLease { file, .. } =>
-            *file,
-        Request::Null
-        | Request::Attach { .. }
-        | Request::Lookup { .. }
-        | Request::Create { .. }
-        | Request::GetAttr { .. }
-        | Request::Vacated { .. }
-        | Request::Evicted { .. }
-        | Request::Resize { .. }
-        | Request::Remove { .. } => FileId(0),
     }
 }
 

@@ -4,15 +4,17 @@ ghost use Rattle.std.specs.Prelude.{◌≡◌, ◌<◌, ◌^◌, Some, OnOk, OnE
 ghost use Rattle.std.specs.Option.{ForSome};
 ghost use Rattle.nq_model.specs.Client.{pushing};
 ghost use Rattle.nq_model.specs.Hear.{done, done_push, done_renewal, refused, refused_push, replied};
-ghost use Rattle.nq_client_parts.specs.Asked.{job_of};
+ghost use Rattle.nq_client_parts.specs.Jobs.{job_of};
 ghost use Rattle.nq_client.specs.Prepared.{IsPrepared};
-ghost use Rattle.nq_client.specs.Receiving.{answered, at_stake, file_at_stake};
+ghost use Rattle.nq_client_parts.specs.Calls.{file_at_stake};
+ghost use Rattle.nq_client.specs.Receiving.{answered, at_stake};
 ghost use Rattle.nq_client.specs.Step.{HasRoom, step_of};
 ghost use Rattle.nq_client.specs.Tied.{Tied, TiedFor};
 
+use crate::asked::Asked;
 use crate::step::Step;
 use nq_base::{NoMemory, Refusal, Reply, Request, Ticks};
-use nq_client_parts::{Asked, Job, is_put_off};
+use nq_client_parts::{Job, is_put_off};
 
 impl Step {
     /// A renewal was done. It was first sent at `sent`.

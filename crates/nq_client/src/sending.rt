@@ -2,62 +2,27 @@
 
 ghost use Rattle.std.specs.Prelude.{◌≡◌, ◌+◌, ◌<◌, ◌^◌, Some, None, true};
 ghost use Rattle.nq_base.specs.declared.Request.{Request};
-ghost use Rattle.nq_model.specs.Client.{for_call, pushing, revision_of, revision_or_zero};
-ghost use Rattle.nq_model.specs.Send.{after_seq, base_in, boot_of, gives_up, pushes, sends_request, sends_write};
+ghost use Rattle.nq_model.specs.Client.{for_call, pushing};
+ghost use Rattle.nq_model.specs.Send.{after_seq, base_in, gives_up, pushes, sends_request, sends_write};
 ghost use Rattle.nq_wire.specs.Request.{HasSpelling};
-ghost use Rattle.nq_client_parts.specs.HoldingLeases.{lease_of};
-ghost use Rattle.nq_client_parts.specs.Asked.{job_of};
+ghost use Rattle.nq_client_parts.specs.Jobs.{job_of};
 ghost use Rattle.nq_client.specs.Settling.{called_body};
 ghost use Rattle.nq_client.specs.Step.{HasNumbers, step_of};
 
+use crate::asked::Asked;
 use crate::settling::called_body;
 use crate::step::Step;
-use nq_base::{BlockNo, FileId, Number, Push, PushBase, Request, Rev, Seq, Spare};
+use nq_base::{BlockNo, FileId, Number, Push, PushBase, Request, Seq, Spare};
 use nq_cache::Cache;
-use nq_client_parts::holding::Held;
-use nq_client_parts::{Asked, Job, Leases};
-
-/// The boot of the lease under which writes are delayed.
-fn boot_of(held: &Held) -> u32
-    ensures { result ≡ boot_of (lease_of held.now) }
-{
-    match held {
-        Held::Nothing => 0,
-        Held::NonCaching(lease) | Held::Reading(lease) | Held::Writing(lease) => lease.tag.boot,
-    }
-}
+use nq_client_parts::{Job, Leases};
 
 /// What a push of a file rests on.
 fn base_of(leases: &Leases, cache: &Cache, file: FileId) -> PushBase
     ensures { result ≡ base_in file leases.now.items cache.now.revisions }
 {
     PushBase {
-        boot: boot_of(&leases.on(file)),
-        base: revision(cache, file),
-    }
-}
-
-/// The known revision of a file, or 0.
-fn revision(cache: &Cache, file: FileId) -> Rev
-    ensures { result ≡ revision_or_zero (revision_of file cache.now.revisions) }
-{
-    match cache.rev(file) {
-        Some(rev) => rev,
-        None => Rev(0),
-    }
-}
-
-/// A copy of delayed writes, in room that is there.
-fn copied(push: &Push, room: &mut Spare) -> Push
-    requires { room.old ≡ true }
-    ensures { result ≡ push.now }
-{
-    Push {
-        file: push.file,
-        block: push.block,
-        first: push.first,
-        last: push.last,
-        body: push.body.copied_in(room),
+        boot: leases.boot(file),
+        base: cache.rev_or_zero(file),
     }
 }
 
@@ -72,7 +37,7 @@ impl Step {
         ensures { step_of self.new ≡ sends_request (step_of self.old) (job_of job) request }
     {
         let xid = self.state.xid;
-        let asked = Asked::new(self.state.alloc, xid, self.state.time, request, job);
+        let asked = Asked::new(xid, self.state.time, request, job);
         self.state.xid = xid + 1;
         self.asks = true;
         match self.state.asked.replace(asked) {
@@ -90,12 +55,8 @@ impl Step {
         requires numbers { HasNumbers 1 self.old.state }
         ensures { step_of self.new ≡ pushes (step_of self.old) file }
     {
-        self.state.dirty.next(file);
-        match self.state.dirty.under_way() {
-            Some(push) => {
-                let push = copied(push, room);
-                self.sends_push(push);
-            }
+        match self.state.dirty.next(file, room) {
+            Some(push) => self.sends_push(push),
             None => {}
         }
     }

@@ -9,59 +9,16 @@ ghost use Rattle.nq_model.specs.Client.{in_state, lease_on};
 ghost use Rattle.nq_model.specs.Settle.{body_in, delays, is_full_in, settle, ticket_is_for_call};
 ghost use Rattle.nq_client.specs.Losing.{Keeps};
 ghost use Rattle.nq_client.specs.Prepared.{Leaves};
-ghost use Rattle.nq_client.specs.Settling.{body_of_call, called_body, ended, goes_on_delayed, leave_to_read, leave_to_write, settles_body, settles_put, settles_read, settles_sync, settles_write, tells_read, with_written, within, writes};
+ghost use Rattle.nq_client.specs.Settling.{called_body, ended, goes_on_delayed, settles_body, settles_put, settles_read, settles_sync, settles_write, tells_read, with_written, writes};
 ghost use Rattle.nq_client.specs.State.{under_way};
 ghost use Rattle.nq_client.specs.Step.{HasNumbers, HasRoom, step_of};
 
+use crate::asked::Asked;
 use crate::reading::read_held;
 use crate::state::UnderWay;
 use crate::step::Step;
-use nq_base::{Answer, Block, BlockNo, Call, Entry, FileId, Number, Said, Spare, Ticks, Value};
-use nq_client_parts::{Asked, Job, Leases};
-
-/// What the lease on a file lets a call do with a block without a packet.
-#[derive(Clone, Copy)]
-pub(crate) enum Leave {
-    /// Nothing: a request goes first.
-    None,
-    /// The block is not below the file's length.
-    PastEnd,
-    /// It goes on.
-    Granted,
-}
-
-/// Whether a block may be read without a packet.
-fn leave_to_read(leases: &Leases, time: Ticks, file: FileId, block: BlockNo) -> Leave
-    ensures { result ≡ leave_to_read time block (lease_on file leases.now.items) }
-{
-    let held = leases.on(file);
-    match held.lease() {
-        Some(lease) if held.caches(time) => within(lease.blocks, block),
-        _ => Leave::None,
-    }
-}
-
-/// Whether a write of a block may be delayed.
-fn leave_to_write(leases: &Leases, time: Ticks, file: FileId, block: BlockNo) -> Leave
-    ensures { result ≡ leave_to_write time block (lease_on file leases.now.items) }
-{
-    let held = leases.on(file);
-    match held.lease() {
-        Some(lease) if held.delays(time) => within(lease.blocks, block),
-        _ => Leave::None,
-    }
-}
-
-/// Whether a block is below a length.
-fn within(blocks: u32, block: BlockNo) -> Leave
-    ensures { result ≡ within blocks block }
-{
-    if blocks <= block.0 {
-        Leave::PastEnd
-    } else {
-        Leave::Granted
-    }
-}
+use nq_base::{Answer, Block, BlockNo, Call, Entry, FileId, Number, Said, Spare, Value};
+use nq_client_parts::{Job, Leave, body_of_call};
 
 /// Whether the request under way is the call's own.
 fn is_for_call(asked: &Option<Asked>) -> bool
@@ -84,24 +41,6 @@ pub(crate) fn called_body(call: &Option<UnderWay>, room: &mut Spare) -> Block
     match call {
         Some(u) => body_of_call(&u.call, room),
         None => Block::fill(0),
-    }
-}
-
-/// A copy of the block that a call writes, in room that is there; zeros where it writes none.
-fn body_of_call(call: &Call, room: &mut Spare) -> Block
-    requires { room.old ≡ true }
-    ensures { result ≡ body_of_call call.now }
-{
-    match call {
-        Call::Write { body, .. } | Call::WriteSync { body, .. } => body.copied_in(room),
-        Call::Create { .. }
-        | Call::Lookup { .. }
-        | Call::Attr { .. }
-        | Call::Read { .. }
-        | Call::Fetch { .. }
-        | Call::Sync { .. }
-        | Call::Resize { .. }
-        | Call::Remove { .. } => Block::fill(0),
     }
 }
 
@@ -178,7 +117,11 @@ impl Step {
         requires block { room.old ≡ true }
         ensures { step_of self.new ≡ settles_read (step_of self.old) q file block (lease_on file self.old.state.leases.items) }
     {
-        match leave_to_read(&self.state.leases, self.state.time, file, block) {
+        match self
+            .state
+            .leases
+            .leave_to_read(self.state.time, file, block)
+        {
             Leave::None => {}
             Leave::PastEnd => self.ends_call(q, Answer::Range, Said::Range),
             Leave::Granted => self.settle_body(q, file, block, room),
@@ -259,7 +202,11 @@ impl Step {
         if through || self.state.notices.waits(file) {
             return;
         }
-        match leave_to_write(&self.state.leases, self.state.time, file, block) {
+        match self
+            .state
+            .leases
+            .leave_to_write(self.state.time, file, block)
+        {
             Leave::None => {}
             Leave::PastEnd => self.ends_call(q, Answer::Range, Said::Range),
             Leave::Granted => self.writes(q, sync, file, block, room),

@@ -4,9 +4,10 @@ ghost use Rattle.std.specs.Prelude.{◌≡◌, IfOk};
 ghost use Rattle.nq_model.specs.ClientStep.{attached_client, fresh_client};
 ghost use Rattle.nq_client.specs.State.{client_of};
 
+use crate::asked::Asked;
 use nq_base::{Call, NoMemory, Number, Seq, Ticks, Who};
 use nq_cache::Cache;
-use nq_client_parts::{Asked, Leases, Notices, Unreported};
+use nq_client_parts::{Leases, Notices, Unreported};
 use nq_dirty::Dirty;
 use std::alloc::Global;
 

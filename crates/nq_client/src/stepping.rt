@@ -2,19 +2,18 @@
 
 ghost use Rattle.std.specs.Prelude.{◌≡◌, ◌≤◌, ◌<◌, ◌+◌, ◌^◌, None, option_map, IfOk, OnErr, OnOk};
 ghost use Rattle.nq_base.specs.Plain.{plain_answer};
-ghost use Rattle.nq_model.specs.ClientStep.{client_call, client_tick};
-ghost use Rattle.nq_client.specs.Calling.{IsNamedFor};
+ghost use Rattle.nq_model.specs.ClientStep.{changed_file, client_call, client_tick, losses_for};
 ghost use Rattle.nq_client.specs.Finishing.{Grows, IsKept, IsSupplied};
 ghost use Rattle.nq_client.specs.Receiving.{HasRoomForFiles, IsHeeded, most_entries, on_heard};
 ghost use Rattle.nq_client.specs.State.{client_of};
 ghost use Rattle.nq_client.specs.Step.{HasNumbers, IsBegun};
 ghost use Rattle.nq_client.specs.Tied.{Tied};
 
-use crate::calling::{Named, named_for};
 use crate::finishing::Letters;
 use crate::receiving::most_entries;
 use crate::step::Step;
 use nq_base::{Call, Journal, NoMemory, Ticks};
+use nq_client_parts::Named;
 use nq_wire::Outbox;
 
 /// Takes the memory that a step may want: for so many entries, a block that becomes dirty, and what may be sent.
@@ -47,10 +46,10 @@ pub(crate) fn room_for_call(
     requires { IsBegun step.old }
     ensures kept { IsKept step.old step.new out.old out.new log.old log.new }
     ensures supplied { OnOk result (IsSupplied 3 step.new letters.new out.new log.new) }
-    ensures named { IfOk result (λ n. IsNamedFor n call.now step.new.state.losses.items) }
+    ensures named { IfOk result (λ n. n ≡ losses_for (changed_file call.now) step.new.state.losses.items) }
 {
     reserve(step, letters, 3, out, log)?;
-    named_for(&step.state, call)
+    step.state.losses.named_for(step.state.alloc, call)
 }
 
 /// Makes a call, with the memory that it may want. It leaves its answer in the step.
@@ -66,7 +65,7 @@ pub(crate) fn make_call(
     requires supplied { IsSupplied 3 step.old letters.old out.old log.old }
     requires numbers { HasNumbers 2 step.old.state }
     requires calls { step.old.state.calls < 2 ^ 62 }
-    requires named { IsNamedFor named call step.old.state.losses.items }
+    requires named { named ≡ losses_for (changed_file call) step.old.state.losses.items }
     requires tied { Tied step.old.state.asked step.old.state.dirty.push }
     ensures begun { IsBegun (record step.new { answer = None }) }
     ensures client { client_of step.new.state ≡ (client_call (client_of step.old.state) call).client }

@@ -1,67 +1,16 @@
 //! Replies to writes.
 
-ghost use Rattle.std.specs.Prelude.{◌≡◌, ◌==◌, ◌+◌, ◌&&◌, is_some, IsTrue, OnOk, OnErr, if◌then◌else◌};
-ghost use Rattle.nq_client_parts.specs.HoldingLeases.{lease_of};
-ghost use Rattle.nq_model.specs.Client.{dirty_at, is_push_of, is_revision_before, lease_on, purge, push_passes, put_clean, revision_of};
-ghost use Rattle.nq_model.specs.Hear.{holds_caching, push_done, write_done};
+ghost use Rattle.std.specs.Prelude.{◌≡◌, is_some, IsTrue, OnOk, OnErr, if◌then◌else◌};
+ghost use Rattle.nq_model.specs.Client.{dirty_at, is_push_of, push_passes, put_clean};
+ghost use Rattle.nq_model.specs.Hear.{push_done, write_done};
 ghost use Rattle.nq_client.specs.Prepared.{IsPrepared, Leaves};
 ghost use Rattle.nq_client.specs.Step.{step_of};
 
 use crate::step::Step;
 use nq_base::{Block, BlockNo, FileId, NoMemory, Rev, Value};
-use nq_cache::Cache;
-use nq_client_parts::Leases;
-use nq_client_parts::holding::Held;
+use nq_cache::{Cache, caches_written};
 use nq_dirty::Dirty;
 use std::alloc::Global;
-
-/// Whether a caching lease is held, live or not.
-fn holds_caching(held: &Held) -> bool
-    ensures { result ≡ holds_caching (lease_of held.now) }
-{
-    match held {
-        Held::Reading(_) | Held::Writing(_) => true,
-        Held::Nothing | Held::NonCaching(_) => false,
-    }
-}
-
-/// Whether a revision comes right after another.
-fn comes_after(known: Rev, rev: Rev) -> bool
-    ensures { result ≡ (known + 1 == rev) }
-{
-    known.0 < rev.0 && rev.0 - known.0 == 1
-}
-
-/// Whether the known revision of a file is the one before this.
-fn is_revision_before(cache: &Cache, file: FileId, rev: Rev) -> bool
-    ensures { result ≡ is_revision_before rev (revision_of file cache.now.revisions) }
-{
-    match cache.rev(file) {
-        Some(known) => comes_after(known, rev),
-        None => false,
-    }
-}
-
-/// Caches the block of a write that went through where nothing else changed since the known revision. Else the clean
-/// blocks of the file go.
-fn caches_written(
-    leases: &Leases,
-    cache: &mut Cache,
-    alloc: Global,
-    file: FileId,
-    block: BlockNo,
-    body: &Block,
-    rev: Rev,
-) -> Result<(), NoMemory>
-    ensures cached { OnOk result (cache.new ≡ record cache.old { clean = (if holds_caching (lease_on file leases.now.items) && is_revision_before rev (revision_of file cache.old.revisions) then put_clean file block body.now cache.old.clean else purge file cache.old.clean) }) }
-    ensures refused { OnErr result (cache.new ≡ cache.old) }
-{
-    if holds_caching(&leases.on(file)) && is_revision_before(cache, file, rev) {
-        return cache.put(file, block, body.copied(alloc)?);
-    }
-    cache.purge(file);
-    Ok(())
-}
 
 /// Caches the block of a push that was stored, unless it is dirty again.
 fn caches_stored(
@@ -100,15 +49,9 @@ impl Step {
         ensures left { OnOk result (Leaves 1 self.old self.new) }
         ensures refused { OnErr result (self.new ≡ self.old) }
     {
-        caches_written(
-            &self.state.leases,
-            &mut self.state.cache,
-            self.state.alloc,
-            file,
-            block,
-            body,
-            rev,
-        )?;
+        let holds = self.state.leases.holds_caching(file);
+        let alloc = self.state.alloc;
+        caches_written(&mut self.state.cache, alloc, file, block, body, rev, holds)?;
         self.state.cache.retag(file, rev).unwrap();
         self.answers_value(Value::Nothing, None);
         Ok(())

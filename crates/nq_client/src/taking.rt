@@ -8,11 +8,12 @@ ghost use Rattle.nq_client.specs.Prepared.{IsPrepared};
 ghost use Rattle.nq_client.specs.Step.{step_of};
 ghost use Rattle.nq_client.specs.Taking.{IsTaking};
 
-use crate::losing::{Ready, ready_to_lose};
+use crate::losing::ready_to_lose;
 use crate::state::State;
 use crate::step::Step;
 use nq_base::{Block, BlockNo, FileId, Grant, NoMemory, Ticks};
-use nq_client_parts::caches_read;
+use nq_cache::caches_read;
+use nq_client_parts::Losing;
 use nq_client_parts::holding::{Held, Taken};
 
 /// A grant that is to be taken, and what this needs, made before anything changes.
@@ -21,7 +22,7 @@ pub(crate) struct Taking {
     /// The lease as it is held then.
     pub(crate) held: Held,
     /// What a loss needs, where the grant brings one.
-    pub(crate) losing: Option<Ready>,
+    pub(crate) losing: Option<Losing>,
 }
 
 /// Makes what a grant needs whose request was first sent at `sent`.
@@ -50,7 +51,7 @@ fn ready_to_take(
 
 impl Step {
     /// The delayed writes of a file are lost where a grant broke the chain of its lease.
-    fn breaks_with(&mut self, file: FileId, losing: Option<Ready>)
+    fn breaks_with(&mut self, file: FileId, losing: Option<Losing>)
         requires prepared { IsPrepared file self.old }
         requires ready { ForSome losing (λ r. IsReadyFor r file self.old.state) }
         ensures step { step_of self.new ≡ (if is_some losing then breaks_chain (step_of self.old) file else step_of self.old) }

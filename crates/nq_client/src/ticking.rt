@@ -8,10 +8,10 @@ ghost use Rattle.nq_client.specs.Step.{HasNumbers, HasRoom, step_of};
 ghost use Rattle.nq_client.specs.Ticking.{is_due, sent_at};
 ghost use Rattle.nq_client.specs.Tied.{Tied};
 
+use crate::asked::Asked;
 use crate::rooms::Rooms;
 use crate::step::Step;
 use nq_base::Ticks;
-use nq_client_parts::Asked;
 
 /// Notes that the request under way is sent again, where it waited for its reply for 2 ticks; whether it is.
 fn asks_again(asked: &mut Option<Asked>, now: Ticks) -> bool

@@ -8,8 +8,8 @@ ghost use Rattle.nq_client.specs.Step.{step_of};
 
 use crate::step::{Step, Vacated};
 use nq_base::{FileId, Tag};
-use nq_client_parts::holding::{Notice, Vacancy};
-use nq_dirty::Dirty;
+use nq_client_parts::holding::Notice;
+use nq_dirty::{Dirty, Vacancy};
 
 /// The answer to a notice for a clean file.
 fn vacancy(dirty: &Dirty, notice: Notice) -> Vacancy
@@ -17,7 +17,7 @@ fn vacancy(dirty: &Dirty, notice: Notice) -> Vacancy
     ensures { result ≡ notice }
 {
     let clean = dirty.clean(notice.file()).unwrap();
-    notice.cleared(&clean).vacated()
+    clean.vacates(notice)
 }
 
 /// Spends a notice that is answered otherwise.

@@ -3,5 +3,4 @@ pub mod Least
 pub mod Marks
 pub mod NoticeList
 pub mod Places
-pub mod Renewals
 pub mod Spans

@@ -1,10 +1,10 @@
-pub mod Asked
 pub mod ByFile
+pub mod Calls
 pub mod Entries
-pub mod Granting
 pub mod HoldingLeases
+pub mod Jobs
 pub mod Leases
+pub mod Leave
 pub mod Lost
 pub mod Notices
-pub mod Sent
 pub mod Takes

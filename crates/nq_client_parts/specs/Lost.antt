@@ -1,9 +1,10 @@
 -- Losses as entries.
-use Rattle.std.specs.Prelude.{ℕ, Option, Some, None, if◌then◌else◌}
+use Rattle.std.specs.Prelude.{◌≡◌, ℕ, List, Option, Some, None, if◌then◌else◌}
 use Rattle.nq_base.specs.declared.Entry.{Entry}
 use Rattle.nq_base.specs.declared.Loss.{Loss}
 use Rattle.nq_base.specs.declared.Who.{Who}
-use Rattle.nq_model.specs.Client.{UnderWay}
+use Rattle.nq_client_parts.specs.declared.losses.Losing.{Losing}
+use Rattle.nq_model.specs.Client.{UnderWay, add_losses, losses_of}
 use Rattle.nq_model.specs.Hear.{waits_for}
 
 -- the entry of a loss
@@ -14,3 +15,9 @@ lost_entry who l = Entry.L who l.file l.block l.first l.last
 abbrev pub waiting : (file : ℕ) → Option UnderWay → Option ℕ
 waiting file None = None
 waiting file (Some u) = if waits_for file u.written u.call then Some u.q else None
+
+-- these losses of a file were found beside those that no answer named yet; then all of the file are told
+pub record Loses (l : Losing) (file : ℕ) (found unreported : List Loss) : Type 0 where
+  pub found_are : l.found.items ≡ found
+  pub after_are : l.after.items ≡ add_losses file found unreported
+  pub told_are : l.told ≡ losses_of file (add_losses file found unreported)

@@ -1,15 +1,13 @@
 //! Which datagrams count for a client.
 
-ghost use Rattle.std.specs.Prelude.{◌≡◌, is_some};
+ghost use Rattle.std.specs.Prelude.{◌≡◌};
 ghost use Rattle.nq_client_parts.specs.HoldingLeases.{lease_of};
-ghost use Rattle.nq_model.specs.Hear.{counts_for_block, counts_for_call, counts_for_change, counts_for_lease, counts_for_name, holds_later, inc_of, is_of_procedure, is_put_off, refusal_counts, reply_counts, wants_of};
-ghost use Rattle.nq_wire.specs.Lent.{lent_reply};
-ghost use Rattle.nq_client_parts.specs.Asked.{job_of};
+ghost use Rattle.nq_model.specs.Hear.{counts_for_block, counts_for_call, counts_for_change, counts_for_lease, counts_for_name, holds_later, inc_of, is_of_procedure, is_put_off, refusal_counts, wants_of};
+ghost use Rattle.nq_client_parts.specs.Jobs.{job_of};
 
-use crate::asked::{Asked, Job};
 use crate::holding::Held;
+use crate::job::Job;
 use nq_base::{FileId, Inc, Refusal, Reply, Request, Tag};
-use nq_wire::LentReply;
 
 /// Whether a refusal says that the request is put off.
 pub fn is_put_off(status: Refusal) -> bool
@@ -100,7 +98,7 @@ fn counts_for_call(status: Refusal, request: &Request) -> bool
 }
 
 /// Whether a refusal of the request under way counts.
-fn refusal_counts(status: Refusal, request: &Request, job: Job) -> bool
+pub fn refusal_counts(status: Refusal, request: &Request, job: Job) -> bool
     ensures { result ≡ refusal_counts status request.now (job_of job) }
 {
     match job {
@@ -112,7 +110,7 @@ fn refusal_counts(status: Refusal, request: &Request, job: Job) -> bool
 }
 
 /// Whether a reply is of a request's procedure.
-fn is_of_procedure(reply: &Reply, request: &Request) -> bool
+pub fn is_of_procedure(reply: &Reply, request: &Request) -> bool
     ensures { result ≡ is_of_procedure reply.now request.now }
 {
     match reply {
@@ -129,37 +127,8 @@ fn is_of_procedure(reply: &Reply, request: &Request) -> bool
     }
 }
 
-/// Whether a reply without a body counts.
-fn plain_counts(reply: &Reply, asked: &Asked) -> bool
-    ensures { result ≡ reply_counts reply.now asked.now }
-{
-    match reply {
-        Reply::Refused { status, .. } => refusal_counts(*status, asked.request(), asked.job()),
-        Reply::Null
-        | Reply::Attach { .. }
-        | Reply::Lookup { .. }
-        | Reply::Create { .. }
-        | Reply::GetAttr { .. }
-        | Reply::Read { .. }
-        | Reply::Write { .. }
-        | Reply::GetLease { .. }
-        | Reply::Resize { .. }
-        | Reply::Remove { .. } => is_of_procedure(reply, asked.request()),
-    }
-}
-
-/// Whether a reply counts for the request under way: it is of its procedure, or a refusal that counts for it.
-pub fn reply_counts(reply: &LentReply<'_>, asked: &Asked) -> bool
-    ensures { result ≡ reply_counts (lent_reply reply.now) asked.now }
-{
-    match reply {
-        LentReply::Read { .. } => matches!(asked.request(), Request::Read { .. }),
-        LentReply::Plain(reply) => plain_counts(reply, asked),
-    }
-}
-
-/// The incarnation that a reply without a body repeats.
-fn plain_inc(reply: &Reply) -> Inc
+/// The incarnation that a reply repeats.
+pub fn inc_of(reply: &Reply) -> Inc
     ensures { result ≡ inc_of reply.now }
 {
     match reply {
@@ -174,16 +143,6 @@ fn plain_inc(reply: &Reply) -> Inc
         | Reply::Resize { inc, .. }
         | Reply::Remove { inc }
         | Reply::Refused { inc, .. } => *inc,
-    }
-}
-
-/// The incarnation that a reply repeats.
-pub fn inc_of(reply: &LentReply<'_>) -> Inc
-    ensures { result ≡ inc_of (lent_reply reply.now) }
-{
-    match reply {
-        LentReply::Read { inc, .. } => *inc,
-        LentReply::Plain(reply) => plain_inc(reply),
     }
 }
 

@@ -3,8 +3,9 @@
 ghost use Rattle.std.specs.Prelude.{◌≡◌, ◌≤◌, ◌+◌, ◌++◌, [], ◌∷◌, length, map, reverse, OnOk};
 ghost use Rattle.nq_base.specs.Plain.{plain};
 ghost use Rattle.nq_client_parts.specs.Entries.{Tells};
+ghost use Rattle.nq_client_parts.specs.Lost.{lost_entry};
 
-use nq_base::{Entry, Journal, NoMemory};
+use nq_base::{Entry, Journal, Losses, NoMemory, Who};
 use std::alloc::Global;
 use std::collections::VecDeque;
 use std::marker::Model;
@@ -52,6 +53,25 @@ impl Entries {
         ensures spare { self.old.spare ≡ self.new.spare + 1 }
     {
         self.newest_first.push_front_reserved(entry);
+    }
+
+    /// Notes losses in room that is there.
+    #[tactic(auto, using(crate::proofs::Found::noted_more))]
+    pub fn note_losses(&mut self, who: &Who, losses: &Losses)
+        requires { length losses.now.items ≤ self.old.spare }
+        ensures items { self.new.items ≡ reverse (map (lost_entry who.now) losses.now.items) ++ self.old.items }
+        ensures spare { self.old.spare ≡ self.new.spare + length losses.now.items }
+    {
+        for place in 0..losses.len() {
+            let loss = losses.get(place).unwrap();
+            self.note(Entry::L {
+                who: *who,
+                file: loss.file,
+                block: loss.block,
+                first: loss.first,
+                last: loss.last,
+            });
+        }
     }
 
     /// Moves all entries to the end of a journal that has room for them, the oldest first.

@@ -1,27 +1,24 @@
 //! The leases that a client holds, in order of files.
 
-ghost use Rattle.std.specs.Prelude.{◌≡◌, ◌≤◌, ◌<◌, ◌+◌, ◌-◌, ◌^◌, [], map, length, slice_get, slice_set, option_map, vec_len, vec_capacity, Some, IsSome, IsOk, OnOk, OnErr, IfSome, true};
+ghost use Rattle.std.specs.Prelude.{◌≡◌, ◌≤◌, ◌<◌, ◌+◌, ◌-◌, [], map, slice_get, slice_set, option_map, vec_len, vec_capacity, Some, IsSome, IsOk, OnOk, OnErr, true};
 ghost use Rattle.std.specs.List.{insert, remove};
 ghost use Rattle.nq_client_parts.specs.HoldingLeases.{lease_of, of_kind};
 ghost use Rattle.nq_model.specs.Client.{lease_on, drop_lease, put_lease, used_lease};
-ghost use Rattle.nq_model.specs.Hear.{holds_caching};
-ghost use Rattle.nq_model.specs.Send.{ending_in, renewed_in};
 ghost use Rattle.nq_client_parts.specs.ByFile.{Ascends, IsPlace, of_file};
 ghost use Rattle.nq_client_parts.specs.Leases.{lease_in, file_of_row};
 
-use crate::due;
 use crate::holding::{Held, Lease};
-use crate::notices::Notices;
-use nq_base::{FileId, Mode, NoMemory, Ticks};
-use nq_dirty::Dirty;
+use nq_base::{FileId, Mode, NoMemory};
 use std::alloc::Global;
 use std::marker::Model;
 
 /// A lease with its kind.
 #[derive(Clone, Copy)]
-pub(crate) struct Row {
-    pub(crate) mode: Mode,
-    pub(crate) lease: Lease,
+pub struct Row {
+    /// Its kind.
+    pub mode: Mode,
+    /// The lease.
+    pub lease: Lease,
 }
 
 /// The leases that a client holds, one for a file. Clauses see them in order of files, and for how many more files there
@@ -60,20 +57,12 @@ impl Leases {
         held(find(&self.rows, file))
     }
 
-    /// The least file whose delayed writes are to be pushed before its lease ends.
-    pub fn ending(&self, now: Ticks, dirty: &Dirty) -> Option<FileId>
-        requires { now < 2 ^ 62 }
-        ensures { result ≡ ending_in now self.now.items dirty.now.dirty dirty.now.push }
+    /// The leases with their kinds, in order of files.
+    pub fn rows(&self) -> &[Row]
+        ensures rows { map lease_in result.now ≡ self.now.items }
+        ensures ascends { Ascends file_of_row result.now }
     {
-        due::ending(&self.rows, now, dirty)
-    }
-
-    /// The least file whose lease is to be renewed.
-    pub fn renewed(&self, now: Ticks, notices: &Notices, dirty: &Dirty) -> Option<FileId>
-        ensures file { result ≡ renewed_in now self.now.items notices.now.items dirty.now.dirty dirty.now.push }
-        ensures caches { IfSome result (λ file. holds_caching (lease_on file self.now.items) ≡ true) }
-    {
-        due::renewed(&self.rows, now, notices, dirty)
+        &self.rows
     }
 
     /// Makes room for the leases of `files` files on which none is held.

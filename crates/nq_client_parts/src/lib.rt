@@ -1,24 +1,26 @@
-//! What a client has besides its caches: the leases that it holds, the notices that wait, its request under way and which reply
-//! counts for it, the losses that no call was told yet, and the entries that a step makes (Macklem 1994).
+//! What a client has besides its caches: the leases that it holds, the notices that wait, which reply counts for its request under
+//! way, the losses that no call was told yet, and the entries that a step makes (Macklem 1994).
 //!
 //! Nothing here reads a datagram. Each value takes room for what it is given before it is given.
 #![tactic(auto)]
 
-mod asked;
+mod answers;
+mod calls;
 mod counting;
-mod due;
 mod entries;
-mod granting;
 pub mod holding;
+mod job;
 mod leases;
+mod leave;
 mod losses;
 mod notices;
-pub mod pending;
 
-pub use asked::{Asked, Job};
-pub use counting::{holds_later, inc_of, is_put_off, reply_counts, wants};
+pub use answers::{answer_of, said_value};
+pub use calls::{body_of_call, changed_file, file_at_stake, waits_for};
+pub use counting::{holds_later, inc_of, is_of_procedure, is_put_off, refusal_counts, wants};
 pub use entries::Entries;
-pub use granting::{caches_read, cleans, lets_cache};
-pub use leases::Leases;
-pub use losses::{Unreported, spans_of};
+pub use job::Job;
+pub use leases::{Leases, Row};
+pub use leave::Leave;
+pub use losses::{Losing, Named, Unreported};
 pub use notices::Notices;

@@ -1,10 +1,13 @@
 //! Losses that no answer named yet.
 
-ghost use Rattle.std.specs.Prelude.{◌≡◌, ◌≤◌, ◌++◌, ◌∷◌, [], map, IfOk, OnOk};
+ghost use Rattle.std.specs.Prelude.{◌≡◌, ◌++◌, ◌∷◌, ◌↔◌, [], map, IfOk, OnOk, IsTrue};
 ghost use Rattle.nq_model.specs.ByFile.{past, up_to};
 ghost use Rattle.nq_model.specs.Client.{add_losses, file_of_loss, losses_of, other_losses, span_of};
+ghost use Rattle.nq_model.specs.ClientStep.{changed_file, losses_for};
+ghost use Rattle.nq_client_parts.specs.Lost.{Loses};
 
-use nq_base::{FileId, Loss, Losses, NoMemory, Span, Spans};
+use crate::calls::changed_file;
+use nq_base::{Call, FileId, Loss, Losses, NoMemory, Span, Spans};
 use std::alloc::Global;
 use std::marker::Model;
 
@@ -34,17 +37,8 @@ impl Unreported {
         }
     }
 
-    /// Makes room for `more` losses.
-    pub fn reserve(&mut self, more: usize) -> Result<(), NoMemory>
-        ensures items { self.new.items ≡ self.old.items }
-        ensures room { OnOk result (more ≤ self.new.spare) }
-    {
-        self.losses.try_reserve(more)?;
-        Ok(())
-    }
-
     /// A copy of the losses of a file.
-    pub fn of(&self, alloc: Global, file: FileId) -> Result<Losses, NoMemory>
+    fn of(&self, alloc: Global, file: FileId) -> Result<Losses, NoMemory>
         ensures { IfOk result (λ l. l.items ≡ losses_of file self.now.items) }
     {
         let mut of_file = Losses::new(alloc).unwrap();
@@ -52,8 +46,34 @@ impl Unreported {
         Ok(of_file)
     }
 
+    /// All losses of a file, as an answer and as a journal name them.
+    fn named(&self, alloc: Global, file: FileId) -> Result<Named, NoMemory>
+        ensures { IfOk result (λ n. n ≡ losses_of file self.now.items) }
+    {
+        Named::new(alloc, self.of(alloc, file)?)
+    }
+
+    /// The losses that a call is told before anything else: those of the file that it changes or syncs, if it does.
+    pub fn named_for(&self, alloc: Global, call: &Call) -> Result<Named, NoMemory>
+        ensures { IfOk result (λ n. n ≡ losses_for (changed_file call.now) self.now.items) }
+    {
+        match changed_file(call) {
+            Some(file) => self.named(alloc, file),
+            None => Named::new(alloc, Losses::new(alloc).unwrap()),
+        }
+    }
+
+    /// Makes what the loss of newly found delayed writes of a file needs.
+    pub fn losing(&self, alloc: Global, file: FileId, found: Losses) -> Result<Losing, NoMemory>
+        ensures { IfOk result (λ l. Loses l file found.items self.now.items) }
+    {
+        let after = self.with(alloc, file, &found)?;
+        let told = after.named(alloc, file)?;
+        Ok(Losing { found, after, told })
+    }
+
     /// These losses with newly found ones of a file, which go behind those of this file that are there.
-    pub fn with(&self, alloc: Global, file: FileId, found: &Losses) -> Result<Unreported, NoMemory>
+    fn with(&self, alloc: Global, file: FileId, found: &Losses) -> Result<Unreported, NoMemory>
         ensures { IfOk result (λ l. l.items ≡ add_losses file found.now.items self.now.items) }
     {
         let mut losses = Vec::new(alloc);
@@ -69,6 +89,62 @@ impl Unreported {
     {
         drop_of(&mut self.losses, file);
     }
+}
+
+/// Losses as an answer and as a journal name them. Clauses see the losses.
+#[derive(Drop)]
+pub struct Named {
+    losses: Losses,
+    spans: Spans,
+}
+
+impl Model for Named {
+    ghost use Rattle.std.specs.Prelude.{◌≡◌, List, map};
+    ghost use Rattle.nq_base.specs.declared.Loss.{Loss};
+    ghost use Rattle.nq_model.specs.Client.{span_of};
+
+    ghost Value = { List Loss };
+
+    ghost view = { λ n. n.losses.items };
+
+    ghost invariant = { λ n. n.spans.items ≡ map span_of n.losses.items };
+}
+
+impl Named {
+    /// These losses.
+    fn new(alloc: Global, losses: Losses) -> Result<Named, NoMemory>
+        ensures { IfOk result (λ n. n ≡ losses.items) }
+    {
+        let spans = spans_of(alloc, &losses)?;
+        Ok(Named { losses, spans })
+    }
+
+    /// Whether there are none.
+    pub fn is_empty(&self) -> bool
+        ensures { IsTrue result ↔ (self.now ≡ []) }
+    {
+        self.losses.is_empty()
+    }
+
+    /// The answer that names them, and how a journal tells it.
+    pub fn told(self) -> (Losses, Spans)
+        ensures losses { result.0.items ≡ self }
+        ensures spans { result.1.items ≡ map span_of self }
+    {
+        let Named { losses, spans } = self;
+        (losses, spans)
+    }
+}
+
+/// What the loss of delayed writes of a file needs, made before anything changes.
+#[derive(Drop)]
+pub struct Losing {
+    /// What is lost.
+    pub found: Losses,
+    /// What is unreported then.
+    pub after: Unreported,
+    /// What a call that waits is told.
+    pub told: Named,
 }
 
 /// Drops the losses of a file.
@@ -139,7 +215,7 @@ fn copy_all(losses: &Losses, into: &mut Vec<Loss>) -> Result<(), NoMemory>
 
 /// Losses as a journal names them.
 #[tactic(auto, using(crate::proofs::Spans::spans_more))]
-pub fn spans_of(alloc: Global, losses: &Losses) -> Result<Spans, NoMemory>
+fn spans_of(alloc: Global, losses: &Losses) -> Result<Spans, NoMemory>
     ensures { IfOk result (λ s. s.items ≡ map span_of losses.now.items) }
 {
     let mut spans = Spans::new(alloc).unwrap();

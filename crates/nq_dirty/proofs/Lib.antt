@@ -1,3 +1,4 @@
 pub mod Counts
 pub mod KeyLaws
 pub mod OfEntries
+pub mod Renewals

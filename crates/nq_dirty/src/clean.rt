@@ -4,7 +4,9 @@ ghost use Rattle.std.specs.Prelude.{◌≡◌, IsTrue};
 ghost use Rattle.nq_model.specs.Client.{is_clean_in};
 
 use crate::dirty::Dirty;
+use crate::vacancy::Vacancy;
 use nq_base::FileId;
+use nq_client_parts::holding::Notice;
 use std::marker::Model;
 
 /// A clean file: it has no delayed writes, neither in the list nor under way. The list is borrowed, so no block becomes
@@ -42,5 +44,15 @@ impl<'a> Clean<'a> {
         ensures clean { IsTrue (is_clean_in self.now.file self.now.dirty self.now.push) }
     {
         self.file
+    }
+
+    /// Spends a notice for this file: its lease is given up with a vacated message.
+    pub fn vacates(&self, notice: Notice) -> Vacancy
+        requires { notice.file ≡ self.now.file }
+        ensures { result ≡ notice }
+    {
+        let tag = notice.tag();
+        notice.forgotten();
+        Vacancy::new(self.file, tag)
     }
 }

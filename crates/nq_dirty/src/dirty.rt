@@ -1,6 +1,6 @@
 //! The delayed writes of a client.
 
-ghost use Rattle.std.specs.Prelude.{◌≡◌, ◌≤◌, ◌<◌, ◌+◌, ◌++◌, ◌↔◌, [], None, false, length, is_some, slice_get, option_copied, option_map, IsTrue, IsSome, IfSome, IsOk, IfOk, OnOk, OnErr};
+ghost use Rattle.std.specs.Prelude.{◌≡◌, ◌≤◌, ◌+◌, ◌↔◌, [], None, false, true, length, is_some, slice_get, option_copied, option_map, IsTrue, IsSome, IfSome, IfNone, IsOk, IfOk, OnOk, OnErr};
 ghost use Rattle.nq_model.specs.Client.{is_push_of, push_passes, dirty_at, first_dirty, drop_dirty, other_dirty, is_clean_in};
 ghost use Rattle.nq_model.specs.Hear.{all_dirty_in, loss_of, losses_in, other_push};
 ghost use Rattle.nq_model.specs.Profile.{most_dirty};
@@ -14,7 +14,7 @@ use crate::entries::{
 };
 use crate::fault::DirtyFault;
 use crate::under_way;
-use nq_base::{Block, BlockNo, FileId, Loss, Losses, NoMemory, Number, Push};
+use nq_base::{Block, BlockNo, FileId, Loss, Losses, NoMemory, Number, Push, Spare};
 use std::alloc::Global;
 use std::marker::Model;
 
@@ -105,25 +105,21 @@ impl Dirty {
         Ok(())
     }
 
-    /// Moves the first delayed writes of a file from the list to the push under way; whether the list has some of the
-    /// file. The order of the rest stays.
-    pub fn next(&mut self, file: FileId) -> bool
-        requires { self.old.push ≡ None }
-        ensures found { result ≡ is_some (first_dirty file self.old.dirty) }
+    /// Moves the first delayed writes of a file from the list to the push under way, if the list has some of the file, and
+    /// gives a copy of them in room that is there. The order of the rest stays.
+    pub fn next(&mut self, file: FileId, room: &mut Spare) -> Option<Push>
+        requires none { self.old.push ≡ None }
+        requires room { room.old ≡ true }
+        ensures found { result ≡ first_dirty file self.old.dirty }
         ensures under_way { self.new.push ≡ first_dirty file self.old.dirty }
-        ensures others { IfSome self.new.push (λ p. self.new.dirty ≡ drop_dirty p.file p.block self.old.dirty) }
-        ensures unchanged { result ≡ false → self.new ≡ self.old }
+        ensures others { IfSome result (λ p. self.new.dirty ≡ drop_dirty p.file p.block self.old.dirty) }
+        ensures unchanged { IfNone result (self.new ≡ self.old) }
         ensures spare { self.old.spare ≤ self.new.spare }
     {
-        self.push = take_first(&mut self.entries, file);
-        self.push.is_some()
-    }
-
-    /// The push under way, if there is one.
-    pub fn under_way(&self) -> Option<&Push>
-        ensures { option_copied result ≡ self.now.push }
-    {
-        self.push.as_ref()
+        let push = take_first(&mut self.entries, file)?;
+        let copy = under_way::copied(&push, room);
+        self.push = Some(push);
+        Some(copy)
     }
 
     /// Ends the push under way, which is of this file: it was stored.
@@ -134,25 +130,31 @@ impl Dirty {
         self.push = None;
     }
 
-    /// Moves all delayed writes of a file to `into`: those under way first, then those of the list in their order.
+    /// The losses where all delayed writes of a file are lost: those under way first, then those of the list in their order.
     ///
     /// # Errors
     ///
-    /// Only want of memory, and none is wanted where `into` has room. Then no writes are moved.
-    pub fn lose(&mut self, file: FileId, into: &mut Losses) -> Result<(), NoMemory>
-        ensures lost { OnOk result (into.new.items ≡ into.old.items ++ losses_in file self.old.dirty self.old.push) }
-        ensures others { OnOk result (self.new.dirty ≡ other_dirty file self.old.dirty) }
-        ensures push { OnOk result (self.new.push ≡ other_push file self.old.push) }
-        ensures refused { OnErr result ((self.new ≡ self.old) × (into.new ≡ into.old)) }
-        ensures succeeds { length (all_dirty_in file self.old.dirty self.old.push) ≤ into.old.spare → IsOk result }
+    /// Only want of memory.
+    pub fn losses(&self, alloc: Global, file: FileId) -> Result<Losses, NoMemory>
+        ensures { IfOk result (λ l. l.items ≡ losses_in file self.now.dirty self.now.push) }
+    {
+        let mut losses = Losses::new(alloc).unwrap();
+        losses.reserve(self.pending_of(file))?;
+        under_way::add_loss(&self.push, file, &mut losses);
+        add_losses(&self.entries, file, &mut losses);
+        Ok(losses)
+    }
+
+    /// Takes all delayed writes of a file out.
+    pub fn lose(&mut self, file: FileId)
+        ensures others { self.new.dirty ≡ other_dirty file self.old.dirty }
+        ensures push { self.new.push ≡ other_push file self.old.push }
         ensures spare { self.old.spare ≤ self.new.spare }
     {
-        let lost = self.pending_of(file);
-        into.reserve(lost)?;
-        under_way::lose(&mut self.push, file, into);
-        add_losses(&self.entries, file, into);
+        if under_way::is_of(&self.push, file) {
+            self.push = None;
+        }
         take_file(&mut self.entries, file);
-        Ok(())
     }
 
     /// The block as it was last written, where it has delayed writes in the list, else where it is under way.

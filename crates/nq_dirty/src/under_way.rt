@@ -1,12 +1,12 @@
 //! The push under way.
 
-ghost use Rattle.std.specs.Prelude.{◌≡◌, ◌≤◌, ◌+◌, ◌++◌, length, map, option_copied};
+ghost use Rattle.std.specs.Prelude.{◌≡◌, ◌≤◌, ◌+◌, ◌++◌, length, map, option_copied, true};
 ghost use Rattle.nq_model.specs.Client.{is_push_of, push_passes};
-ghost use Rattle.nq_model.specs.Hear.{push_of, other_push, loss_of};
+ghost use Rattle.nq_model.specs.Hear.{push_of, loss_of};
 ghost use Rattle.nq_model.specs.Settle.{pushed_body};
 
 use crate::entries::Key;
-use nq_base::{Block, FileId, Loss, Losses, Push};
+use nq_base::{Block, FileId, Loss, Losses, Push, Spare};
 
 /// Whether the push under way, if there is one, is of this file.
 pub(crate) fn is_of(push: &Option<Push>, file: FileId) -> bool
@@ -28,24 +28,36 @@ pub(crate) fn read<'a>(push: &'a Option<Push>, key: &Key) -> Option<&'a Block>
     }
 }
 
-/// Moves the push under way, if it is of this file, to losses that have room for it.
-pub(crate) fn lose(push: &mut Option<Push>, file: FileId, into: &mut Losses)
-    requires { length (push_of file push.old) ≤ into.old.spare }
-    ensures ended { push.new ≡ other_push file push.old }
-    ensures lost { into.new.items ≡ into.old.items ++ map loss_of (push_of file push.old) }
-    ensures spare { into.old.spare ≤ into.new.spare + length (push_of file push.old) }
+/// Adds the push under way, if it is of this file, to losses that have room for it.
+pub(crate) fn add_loss(push: &Option<Push>, file: FileId, into: &mut Losses)
+    requires { length (push_of file push.now) ≤ into.old.spare }
+    ensures lost { into.new.items ≡ into.old.items ++ map loss_of (push_of file push.now) }
+    ensures spare { into.old.spare ≤ into.new.spare + length (push_of file push.now) }
 {
-    let Some(lost) = push else {
-        return;
-    };
-    if lost.file == file {
-        let loss = Loss {
-            file: lost.file,
-            block: lost.block,
-            first: lost.first,
-            last: lost.last,
-        };
-        into.push(loss).unwrap();
-        *push = None;
+    match push {
+        Some(lost) if lost.file == file => {
+            let loss = Loss {
+                file: lost.file,
+                block: lost.block,
+                first: lost.first,
+                last: lost.last,
+            };
+            into.push(loss).unwrap();
+        }
+        _ => {}
+    }
+}
+
+/// A copy of delayed writes, in room that is there.
+pub(crate) fn copied(push: &Push, room: &mut Spare) -> Push
+    requires { room.old ≡ true }
+    ensures { result ≡ push.now }
+{
+    Push {
+        file: push.file,
+        block: push.block,
+        first: push.first,
+        last: push.last,
+        body: push.body.copied_in(room),
     }
 }

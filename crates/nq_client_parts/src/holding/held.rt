@@ -1,11 +1,10 @@
 //! What is held on a file.
 
-ghost use Rattle.std.specs.Prelude.{◌≡◌, Some, IfSome, option_map, option_copied};
+ghost use Rattle.std.specs.Prelude.{◌≡◌, Some, option_map, option_copied};
 ghost use Rattle.nq_model.specs.Client.{is_live, lets_read, lets_write, renew_due};
 
 use crate::holding::lease::Lease;
 use nq_base::{Mode, Ticks};
-use nq_dirty::Clean;
 
 /// What is held on a file.
 #[derive(Drop)]
@@ -108,14 +107,5 @@ impl Held {
             Held::Reading(lease) => lease.used = true,
             Held::Writing(lease) => lease.used = true,
         }
-    }
-
-    /// Gives the lease up. `clean` shows that no write of its file is delayed.
-    pub fn give_up(self, clean: &Clean<'_>) -> Held
-        requires { IfSome (lease_of self) (λ l. l.file ≡ clean.now.file) }
-        ensures { result ≡ Held.Nothing }
-    {
-        let _clean_file = clean.file();
-        Held::Nothing
     }
 }

@@ -3,9 +3,7 @@
 ghost use Rattle.std.specs.Prelude.{◌≡◌};
 ghost use Rattle.nq_model.specs.Table.{later_tag};
 
-use crate::holding::vacancy::Cleared;
 use nq_base::{FileId, Tag};
-use nq_dirty::Clean;
 use std::marker::Model;
 
 /// A notice that the lease on a file is to be given up. It has to be spent: by a vacated message once the file is
@@ -64,14 +62,5 @@ impl Notice {
             file,
             tag: if tag < other { other } else { tag },
         }
-    }
-
-    /// The notice of a file that is clean.
-    pub fn cleared(self, clean: &Clean<'_>) -> Cleared
-        requires { clean.now.file ≡ self.file }
-        ensures { result ≡ self }
-    {
-        let Notice { file: _, tag } = self;
-        Cleared::new(clean.file(), tag)
     }
 }

@@ -1,11 +1,8 @@
-use Rattle.std.proofs.Common.{sym, ◌∙◌, ap, length}
+use Rattle.std.proofs.Common.{◌∙◌, ap, length}
 use Rattle.nq_cache.specs.Entries.{clean_blocks}
-use Rattle.nq_cache.proofs.Kept.{is_there, promoted-entries, length-promoted}
+use Rattle.nq_cache.proofs.Kept.{promoted-entries, length-promoted}
 use Rattle.nq_cache.proofs.KeyLaws.{key_laws}
 use Rattle.nq_cache.proofs.entries.bring_forward.Goals as goal
-
-pub returns-clause-found : goal.returns-clause-found
-returns-clause-found c = c.promote.ensures.value ∙ sym (is_there _ key_laws c.args.key.now c.args.entries.now.entries)
 
 pub returns-clause-order : goal.returns-clause-order
 returns-clause-order c =

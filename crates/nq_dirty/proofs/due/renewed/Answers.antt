@@ -6,7 +6,7 @@ use Rattle.nq_client_parts.specs.declared.leases.Row.{Row}
 use Rattle.nq_client_parts.proofs.Least.{least-first}
 use Rattle.nq_model.specs.Client.{file_of_lease}
 use Rattle.nq_model.specs.Send.{renewed_in, is_to_renew_in}
-use Rattle.nq_client_parts.proofs.due.renewed.Goals as goal
+use Rattle.nq_dirty.proofs.due.renewed.Goals as goal
 
 pub returns-then-is_to_renew : goal.returns-then-is_to_renew
 returns-then-is_to_renew c =

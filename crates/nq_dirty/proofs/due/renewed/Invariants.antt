@@ -2,7 +2,7 @@ use Rattle.std.proofs.Common.{◌≡◌, drop, map}
 use Rattle.nq_client_parts.specs.ByFile.{Ascends}
 use Rattle.nq_client_parts.specs.Leases.{lease_in, file_of_row}
 use Rattle.nq_model.specs.Send.{renewed_in}
-use Rattle.nq_client_parts.proofs.due.renewed.Given as goal
+use Rattle.nq_dirty.proofs.due.renewed.Given as goal
 
 abbrev pub invariant-loop-row : goal.invariant-loop-row
 invariant-loop-row l = record {

@@ -6,7 +6,7 @@ use Rattle.nq_client_parts.specs.declared.leases.Row.{Row}
 use Rattle.nq_client_parts.proofs.Least.{least-first}
 use Rattle.nq_model.specs.Client.{file_of_lease}
 use Rattle.nq_model.specs.Send.{ending_in, is_to_push_in}
-use Rattle.nq_client_parts.proofs.due.ending.Goals as goal
+use Rattle.nq_dirty.proofs.due.ending.Goals as goal
 
 pub returns-then-is_to_push : goal.returns-then-is_to_push
 returns-then-is_to_push c =

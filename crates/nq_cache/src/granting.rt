@@ -1,12 +1,12 @@
-//! Grants that replies bring.
+//! What replies leave in the cache.
 
-ghost use Rattle.std.specs.Prelude.{◌≡◌, OnOk, OnErr};
-ghost use Rattle.nq_model.specs.Client.{is_revision, put_clean, revision_of};
+ghost use Rattle.std.specs.Prelude.{◌≡◌, ◌==◌, ◌+◌, ◌&&◌, OnOk, OnErr, if◌then◌else◌};
+ghost use Rattle.nq_model.specs.Client.{is_revision, is_revision_before, purge, put_clean, revision_of};
 ghost use Rattle.nq_model.specs.Hear.{clean_at_revision, grant_caches};
-ghost use Rattle.nq_client_parts.specs.Granting.{clean_after_reply};
+ghost use Rattle.nq_cache.specs.Granting.{clean_after_reply};
 
+use crate::cache::Cache;
 use nq_base::{Block, BlockNo, FileId, Grant, Mode, NoMemory, Rev};
-use nq_cache::Cache;
 use std::alloc::Global;
 
 /// Whether the clean blocks of a file have this revision.
@@ -84,4 +84,42 @@ pub fn caches_read(
             Ok(())
         }
     }
+}
+
+/// Whether a revision comes right after another.
+fn comes_after(known: Rev, rev: Rev) -> bool
+    ensures { result ≡ (known + 1 == rev) }
+{
+    known.0 < rev.0 && rev.0 - known.0 == 1
+}
+
+/// Whether the known revision of a file is the one before this.
+fn is_revision_before(cache: &Cache, file: FileId, rev: Rev) -> bool
+    ensures { result ≡ is_revision_before rev (revision_of file cache.now.revisions) }
+{
+    match cache.rev(file) {
+        Some(known) => comes_after(known, rev),
+        None => false,
+    }
+}
+
+/// Caches the block of a write that went through where a caching lease is held and nothing else changed since the known
+/// revision. Else the clean blocks of the file go.
+pub fn caches_written(
+    cache: &mut Cache,
+    alloc: Global,
+    file: FileId,
+    block: BlockNo,
+    body: &Block,
+    rev: Rev,
+    holds: bool,
+) -> Result<(), NoMemory>
+    ensures cached { OnOk result (cache.new ≡ record cache.old { clean = (if holds && is_revision_before rev (revision_of file cache.old.revisions) then put_clean file block body.now cache.old.clean else purge file cache.old.clean) }) }
+    ensures refused { OnErr result (cache.new ≡ cache.old) }
+{
+    if holds && is_revision_before(cache, file, rev) {
+        return cache.put(file, block, body.copied(alloc)?);
+    }
+    cache.purge(file);
+    Ok(())
 }

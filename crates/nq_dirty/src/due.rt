@@ -1,15 +1,16 @@
 //! Which leases are about to end.
 
-ghost use Rattle.std.specs.Prelude.{◌≡◌, ◌<◌, ◌^◌, map};
+ghost use Rattle.std.specs.Prelude.{◌≡◌, ◌<◌, ◌^◌, map, true, IfSome};
 ghost use Rattle.nq_client_parts.specs.ByFile.{Ascends};
 ghost use Rattle.nq_client_parts.specs.Leases.{lease_in, file_of_row};
+ghost use Rattle.nq_model.specs.Client.{lease_on};
+ghost use Rattle.nq_model.specs.Hear.{holds_caching};
 ghost use Rattle.nq_model.specs.Send.{ending_in, is_to_push_in, is_to_renew_in, renewed_in};
 
-use crate::holding::Held;
-use crate::leases::Row;
-use crate::notices::Notices;
+use crate::dirty::Dirty;
 use nq_base::{FileId, Mode, Ticks};
-use nq_dirty::Dirty;
+use nq_client_parts::holding::Held;
+use nq_client_parts::{Leases, Notices, Row};
 
 /// From so many ticks before a writing lease ends its delayed writes are pushed (Macklem 1994).
 const RENEWAL: u64 = 3;
@@ -39,7 +40,7 @@ fn is_to_renew(row: &Row, now: Ticks, notices: &Notices, dirty: &Dirty) -> bool
 }
 
 /// The least file whose delayed writes are to be pushed before its lease ends.
-pub(crate) fn ending(rows: &[Row], now: Ticks, dirty: &Dirty) -> Option<FileId>
+fn ending(rows: &[Row], now: Ticks, dirty: &Dirty) -> Option<FileId>
     requires ascends { Ascends file_of_row rows.now }
     requires time { now < 2 ^ 62 }
     ensures { result ≡ ending_in now (map lease_in rows.now) dirty.now.dirty dirty.now.push }
@@ -53,7 +54,7 @@ pub(crate) fn ending(rows: &[Row], now: Ticks, dirty: &Dirty) -> Option<FileId>
 }
 
 /// The least file whose lease is to be renewed.
-pub(crate) fn renewed(rows: &[Row], now: Ticks, notices: &Notices, dirty: &Dirty) -> Option<FileId>
+fn renewed(rows: &[Row], now: Ticks, notices: &Notices, dirty: &Dirty) -> Option<FileId>
     requires { Ascends file_of_row rows.now }
     ensures { result ≡ renewed_in now (map lease_in rows.now) notices.now.items dirty.now.dirty dirty.now.push }
 {
@@ -63,4 +64,22 @@ pub(crate) fn renewed(rows: &[Row], now: Ticks, notices: &Notices, dirty: &Dirty
         }
     }
     None
+}
+
+impl Dirty {
+    /// The least file whose delayed writes are to be pushed before its lease ends.
+    pub fn ending(&self, now: Ticks, leases: &Leases) -> Option<FileId>
+        requires { now < 2 ^ 62 }
+        ensures { result ≡ ending_in now leases.now.items self.now.dirty self.now.push }
+    {
+        ending(leases.rows(), now, self)
+    }
+
+    /// The least file whose lease is to be renewed.
+    pub fn renewed(&self, now: Ticks, leases: &Leases, notices: &Notices) -> Option<FileId>
+        ensures file { result ≡ renewed_in now leases.now.items notices.now.items self.now.dirty self.now.push }
+        ensures caches { IfSome result (λ file. holds_caching (lease_on file leases.now.items) ≡ true) }
+    {
+        renewed(leases.rows(), now, notices, self)
+    }
 }
