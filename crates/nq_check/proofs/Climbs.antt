@@ -17,7 +17,7 @@ use Rattle.nq_check.specs.declared.sought.Sought.TheVariants.{AnswerBy, AnswerWi
 use Rattle.nq_check.specs.Links.{IsFree, is_link, own_spot}
 use Rattle.nq_check.specs.Marks.{Spot, same_spot, spot}
 use Rattle.nq_check.specs.Sought.{kind_sought, passes, spot_sought}
-use Rattle.nq_rules.proofs.Places.{taken_here}
+use Rattle.nq_check.proofs.Places.{taken_here}
 use Rattle.nq_model.specs.Journal.{call_of, told_by}
 use Rattle.nq_model.specs.JournalTest.{exists, is_answer_by, is_within, loss_covers, store_covers}
 use Rattle.nq_model.specs.LegalTest.{gives_value, is_answer_with}

@@ -10,7 +10,7 @@ use Rattle.nq_check.specs.Links.{IsFree, IsLinked, is_link, spot_of}
 use Rattle.nq_check.specs.Marks.{Spot, same_spot, spot}
 use Rattle.nq_check.proofs.Climbs.{skip_exists, skip_told}
 use Rattle.nq_check.proofs.Once.{same_is}
-use Rattle.nq_rules.proofs.Places.{taken_here}
+use Rattle.nq_check.proofs.Places.{taken_here}
 use Rattle.nq_model.specs.Journal.{call_of, told_by}
 use Rattle.nq_model.specs.JournalTest.{exists}
 

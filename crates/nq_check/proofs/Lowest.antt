@@ -11,7 +11,7 @@ use Rattle.nq_check.specs.Behind.{IsAbove, IsNoLower, TakesWrite}
 use Rattle.nq_check.specs.Losses.{is_over}
 use Rattle.nq_check.specs.Marks.{IsMarked, Spot, mark_at, spot}
 use Rattle.nq_check.proofs.Once.{marked_there, no_lower}
-use Rattle.nq_rules.proofs.Places.{drop_here}
+use Rattle.nq_check.proofs.Places.{drop_here}
 
 still_one : (highest : ℕ) (old new : List (Spot × ℕ)) → ((at : Spot) → mark_at old at ≤ mark_at new at) → (entry : Entry) → IsNoLower highest old entry
     → IsNoLower highest new entry

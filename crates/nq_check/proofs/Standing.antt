@@ -13,7 +13,7 @@ use Rattle.nq_check.specs.Marks.{Spot}
 use Rattle.nq_check.specs.Tables.{HasBetween, NoneBetween}
 use Rattle.nq_check.proofs.Climbs.{climb}
 use Rattle.nq_check.proofs.Followed.{taken_last}
-use Rattle.nq_rules.proofs.Places.{taken_here}
+use Rattle.nq_check.proofs.Places.{taken_here}
 use Rattle.nq_model.specs.Journal.{cuts, last_value, since_cut, value_written}
 use Rattle.nq_model.specs.StandsTest.{stands}
 

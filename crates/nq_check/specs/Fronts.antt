@@ -4,9 +4,9 @@ use Rattle.std.specs.List.{slice_get}
 use Rattle.nq_base.specs.declared.Entry.{Entry}
 use Rattle.nq_check.specs.declared.fronts.Fronts.{Fronts}
 use Rattle.nq_check.specs.Tables.{AreTables}
-use Rattle.nq_rules.specs.declared.Rule.{Rule}
-use Rattle.nq_rules.specs.declared.Rule.TheVariants.{Ordered, Accounted, Reported, Synchronized}
-use Rattle.nq_rules.specs.Rules.{keeps}
+use Rattle.nq_check.specs.declared.rules.Rule.{Rule}
+use Rattle.nq_check.specs.declared.rules.Rule.TheVariants.{Ordered, Accounted, Reported, Synchronized}
+use Rattle.nq_check.specs.Rules.{keeps}
 
 -- whether the entry at a place of a journal, the oldest first, keeps a rule
 abbrev pub keeps_at : Rule → (whole : List Entry) (place : ℕ) → Entry → Bool

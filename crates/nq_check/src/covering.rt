@@ -3,14 +3,14 @@
 ghost use Rattle.std.specs.Prelude.{◌≡◌, true, reverse, slice_get, Some, IfOk, IfSome, IsTrue, OnOk};
 ghost use Rattle.nq_check.specs.Covered.{Accounts, IsAnew, IsExtended, IsRaised, is_outside};
 ghost use Rattle.nq_check.specs.Fronts.{KeepsBelow};
-ghost use Rattle.nq_rules.specs.declared.Rule.{Rule};
+ghost use Rattle.nq_check.specs.declared.rules.Rule.{Rule};
 ghost use Rattle.nq_model.specs.JournalTest.{covers, exists};
 
 use crate::behind::below_highest;
 use crate::links::{Heads, Key, head_at, own_key, set_head};
 use crate::marks::{Marks, mark_at, set_mark};
+use crate::rules::entries::covers;
 use nq_base::{Entry, NoMemory, Number, Who};
-use nq_rules::entries::covers;
 use std::alloc::Global;
 use std::collections::HashMap;
 

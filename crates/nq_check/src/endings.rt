@@ -2,7 +2,7 @@
 
 ghost use Rattle.std.specs.Prelude.{◌≡◌, ◌+◌, ◌<◌, ◌≤◌, ◌&&◌, nat_eq, nat_le, true, IsTrue, Some, IfOk, IfSome, length, reverse, take};
 ghost use Rattle.std.specs.List.{slice_get};
-ghost use Rattle.nq_rules.specs.Grants.{given};
+ghost use Rattle.nq_check.specs.Grants.{given};
 ghost use Rattle.nq_check.specs.Leases.{AreLeases, AreLinked, HasEndBetween, IsStorePast};
 ghost use Rattle.nq_check.specs.Links.{IsFree, IsLinked};
 ghost use Rattle.nq_check.specs.Losses.{PassBetween, is_ended};
@@ -13,9 +13,11 @@ ghost use Rattle.nq_model.specs.Table.{same_who};
 
 use crate::links::{Heads, Key, Kind, Links, file_key, head_at, link, own_key, set_head};
 use crate::rising::rising_front;
+use crate::rules::excused::{
+    Granted, WRITE_SLACK, grant_by, has_passed, is_grant_over, is_long_wait,
+};
 use crate::sought::back_from;
 use nq_base::{Entry, FileId, NoMemory, Ticks, Who};
-use nq_rules::excused::{Granted, WRITE_SLACK, grant_by, has_passed, is_grant_over, is_long_wait};
 use std::alloc::Global;
 use std::collections::HashMap;
 

@@ -7,10 +7,10 @@ ghost use Rattle.nq_check.specs.Tables.{AreTables};
 use crate::covering::{covers_at, number_key};
 use crate::links::{Heads, Key, file_key, head_at, own_key, set_head};
 use crate::reports::reports_of;
+use crate::rules::entries::covers;
 use crate::sought::call_along;
 use crate::tables::Tables;
 use nq_base::{Entry, NoMemory, Number, Said};
-use nq_rules::entries::covers;
 use std::alloc::Global;
 use std::collections::HashMap;
 

@@ -3,18 +3,18 @@
 ghost use Rattle.std.specs.Prelude.{◌≡◌, ◌+◌, ◌<◌, Some, length, reverse, take, drop};
 ghost use Rattle.std.specs.List.{slice_get};
 ghost use Rattle.nq_check.specs.Fronts.{AreFronts, KeepsBelow, keeps_at};
-ghost use Rattle.nq_rules.specs.Rules.{first_rule};
-ghost use Rattle.nq_rules.specs.Verdict.{IsVerdict, verdict};
+ghost use Rattle.nq_check.specs.Rules.{first_rule};
+ghost use Rattle.nq_check.specs.Verdict.{IsVerdict, verdict};
 
 use crate::fronts::{Fronts, find_fronts};
 use crate::legal::{Hints, is_legal};
+use crate::rules::accounted::is_accounted_at;
+use crate::rules::excused::is_cut_off;
+use crate::rules::named::is_reported_at;
+use crate::rules::ordered::is_in_order;
+use crate::rules::synchronized::is_kept_at;
+use crate::rules::{Judged, Rule};
 use nq_base::{Entry, Journal, NoMemory};
-use nq_rules::accounted::is_accounted_at;
-use nq_rules::excused::is_cut_off;
-use nq_rules::named::is_reported_at;
-use nq_rules::ordered::is_in_order;
-use nq_rules::synchronized::is_kept_at;
-use nq_rules::{Judged, Rule};
 use std::alloc::Global;
 
 /// Whether the entry at a place keeps a rule, which the entries before the front are known to keep.
@@ -53,7 +53,7 @@ fn keeps(
     }
 }
 
-#[tactic(auto, unfolding(nq_rules::specs::Rules::first_rule))]
+#[tactic(auto, unfolding(crate::specs::Rules::first_rule))]
 /// The first rule under which the entry at a place is at fault.
 fn first_rule(whole: &[Entry], place: usize, entry: &Entry, fronts: &Fronts) -> Option<Rule>
     requires there { (place < length whole.now) × (slice_get whole.now place ≡ Some entry.now) }

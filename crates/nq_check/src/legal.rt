@@ -4,8 +4,8 @@ ghost use Rattle.std.specs.Prelude.{◌≡◌, ◌+◌, ◌-◌, ◌<◌, ◌≤
 ghost use Rattle.std.specs.List.{slice_get};
 ghost use Rattle.nq_check.specs.Fronts.{KeepsBelow};
 ghost use Rattle.nq_check.specs.Tables.{AreTables, HasBetween, NoneBetween};
-ghost use Rattle.nq_rules.specs.Legal.{is_legal_answer, is_legal_at};
-ghost use Rattle.nq_rules.specs.declared.Rule.{Rule};
+ghost use Rattle.nq_check.specs.Legal.{is_legal_answer, is_legal_at};
+ghost use Rattle.nq_check.specs.declared.rules.Rule.{Rule};
 ghost use Rattle.nq_model.specs.Journal.{call_of, cuts};
 ghost use Rattle.nq_model.specs.JournalTest.{is_counted, is_lost, is_stored};
 ghost use Rattle.nq_model.specs.LegalTest.{is_counted_by, is_counted_with, is_legal_read, is_reading};
@@ -13,12 +13,14 @@ ghost use Rattle.nq_model.specs.StandsTest.{standing_value, stands};
 
 use crate::fates::{Fates, fate_at};
 use crate::links::{Kind, block_key, call_key};
+use crate::rules::calls::is_reading;
+use crate::rules::entries::{
+    cuts, is_read_by, is_through, is_write_by, is_write_on, value_written,
+};
 use crate::settled::{is_lost_at, is_stored_at};
 use crate::sought::{Sought, back_from, call_along, is_before, is_somewhere, last_of};
 use crate::tables::Tables;
 use nq_base::{BlockNo, Entry, FileId, Said, Who};
-use nq_rules::calls::is_reading;
-use nq_rules::entries::{cuts, is_read_by, is_through, is_write_by, is_write_on, value_written};
 
 /// Where to look first for what became of a delayed write, and how far the entries account for what they cover.
 #[derive(Drop)]
@@ -249,7 +251,7 @@ fn counted(number: usize, here: bool) -> usize
     if here { number + 1 } else { number }
 }
 
-#[tactic(auto, unfolding(nq_rules::specs::Legal::is_legal_answer))]
+#[tactic(auto, unfolding(crate::specs::Legal::is_legal_answer))]
 /// Whether exactly one counted read is of a call and a value.
 fn is_legal_answer(tables: &Tables, whole: &[Entry], by: &Who, n: u64, v: u32) -> bool
     requires tables { AreTables whole.now tables.now }

@@ -6,14 +6,14 @@ ghost use Rattle.nq_check.specs.Fronts.{KeepsBelow};
 ghost use Rattle.nq_check.specs.InOrder.{IsNext, StandsInOrder, is_else};
 ghost use Rattle.nq_check.specs.Replies.{AreTold};
 ghost use Rattle.nq_model.specs.OrderedTest.{is_busy_next};
-ghost use Rattle.nq_rules.specs.declared.Rule.TheVariants.{Ordered};
+ghost use Rattle.nq_check.specs.declared.rules.Rule.TheVariants.{Ordered};
 
 use crate::lines::{
     Line, Lines, after_answer, after_call, after_read, after_resize, after_write, line_at, set_line,
 };
 use crate::replies::{Replies, may_count, replies_of};
+use crate::rules::ordered::is_busy_next;
 use nq_base::{Entry, NoMemory, Who};
-use nq_rules::ordered::is_busy_next;
 use std::alloc::Global;
 use std::collections::HashMap;
 

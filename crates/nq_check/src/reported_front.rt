@@ -3,7 +3,7 @@
 ghost use Rattle.std.specs.Prelude.{◌≤◌, IfOk};
 ghost use Rattle.nq_check.specs.Fronts.{KeepsBelow};
 ghost use Rattle.nq_check.specs.Tables.{AreTables};
-ghost use Rattle.nq_rules.specs.declared.Rule.{Rule};
+ghost use Rattle.nq_check.specs.declared.rules.Rule.{Rule};
 
 use crate::endings::endings_front;
 use crate::namings::find_names;

@@ -4,10 +4,10 @@ ghost use Rattle.std.specs.Prelude.{◌≡◌, ◌+◌, ◌<◌, true, IsTrue, S
 ghost use Rattle.std.specs.List.{slice_get};
 ghost use Rattle.nq_check.specs.Fronts.{KeepsBelow};
 ghost use Rattle.nq_check.specs.Losses.{PassBetween, is_over, is_told};
-ghost use Rattle.nq_rules.specs.Named.{is_reported};
+ghost use Rattle.nq_check.specs.Named.{is_reported};
 ghost use Rattle.nq_check.specs.Reports.{AreNext, IsReportKey, TakesReport, answers, reports_of};
 ghost use Rattle.nq_check.specs.Tables.{AreTables};
-ghost use Rattle.nq_rules.specs.declared.Rule.{Rule};
+ghost use Rattle.nq_check.specs.declared.rules.Rule.{Rule};
 ghost use Rattle.nq_model.specs.JournalTest.{exists};
 ghost use Rattle.nq_model.specs.ReportedTest.{is_busy_answer, names};
 
@@ -15,12 +15,12 @@ use crate::behind::{front_with, is_over, take_write};
 use crate::covering::entry_at;
 use crate::links::{Heads, Key, file_key, head_at, set_head};
 use crate::namings::loss_key;
+use crate::rules::calls::speaks_of;
+use crate::rules::entries::{is_answer, is_busy_answer};
+use crate::rules::named::are_names_of;
 use crate::sought::call_along;
 use crate::tables::Tables;
 use nq_base::{Entry, Loss, NoMemory, Said, Told, Who};
-use nq_rules::calls::speaks_of;
-use nq_rules::entries::{is_answer, is_busy_answer};
-use nq_rules::named::are_names_of;
 use std::alloc::Global;
 use std::collections::HashMap;
 

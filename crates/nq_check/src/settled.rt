@@ -12,9 +12,9 @@ use crate::covering::entry_at;
 use crate::fates::{Fates, fate_at};
 use crate::links::{Key, Kind, Links, file_key, head_at, key_of, same_key};
 use crate::reports::names;
+use crate::rules::entries::{loss_covers, store_covers};
 use crate::tables::Tables;
 use nq_base::{Entry, FileId, Loss, Who};
-use nq_rules::entries::{loss_covers, store_covers};
 
 /// Whose delayed writes have to be settled: those of an incarnation on a file, before a place.
 #[derive(Drop)]

@@ -8,8 +8,8 @@ ghost use Rattle.nq_model.specs.JournalTest.{exists};
 ghost use Rattle.nq_check.specs.declared.links.Kind.TheVariants.{Calls};
 
 use crate::links::{Key, Kind, Links, call_key, head_at, key_of, own_key_of, same_key};
+use crate::rules::entries::{is_answer_by, is_answer_with, loss_covers, store_covers, told_by};
 use nq_base::{Entry, Told, Who};
-use nq_rules::entries::{is_answer_by, is_answer_with, loss_covers, store_covers, told_by};
 
 /// What is looked for along links.
 #[derive(Clone, Copy)]

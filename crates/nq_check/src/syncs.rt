@@ -10,12 +10,12 @@ ghost use Rattle.nq_model.specs.SynchronizedTest.{are_stored_or_told, is_settled
 use crate::fates::Fates;
 use crate::latest::latest_of;
 use crate::links::{file_key, head_at};
+use crate::rules::entries::is_resize_by;
 use crate::settled::{Settling, are_settled};
 use crate::sought::call_along;
 use crate::tables::Tables;
 use crate::trail::Trail;
 use nq_base::{Entry, FileId, Said, Told, Who};
-use nq_rules::entries::is_resize_by;
 
 /// A call as its A names it, and what it asks.
 #[derive(Drop)]

@@ -1,7 +1,7 @@
 use Rattle.std.proofs.Common.{length, refl, reverse, sym, subst, take}
 use Rattle.std.proofs.lemmas.Option.{slice_get_read}
 use Rattle.nq_check.specs.Replies.{AreTold}
-use Rattle.nq_rules.proofs.Places.{taken_here}
+use Rattle.nq_check.proofs.Places.{taken_here}
 use Rattle.nq_check.proofs.replies.replies_of.Goals as goal
 
 pub loop-entry-preserved : goal.loop-entry-preserved
