@@ -1,5 +1,4 @@
 pub mod Agreeing
-pub mod Answering
 pub mod Backwards
 pub mod Climbs
 pub mod Counts
@@ -10,7 +9,6 @@ pub mod Followed
 pub mod LineParts
 pub mod Lining
 pub mod Linking
-pub mod Lowest
 pub mod MovesOn
 pub mod NameLosses
 pub mod NamingLosses

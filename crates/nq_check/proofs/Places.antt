@@ -42,38 +42,23 @@ exists_apart : {X : Type 0} (test : X → Bool) (ys zs : List X) → exists test
 exists_apart test [] zs = refl
 exists_apart test (y ∷ ys) zs = ap (λ b. test y || b) (exists_apart test ys zs) ∙ or_apart (test y) (exists test ys) (exists test zs)
 
-or_turned : (a b : Bool) → (a || b) ≡ (b || a)
-or_turned true true = refl
-or_turned true false = refl
-or_turned false true = refl
-or_turned false false = refl
-
-exists_turned : {X : Type 0} (test : X → Bool) (xs : List X) → exists test (reverse xs) ≡ exists test xs
-exists_turned test [] = refl
-exists_turned test (x ∷ xs) =
-    ap (exists test) (reverse-append (x ∷ []) xs) ∙ exists_apart test (reverse xs) (x ∷ [])
-    ∙ or_turned (exists test (reverse xs)) (test x || false) ∙ ap (λ b. (test x || false) || b) (exists_turned test xs)
-    ∙ sym (or_apart (test x) false (exists test xs))
-
-any_is : {X : Type 0} (test : X → Bool) (xs : List X) → list_any test xs ≡ exists test xs
-any_is test [] = refl
-any_is test (x ∷ xs) = ap (λ b. test x || b) (any_is test xs)
-
--- some element from a place on or before it passes
-any_near : {X : Type 0} (test : X → Bool) (xs : List X) (k : ℕ) → (list_any test (drop k xs) || list_any test (take k xs)) ≡ exists test (reverse xs)
-any_near test xs k =
-    ap (λ b. b || list_any test (take k xs)) (any_is test (drop k xs)) ∙ ap (λ b. exists test (drop k xs) || b) (any_is test (take k xs))
-    ∙ or_turned (exists test (drop k xs)) (exists test (take k xs)) ∙ sym (exists_apart test (take k xs) (drop k xs))
-    ∙ ap (exists test) (take-append-drop k xs) ∙ sym (exists_turned test xs)
+-- of a list that is looked at backwards, by its two parts
+near_parts : {X : Type 0} (test : X → Bool) (xs : List X) (k : ℕ)
+    → exists test (reverse xs) ≡ (exists test (reverse (drop k xs)) || exists test (reverse (take k xs)))
+near_parts test xs k =
+    ap (λ l. exists test (reverse l)) (sym (take-append-drop k xs)) ∙ ap (exists test) (reverse-append (take k xs) (drop k xs))
+    ∙ exists_apart test (reverse (drop k xs)) (reverse (take k xs))
 
 -- one that passes among those from a place on
-pub near_first : {X : Type 0} (test : X → Bool) (xs front back : List X) (k : ℕ) → front ≡ take k xs → back ≡ drop k xs → list_any test back ≡ true
-    → true ≡ exists test (reverse xs)
+pub near_first : {X : Type 0} (test : X → Bool) (xs front back : List X) (k : ℕ) → front ≡ take k xs → back ≡ drop k xs
+    → exists test (reverse back) ≡ true → true ≡ exists test (reverse xs)
 near_first test xs front back k f b t =
-    ap (λ r. r || list_any test (take k xs)) (sym t ∙ ap (list_any test) b) ∙ any_near test xs k
+    sym (near_parts test xs k ∙ ap (λ l. exists test (reverse l) || exists test (reverse (take k xs))) (sym b)
+    ∙ ap (λ r. r || exists test (reverse (take k xs))) t)
 
 -- where none of them passes, one of those before it
-pub near_then : {X : Type 0} (test : X → Bool) (xs front back : List X) (k : ℕ) → front ≡ take k xs → back ≡ drop k xs → list_any test back ≡ false
-    → list_any test front ≡ exists test (reverse xs)
+pub near_then : {X : Type 0} (test : X → Bool) (xs front back : List X) (k : ℕ) → front ≡ take k xs → back ≡ drop k xs
+    → exists test (reverse back) ≡ false → exists test (reverse front) ≡ exists test (reverse xs)
 near_then test xs front back k f b t =
-    ap (list_any test) f ∙ ap (λ r. r || list_any test (take k xs)) (sym t ∙ ap (list_any test) b) ∙ any_near test xs k
+    sym (near_parts test xs k ∙ ap (λ l. exists test (reverse l) || exists test (reverse (take k xs))) (sym b)
+    ∙ ap (λ r. r || exists test (reverse (take k xs))) t ∙ ap (λ l. exists test (reverse l)) (sym f))

@@ -1,4 +1,3 @@
-pub mod Behind
 pub mod Covered
 pub mod Fronts
 pub mod Grants
@@ -13,7 +12,6 @@ pub mod Marks
 pub mod Named
 pub mod Namings
 pub mod Ready
-pub mod Replies
 pub mod Reports
 pub mod Rising
 pub mod Rules

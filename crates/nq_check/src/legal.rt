@@ -18,7 +18,7 @@ use crate::rules::entries::{
     cuts, is_read_by, is_through, is_write_by, is_write_on, value_written,
 };
 use crate::settled::{is_lost_at, is_stored_at};
-use crate::sought::{Sought, back_from, call_along, is_before, is_somewhere, last_of};
+use crate::sought::{Sought, back_from, call_along, is_before, is_somewhere};
 use crate::tables::Tables;
 use nq_base::{BlockNo, Entry, FileId, Said, Who};
 
@@ -40,7 +40,7 @@ struct Reading<'a> {
 }
 
 /// Whether an entry is a counted read.
-fn is_counted(tables: &Tables, whole: &[Entry], entry: &Entry) -> bool
+pub(crate) fn is_counted(tables: &Tables, whole: &[Entry], entry: &Entry) -> bool
     requires tables { AreTables whole.now tables.now }
     ensures { result ≡ is_counted (reverse whole.now) entry.now }
 {
@@ -139,12 +139,19 @@ fn last_standing(
         → stands (reverse whole.now) (reverse (take place whole.now)) read.now.who.now read.now.file read.now.block write ≡ true }
 {
     let key = block_key(read.file, read.block);
-    let mut at = back_from(&tables.writes, Kind::Writes, key, whole, place);
+    let mut at = back_from(&tables.writes, Kind::Writes, key, whole, whole.len(), place);
     while at > 0 {
         if stands(tables, hints, whole, place, read, at - 1, &whole[at - 1]) {
             return at;
         }
-        at = back_from(&tables.writes, Kind::Writes, key, whole, at - 1);
+        at = back_from(
+            &tables.writes,
+            Kind::Writes,
+            key,
+            whole,
+            whole.len(),
+            at - 1,
+        );
     }
     0
 }
@@ -157,12 +164,12 @@ fn is_cut_since(tables: &Tables, whole: &[Entry], from: usize, place: usize, rea
     ensures no { result ≡ false → NoneBetween (λ entry. cuts entry read.now.file read.now.block) whole.now from place }
 {
     let key = block_key(read.file, BlockNo(0));
-    let mut at = back_from(&tables.cuts, Kind::Cuts, key, whole, place);
+    let mut at = back_from(&tables.cuts, Kind::Cuts, key, whole, whole.len(), place);
     while at > from {
         if cuts(&whole[at - 1], read.file, read.block) {
             return true;
         }
-        at = back_from(&tables.cuts, Kind::Cuts, key, whole, at - 1);
+        at = back_from(&tables.cuts, Kind::Cuts, key, whole, whole.len(), at - 1);
     }
     false
 }
@@ -259,11 +266,18 @@ fn is_legal_answer(tables: &Tables, whole: &[Entry], by: &Who, n: u64, v: u32) -
 {
     let key = call_key(by, n);
     let mut number: usize = 0;
-    let mut at = last_of(&tables.calls, Kind::Calls, key, whole);
+    let mut at = back_from(
+        &tables.calls,
+        Kind::Calls,
+        key,
+        whole,
+        whole.len(),
+        whole.len(),
+    );
     while at > 0 {
         let counts = is_counted_with(tables, whole, by, n, v, &whole[at - 1]);
         number = counted(number, counts);
-        at = back_from(&tables.calls, Kind::Calls, key, whole, at - 1);
+        at = back_from(&tables.calls, Kind::Calls, key, whole, whole.len(), at - 1);
     }
     number == 1
 }

@@ -1,7 +1,6 @@
 //! A judge of anybody's journal: whether it is sound, and which of its entries is the first at fault.
 #![tactic(auto)]
 
-mod behind;
 mod covering;
 mod endings;
 mod fates;
@@ -13,11 +12,9 @@ pub mod laws;
 mod legal;
 mod lines;
 mod links;
-mod marks;
 mod namings;
 mod ordering;
 mod puts;
-mod replies;
 mod reported_front;
 mod reports;
 mod rising;

@@ -37,6 +37,6 @@ pub(crate) fn reported_front(
         ordered,
     };
     let reported = reports_front(alloc, &found, whole)?;
-    let ended = endings_front(alloc, whole)?;
+    let ended = endings_front(alloc, tables, whole)?;
     Ok(lower(names.front, lower(reported, ended)))
 }

@@ -1,7 +1,7 @@
 //! A fast test that the delayed writes of an incarnation on a file are stored or told: it is true only where they are.
 
 ghost use Rattle.std.specs.Prelude.{◌≡◌, ◌<◌, ◌≤◌, IsTrue, length, reverse, take, true};
-ghost use Rattle.nq_check.specs.Links.{IsFree, IsLinked};
+ghost use Rattle.nq_check.specs.Links.{IsLinked};
 ghost use Rattle.nq_check.specs.Tables.{AreTables};
 ghost use Rattle.nq_check.specs.declared.links.Kind.TheVariants.{Delays};
 ghost use Rattle.nq_model.specs.JournalTest.{exists, is_lost, is_stored};
@@ -10,9 +10,10 @@ ghost use Rattle.nq_model.specs.SynchronizedTest.{are_stored_or_told, is_named_l
 
 use crate::covering::entry_at;
 use crate::fates::{Fates, fate_at};
-use crate::links::{Key, Kind, Links, file_key, head_at, key_of, same_key};
+use crate::links::{Kind, Links, file_key};
 use crate::reports::names;
 use crate::rules::entries::{loss_covers, store_covers};
+use crate::sought::back_from;
 use crate::tables::Tables;
 use nq_base::{Entry, FileId, Loss, Who};
 
@@ -134,34 +135,6 @@ fn is_settled(
     is_told_at(tables, fates, whole, answered, fate, write)
 }
 
-/// A place, counted from 1, from which on up to another place no delayed write has a key.
-fn last_delayed(delays: &Links, whole: &[Entry], key: Key, place: usize) -> usize
-    requires linked { IsLinked Delays whole.now place delays.now.heads.entries delays.now.earlier.items }
-    ensures low { result ≤ place }
-    ensures free { IsFree Delays key whole.now result place }
-{
-    let head = head_at(&delays.heads, key);
-    if head <= place {
-        return head;
-    }
-    place
-}
-
-/// The same before the entry at a place.
-fn delayed_before(delays: &Links, whole: &[Entry], key: Key, place: usize, at: usize) -> usize
-    requires linked { IsLinked Delays whole.now place delays.now.heads.entries delays.now.earlier.items }
-    requires within { at < place }
-    requires whole { place ≤ length whole.now }
-    ensures low { result ≤ at }
-    ensures free { IsFree Delays key whole.now result at }
-{
-    let earlier = delays.earlier[at];
-    if earlier <= at && same_key(key_of(Kind::Delays, &whole[at]), key) {
-        return earlier;
-    }
-    at
-}
-
 /// Whether each of the delayed writes that have to be settled is stored, by an S among the `stores`, or told. Those before
 /// another place are known to be.
 pub(crate) fn are_settled(
@@ -184,13 +157,13 @@ pub(crate) fn are_settled(
     let place = these.place;
     let answered = &whole[..place];
     let key = file_key(these.who, these.file);
-    let mut at = last_delayed(delays, whole, key, place);
+    let mut at = back_from(delays, Kind::Delays, key, whole, place, place);
     while at > known {
         let fate = fate_at(fates, at - 1);
         if !is_settled(tables, fates, whole, stores, answered, fate, &whole[at - 1]) {
             return false;
         }
-        at = delayed_before(delays, whole, key, place, at - 1);
+        at = back_from(delays, Kind::Delays, key, whole, place, at - 1);
     }
     true
 }

@@ -1,21 +1,21 @@
 //! Calls, and what they ask.
 
 ghost use Rattle.std.specs.Prelude.{◌≡◌, ◌≤◌, length, reverse, Some, None};
-ghost use Rattle.std.specs.List.{list_any};
 ghost use Rattle.nq_model.specs.Journal.{call_of, told_by};
-ghost use Rattle.nq_model.specs.JournalTest.{exists, is_answer, is_call, is_open, speaks_of};
+ghost use Rattle.nq_model.specs.JournalTest.{exists, is_answer, is_open, speaks_of};
 ghost use Rattle.nq_model.specs.LegalTest.{is_reading};
 ghost use Rattle.nq_model.specs.OrderedTest.{call_resizes, has_open, is_open_call, open_call, writes};
 ghost use Rattle.nq_model.specs.ReportedTest.{is_busy_answer, is_reporting};
 
-use crate::rules::entries::{is_answer, is_busy_answer, is_call, told_by};
+use crate::rules::entries::{is_busy_answer, told_by};
+use crate::sought::{Sought, is_near};
 use nq_base::{BlockNo, Entry, FileId, Told, Who};
 
 /// Whether an A of a call stands among the entries.
 pub(crate) fn is_answered(entries: &[Entry], by: &Who, n: u64) -> bool
     ensures { result ≡ exists (is_answer by.now n) (reverse entries.now) }
 {
-    is_answered_near(entries, 0, by, n)
+    is_near(entries, 0, Sought::Answer { who: by, q: n })
 }
 
 #[tactic(auto, using(crate::proofs::Backwards::last_first))]
@@ -29,39 +29,6 @@ pub(crate) fn is_busy(entries: &[Entry], by: &Who, n: u64) -> bool
         found = here || found;
     }
     found
-}
-
-/// Whether an A of a call is one of the entries. The first that is ends the search.
-fn has_answer(entries: &[Entry], by: &Who, n: u64) -> bool
-    ensures { result ≡ list_any (is_answer by.now n) entries.now }
-{
-    entries.iter().any(|entry| is_answer(entry, by, n))
-}
-
-/// Whether a C of a call is one of the entries. The first that is ends the search.
-fn has_call(entries: &[Entry], by: &Who, n: u64) -> bool
-    ensures { result ≡ list_any (is_call by.now n) entries.now }
-{
-    entries.iter().any(|entry| is_call(entry, by, n))
-}
-
-/// Whether an A of a call whose C stands at a place stands among the entries: those from there on are looked at
-/// first, since its A is most often one of them.
-fn is_answered_near(entries: &[Entry], near: usize, by: &Who, n: u64) -> bool
-    requires { near ≤ length entries.now }
-    ensures { result ≡ exists (is_answer by.now n) (reverse entries.now) }
-{
-    let (earlier, later) = entries.split_at(near);
-    has_answer(later, by, n) || has_answer(earlier, by, n)
-}
-
-/// Whether a C of a call stands among the entries; those from a place on are looked at first.
-fn is_called_near(entries: &[Entry], near: usize, by: &Who, n: u64) -> bool
-    requires { near ≤ length entries.now }
-    ensures { result ≡ exists (is_call by.now n) (reverse entries.now) }
-{
-    let (earlier, later) = entries.split_at(near);
-    has_call(later, by, n) || has_call(earlier, by, n)
 }
 
 #[tactic(auto, using(crate::proofs::Backwards::last_first))]
@@ -90,7 +57,8 @@ fn is_open_near(before: &[Entry], near: usize, by: &Who, n: u64) -> bool
     requires { near ≤ length before.now }
     ensures { result ≡ is_open (reverse before.now) by.now n }
 {
-    is_called_near(before, near, by, n) && !is_answered_near(before, near, by, n)
+    is_near(before, near, Sought::Call { who: by, q: n })
+        && !is_near(before, near, Sought::Answer { who: by, q: n })
 }
 
 /// Whether the entry at a place is a C of the incarnation whose call is open behind the entries.

@@ -1,13 +1,15 @@
 //! Which losses are excused: those of clients that were cut off beyond write slack.
 
-ghost use Rattle.std.specs.Prelude.{◌≡◌, ◌+◌, ◌<◌, reverse, nat_le, [], ◌∷◌};
-ghost use Rattle.std.specs.List.{list_any};
+ghost use Rattle.std.specs.Prelude.{◌≡◌, ◌+◌, ◌<◌, reverse, take, drop, length, nat_le, [], ◌∷◌};
 ghost use Rattle.nq_check.specs.Grants.{given};
+ghost use Rattle.nq_check.specs.Tables.{AreTables};
 ghost use Rattle.nq_model.specs.CutOff.{last_grant};
 ghost use Rattle.nq_model.specs.CutOffTest.{ends, ends_first, has_passed, is_cut_off, is_late_end, is_late_opening, is_long_wait, is_store_over};
-ghost use Rattle.nq_model.specs.JournalTest.{each, exists, loss_covers};
+ghost use Rattle.nq_model.specs.JournalTest.{each, exists};
 
 use crate::rules::entries::loss_covers;
+use crate::sought::covers_behind;
+use crate::tables::Tables;
 use nq_base::{Entry, FileId, Ticks, Who};
 
 // Write slack, and skew with write slack, in ticks.
@@ -202,20 +204,16 @@ fn ends_first(before: &[Entry], loss: &Entry, by: &Who, on: FileId) -> bool
     false
 }
 
-/// Whether an L covers a write among the entries.
-fn loses_some(after: &[Entry], loss: &Entry) -> bool
-    ensures { result ≡ list_any (loss_covers loss.now) after.now }
-{
-    after.iter().any(|entry| loss_covers(loss, entry))
-}
-
 /// Whether an L is cut off.
-pub(crate) fn is_cut_off(before: &[Entry], entry: &Entry, after: &[Entry]) -> bool
-    ensures { result ≡ is_cut_off after.now entry.now (reverse before.now) }
+pub(crate) fn is_cut_off(tables: &Tables, whole: &[Entry], place: usize, entry: &Entry) -> bool
+    requires tables { AreTables whole.now tables.now }
+    requires within { place < length whole.now }
+    ensures { result ≡ is_cut_off (drop (place + 1) whole.now) entry.now (reverse (take place whole.now)) }
 {
     match entry {
         Entry::L { who, file, .. } => {
-            ends_first(before, entry, who, *file) && !loses_some(after, entry)
+            ends_first(&whole[..place], entry, who, *file)
+                && !covers_behind(&tables.leases.own, whole, place, entry)
         }
         _ => true,
     }

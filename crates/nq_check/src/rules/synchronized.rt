@@ -2,15 +2,23 @@
 
 ghost use Rattle.std.specs.Prelude.{◌≡◌, reverse};
 ghost use Rattle.nq_check.specs.Kept.{is_kept, is_kept_at, is_put_kept, is_write_of_call};
-ghost use Rattle.nq_model.specs.JournalTest.{exists, is_open, somewhere};
+ghost use Rattle.nq_model.specs.JournalTest.{exists, is_open, is_stored, somewhere};
 ghost use Rattle.nq_model.specs.SynchronizedTest.{are_stored_or_told, is_delayed_on, is_named_loss, is_settled_resize, is_stored_or_told};
 
 use crate::rules::calls::{call_of, writes};
 use crate::rules::entries::{is_answer, is_call, is_delayed_on, is_through, loss_covers};
-use crate::rules::legal::is_stored;
 use crate::rules::named::is_named;
 use crate::rules::ordered::is_alone;
+use crate::sought::{Sought, is_near};
 use nq_base::{Entry, FileId, Loss, Said, Told, Who};
+
+/// Whether an S among the entries covers a write. Those from a place on are looked at first: where the write stands there, its
+/// S is most often one of them.
+fn is_stored(entries: &[Entry], near: usize, write: &Entry) -> bool
+    ensures { result ≡ is_stored (reverse entries.now) write.now }
+{
+    is_near(entries, near, Sought::Store(write))
+}
 
 // ---- a put
 

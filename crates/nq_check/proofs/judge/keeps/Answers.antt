@@ -3,3 +3,12 @@ use Rattle.nq_check.proofs.judge.keeps.Goals as goal
 
 pub returns-then-place-front : goal.returns-then-place-front
 returns-then-place-front c = sym (c.requires.front c.args.place c.args.entry.now c.if-place-front.true c.requires.there.1)
+
+pub returns-in-Legal : goal.returns-in-Legal
+returns-in-Legal c = rw c.in-Legal.is c.is_legal.ensures
+
+pub returns-in-Accounted : goal.returns-in-Accounted
+returns-in-Accounted c = rw c.in-Accounted.is c.is_accounted_at.ensures
+
+pub returns-in-Synchronized : goal.returns-in-Synchronized
+returns-in-Synchronized c = rw c.in-Synchronized.is c.is_kept_at.ensures

@@ -25,6 +25,11 @@ is_kept_at-requires-clause-ready c = record {
   linked = c.loop-place.invariant.1;
 }
 
+pub is_kept_at-requires-clause-there : goal.is_kept_at-requires-clause-there
+is_kept_at-requires-clause-there c =
+    slice_get_read c.args.whole.now (length c.args.whole.now) c.loop-place.place c.index-whole-place.result refl c.loop-place-test.true
+    c.index-whole-place.is
+
 pub loop-place-preserved : goal.loop-place-preserved
 loop-place-preserved c =
     let whole = c.args.whole.now in

@@ -12,5 +12,5 @@ returns c =
     let b : c.lower.result ≤ ended = c.lower.ensures.1 in
     let d : front ≤ named = c.lower-2.ensures.0 in
     let e : front ≤ c.lower.result = c.lower-2.ensures.1 in
-    all_below c.args.whole.now named told told ended front c.in_ok-names.ensures c.in_ok-reported.ensures.told c.in_ok-reported.ensures.over
-    c.in_ok-ended.ensures (omega arith) (omega arith) (omega arith) (omega arith)
+    all_below c.args.whole.now named told ended front c.in_ok-names.ensures c.in_ok-reported.ensures c.in_ok-ended.ensures (omega arith) (omega arith)
+    (omega arith)
