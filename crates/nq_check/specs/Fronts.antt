@@ -18,6 +18,6 @@ KeepsBelow rule whole front = (place : ℕ) (entry : Entry) → place < front �
 -- it is so with each front
 pub record AreFronts (whole : List Entry) (fronts : Fronts) : Type 0 where
   pub ordered : KeepsBelow Ordered whole fronts.ordered
-  pub accounted : KeepsBelow Accounted whole fronts.accounted
+  pub accounted : KeepsBelow Accounted whole fronts.fates.accounted
   pub reported : KeepsBelow Reported whole fronts.reported
   pub synchronized : KeepsBelow Synchronized whole fronts.synchronized

@@ -1,7 +1,7 @@
 //! A fast pass over the entries that account for the delayed writes which they cover.
 
 ghost use Rattle.std.specs.Prelude.{◌≡◌, true, reverse, slice_get, Some, IfOk, IfSome, IsTrue, OnOk, ◌-◌};
-ghost use Rattle.nq_check.specs.Covered.{Accounts, IsAnew, IsExtended, IsRaised, is_outside};
+ghost use Rattle.nq_check.specs.Covered.{Accounts, IsAnew, IsRaised, is_outside};
 ghost use Rattle.nq_check.specs.Fronts.{KeepsBelow};
 ghost use Rattle.nq_check.specs.declared.rules.Rule.{Rule};
 ghost use Rattle.nq_model.specs.JournalTest.{covers, exists};
@@ -80,14 +80,6 @@ fn is_outside(reach: &Reach, at: Key, first: Number, last: Number) -> bool
         || head_at(&reach.lowest, at) < below_highest(last)
 }
 
-/// Takes in that numbers are covered on a block.
-fn extend(reach: &mut Reach, at: Key, first: Number, last: Number) -> Result<(), NoMemory>
-    ensures { OnOk result (IsExtended 18446744073709551615 at first last reach.old reach.new) }
-{
-    raise(&mut reach.highest, at, last.0 as usize)?;
-    raise(&mut reach.lowest, at, below_highest(first))
-}
-
 /// Whether numbers are above all that are covered on a block, or below them. Then they are taken in.
 fn covers_anew(reach: &mut Reach, at: Key, first: Number, last: Number) -> Result<bool, NoMemory>
     ensures { IfOk result (λ anew. IsTrue anew → IsAnew 18446744073709551615 at first last reach.old reach.new) }
@@ -95,7 +87,8 @@ fn covers_anew(reach: &mut Reach, at: Key, first: Number, last: Number) -> Resul
     if !is_outside(reach, at, first, last) {
         return Ok(false);
     }
-    extend(reach, at, first, last)?;
+    raise(&mut reach.highest, at, last.0 as usize)?;
+    raise(&mut reach.lowest, at, below_highest(first))?;
     Ok(true)
 }
 

@@ -8,7 +8,7 @@ ghost use Rattle.nq_check.specs.Tables.{AreTables};
 ghost use Rattle.nq_check.specs.Verdict.{IsVerdict, verdict};
 
 use crate::fronts::{Fronts, find_fronts};
-use crate::legal::{Hints, is_legal};
+use crate::legal::is_legal;
 use crate::rules::accounted::is_accounted_at;
 use crate::rules::excused::is_cut_off;
 use crate::rules::named::is_reported_at;
@@ -41,13 +41,7 @@ fn keeps(
     let before = &whole[..place];
     let after = &whole[place + 1..];
     match rule {
-        Rule::Legal => {
-            let hints = Hints {
-                fates: &fronts.fates,
-                accounted: fronts.accounted,
-            };
-            is_legal(tables, &hints, whole, place, entry)
-        }
+        Rule::Legal => is_legal(tables, &fronts.fates, whole, place, entry),
         Rule::Ordered => is_in_order(whole, before, entry, after),
         Rule::Accounted => is_accounted_at(whole, before, entry),
         Rule::Reported => {
@@ -92,7 +86,7 @@ fn first_rule(
         place,
         entry,
         Rule::Accounted,
-        fronts.accounted,
+        fronts.fates.accounted,
     ) {
         return Some(Rule::Accounted);
     }

@@ -10,7 +10,6 @@ ghost use Rattle.nq_check.specs.declared.rules.Rule.{Rule};
 ghost use Rattle.nq_model.specs.JournalTest.{is_answer};
 
 use crate::fates::Fates;
-use crate::latest::latest_of;
 use crate::puts::is_put_kept;
 use crate::rules::synchronized::is_kept;
 use crate::sought::call_along;
@@ -40,8 +39,15 @@ fn is_seen_kept(
     };
     match told {
         Told::WriteSync { .. } => {
-            let latest = latest_of(&trail.latests, asked.who);
-            is_put_kept(tables, whole, &latest, place, entry, asked.who, asked.q)
+            is_put_kept(
+                tables,
+                &trail.hints,
+                whole,
+                place,
+                entry,
+                asked.who,
+                asked.q,
+            )
         }
         Told::Sync { file } => is_sync_kept(tables, fates, trail, whole, place, asked.who, file),
         Told::Resize { file, .. } | Told::Remove { file } => {

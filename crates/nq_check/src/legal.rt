@@ -22,13 +22,6 @@ use crate::sought::{Sought, back_from, call_along, is_before, is_somewhere};
 use crate::tables::Tables;
 use nq_base::{BlockNo, Entry, FileId, Said, Who};
 
-/// Where to look first for what became of a delayed write, and how far the entries account for what they cover.
-#[derive(Drop)]
-pub(crate) struct Hints<'a> {
-    pub(crate) fates: &'a Fates,
-    pub(crate) accounted: usize,
-}
-
 /// A read, as its R tells it.
 #[derive(Drop)]
 struct Reading<'a> {
@@ -63,17 +56,17 @@ pub(crate) fn is_counted(tables: &Tables, whole: &[Entry], entry: &Entry) -> boo
 
 /// Whether an S covers the write at a place. The entry that is its fate is looked at first: where all entries are known to
 /// account for what they cover, no S covers a write that was lost.
-fn is_stored(tables: &Tables, hints: &Hints, whole: &[Entry], at: usize, write: &Entry) -> bool
+fn is_stored(tables: &Tables, fates: &Fates, whole: &[Entry], at: usize, write: &Entry) -> bool
     requires tables { AreTables whole.now tables.now }
-    requires accounted { KeepsBelow Rule.Accounted whole.now hints.now.accounted }
+    requires accounted { KeepsBelow Rule.Accounted whole.now fates.now.accounted }
     requires there { slice_get whole.now at ≡ Some write.now }
     ensures { result ≡ is_stored (reverse whole.now) write.now }
 {
-    let fate = fate_at(hints.fates, at);
+    let fate = fate_at(fates, at);
     if is_stored_at(whole, fate, write) {
         return true;
     }
-    if hints.accounted >= whole.len() && is_lost_at(whole, fate, write) {
+    if fates.accounted >= whole.len() && is_lost_at(whole, fate, write) {
         return false;
     }
     is_somewhere(&tables.covers, whole, Sought::Store(write))
@@ -101,7 +94,7 @@ fn is_lost(
 /// Whether the write at a place stands for the read at another.
 fn stands(
     tables: &Tables,
-    hints: &Hints,
+    fates: &Fates,
     whole: &[Entry],
     place: usize,
     read: &Reading,
@@ -109,28 +102,28 @@ fn stands(
     write: &Entry,
 ) -> bool
     requires tables { AreTables whole.now tables.now }
-    requires accounted { KeepsBelow Rule.Accounted whole.now hints.now.accounted }
+    requires accounted { KeepsBelow Rule.Accounted whole.now fates.now.accounted }
     requires there { slice_get whole.now at ≡ Some write.now }
     requires within { place < length whole.now }
     ensures { result ≡ stands (reverse whole.now) (reverse (take place whole.now)) read.now.who.now read.now.file read.now.block write.now }
 {
     is_write_on(write, read.file, read.block)
         && (is_through(write)
-            || (is_stored(tables, hints, whole, at, write)
+            || (is_stored(tables, fates, whole, at, write)
                 || is_write_by(write, read.who)
-                    && !is_lost(tables, hints.fates, whole, place, at, write)))
+                    && !is_lost(tables, fates, whole, place, at, write)))
 }
 
 /// The place of the last write before a read that stands for it, counted from 1, or 0 where there is none.
 fn last_standing(
     tables: &Tables,
-    hints: &Hints,
+    fates: &Fates,
     whole: &[Entry],
     place: usize,
     read: &Reading,
 ) -> usize
     requires tables { AreTables whole.now tables.now }
-    requires accounted { KeepsBelow Rule.Accounted whole.now hints.now.accounted }
+    requires accounted { KeepsBelow Rule.Accounted whole.now fates.now.accounted }
     requires within { place < length whole.now }
     ensures low { result ≤ place }
     ensures none { NoneBetween (stands (reverse whole.now) (reverse (take place whole.now)) read.now.who.now read.now.file read.now.block) whole.now
@@ -141,7 +134,7 @@ fn last_standing(
     let key = block_key(read.file, read.block);
     let mut at = back_from(&tables.writes, Kind::Writes, key, whole, whole.len(), place);
     while at > 0 {
-        if stands(tables, hints, whole, place, read, at - 1, &whole[at - 1]) {
+        if stands(tables, fates, whole, place, read, at - 1, &whole[at - 1]) {
             return at;
         }
         at = back_from(
@@ -177,17 +170,17 @@ fn is_cut_since(tables: &Tables, whole: &[Entry], from: usize, place: usize, rea
 /// The value of the last write before a read that stands for it, or 0 where there is none.
 fn standing_value(
     tables: &Tables,
-    hints: &Hints,
+    fates: &Fates,
     whole: &[Entry],
     place: usize,
     read: &Reading,
 ) -> u32
     requires tables { AreTables whole.now tables.now }
-    requires accounted { KeepsBelow Rule.Accounted whole.now hints.now.accounted }
+    requires accounted { KeepsBelow Rule.Accounted whole.now fates.now.accounted }
     requires within { place < length whole.now }
     ensures { result ≡ standing_value (reverse whole.now) (reverse (take place whole.now)) read.now.who.now read.now.file read.now.block }
 {
-    let at = last_standing(tables, hints, whole, place, read);
+    let at = last_standing(tables, fates, whole, place, read);
     if is_cut_since(tables, whole, at, place, read) {
         return 0;
     }
@@ -200,18 +193,18 @@ fn standing_value(
 /// Whether a counted read is legal.
 fn is_legal_read(
     tables: &Tables,
-    hints: &Hints,
+    fates: &Fates,
     whole: &[Entry],
     place: usize,
     read: &Reading,
 ) -> bool
     requires tables { AreTables whole.now tables.now }
-    requires accounted { KeepsBelow Rule.Accounted whole.now hints.now.accounted }
+    requires accounted { KeepsBelow Rule.Accounted whole.now fates.now.accounted }
     requires within { place < length whole.now }
     ensures { result ≡ is_legal_read (reverse whole.now) (reverse (take place whole.now)) read.now.who.now read.now.q read.now.file read.now.block
         read.now.value }
 {
-    read.value == standing_value(tables, hints, whole, place, read)
+    read.value == standing_value(tables, fates, whole, place, read)
         && is_reading(call_along(&tables.calls, whole, read.who, read.q))
         && is_somewhere(
             &tables.calls,
@@ -293,13 +286,13 @@ fn answers_legally(tables: &Tables, whole: &[Entry], by: &Who, n: u64, v: u32) -
 /// Whether the entry at a place is legal, as the links show.
 pub(crate) fn is_legal(
     tables: &Tables,
-    hints: &Hints,
+    fates: &Fates,
     whole: &[Entry],
     place: usize,
     entry: &Entry,
 ) -> bool
     requires tables { AreTables whole.now tables.now }
-    requires accounted { KeepsBelow Rule.Accounted whole.now hints.now.accounted }
+    requires accounted { KeepsBelow Rule.Accounted whole.now fates.now.accounted }
     requires within { place < length whole.now }
     ensures { result ≡ is_legal_at (reverse whole.now) entry.now (reverse (take place whole.now)) }
 {
@@ -315,7 +308,7 @@ pub(crate) fn is_legal(
             !is_counted(tables, whole, entry)
                 || is_legal_read(
                     tables,
-                    hints,
+                    fates,
                     whole,
                     place,
                     &Reading {

@@ -7,7 +7,6 @@ mod fates;
 mod fronts;
 mod judge;
 mod kept_front;
-mod latest;
 pub mod laws;
 mod legal;
 mod lines;

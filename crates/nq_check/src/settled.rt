@@ -10,7 +10,8 @@ ghost use Rattle.nq_model.specs.SynchronizedTest.{are_stored_or_told, is_named_l
 
 use crate::covering::entry_at;
 use crate::fates::{Fates, fate_at};
-use crate::links::{Kind, Links, file_key};
+use crate::links::{Heads, Kind, Links, file_key, head_at};
+use crate::namings::loss_key;
 use crate::reports::names;
 use crate::rules::entries::{loss_covers, store_covers};
 use crate::sought::back_from;
@@ -25,30 +26,34 @@ pub(crate) struct Settling<'a> {
     pub(crate) place: usize,
 }
 
-/// Whether the entry at a place, among those before an answer, names a loss.
+/// Whether an entry before an answer, at the place that is kept for a loss, names the loss.
 fn is_named_at(
     tables: &Tables,
+    named: &Heads,
     whole: &[Entry],
     answered: &[Entry],
-    at: usize,
     by: &Who,
     loss: &Loss,
 ) -> bool
     requires tables { AreTables whole.now tables.now }
     ensures { IsTrue result → exists (names (reverse whole.now) by.now loss.now) (reverse answered.now) ≡ true }
 {
-    match entry_at(answered, at) {
+    let at = head_at(named, loss_key(by, loss.first, loss.last));
+    if at == 0 {
+        return false;
+    }
+    match entry_at(answered, at - 1) {
         Some(entry) => names(tables, whole, by, loss, entry),
         None => false,
     }
 }
 
-/// Whether an entry is an L that covers a write, and the entry at a place before the answer names it.
+/// Whether an entry is an L that covers a write, and an entry before the answer is known to name it.
 fn is_named_loss(
     tables: &Tables,
+    named: &Heads,
     whole: &[Entry],
     answered: &[Entry],
-    at: usize,
     write: &Entry,
     entry: &Entry,
 ) -> bool
@@ -72,7 +77,7 @@ fn is_named_loss(
             if !loss_covers(entry, write) {
                 return false;
             }
-            is_named_at(tables, whole, answered, at, who, &loss)
+            is_named_at(tables, named, whole, answered, who, &loss)
         }
         _ => false,
     }
@@ -91,7 +96,7 @@ fn is_told_at(
     ensures { IsTrue result → exists (is_named_loss (reverse whole.now) (reverse answered.now) write.now) (reverse whole.now) ≡ true }
 {
     match entry_at(whole, at) {
-        Some(entry) => is_named_loss(tables, whole, answered, fate_at(fates, at), write, entry),
+        Some(entry) => is_named_loss(tables, &fates.named, whole, answered, write, entry),
         None => false,
     }
 }
