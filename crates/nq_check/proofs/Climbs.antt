@@ -11,15 +11,15 @@ use Rattle.nq_base.specs.declared.Said.TheVariants.{OkBy}
 use Rattle.nq_base.specs.declared.Told.{Told}
 use Rattle.nq_base.specs.declared.Who.{Who}
 use Rattle.nq_check.specs.declared.links.Kind.{Kind}
-use Rattle.nq_check.specs.declared.links.Kind.TheVariants.{Calls, Covers}
+use Rattle.nq_check.specs.declared.links.Kind.TheVariants.{Calls, Covers, Own}
 use Rattle.nq_check.specs.declared.sought.Sought.{Sought}
-use Rattle.nq_check.specs.declared.sought.Sought.TheVariants.{AnswerBy, AnswerWith, Store, Loss}
+use Rattle.nq_check.specs.declared.sought.Sought.TheVariants.{Call, Answer, AnswerBy, AnswerWith, Store, Loss, Lost}
 use Rattle.nq_check.specs.Links.{IsFree, is_link, own_spot}
 use Rattle.nq_check.specs.Marks.{Spot, same_spot, spot}
 use Rattle.nq_check.specs.Sought.{kind_sought, passes, spot_sought}
-use Rattle.nq_rules.proofs.Places.{taken_here}
+use Rattle.nq_check.proofs.Places.{taken_here}
 use Rattle.nq_model.specs.Journal.{call_of, told_by}
-use Rattle.nq_model.specs.JournalTest.{exists, is_answer_by, is_within, loss_covers, store_covers}
+use Rattle.nq_model.specs.JournalTest.{is_answer, is_answer_by, is_call, is_within, loss_covers, store_covers}
 use Rattle.nq_model.specs.LegalTest.{gives_value, is_answer_with}
 use Rattle.nq_model.specs.Table.{same_who}
 
@@ -47,19 +47,6 @@ climb Q whole from to a b q step =
     let up : from + (to - from) ≡ to = omega arith in
     subst (λ k. Q (reverse (take k whole))) up
     (climb_by Q whole (to - from) from (omega arith) q (λ place entry before c d. step place entry before c (omega arith)))
-
-false_of : (a b : Bool) → (a ≡ true → b ≡ true) → b ≡ false → a ≡ false
-false_of true b f h = absurd (let t = f refl in cc)
-false_of false b f h = refl
-
--- no entry between two places is looked for, where the links lead to none
-pub skip_exists : (test : Entry → Bool) (kind : Kind) (key : Spot) (whole : List Entry) (from to : ℕ)
-    → ((entry : Entry) → test entry ≡ true → is_link kind key entry ≡ true) → from ≤ to → to ≤ length whole → IsFree kind key whole from to
-    → exists test (reverse (take to whole)) ≡ exists test (reverse (take from whole))
-skip_exists test kind key whole from to linked a b free =
-    climb (λ l. exists test l ≡ exists test (reverse (take from whole))) whole from to a b refl
-    (λ place entry before c d there h.
-    ap (λ t. t || exists test before) (false_of (test entry) (is_link kind key entry) (linked entry) (free place entry c d there)) ∙ h)
 
 pub link_call : (by who : Who) (n q : ℕ) → (same_who by who && nat_eq n q) ≡ true → same_spot (spot by n 0) (spot who q 0) ≡ true
 link_call by who n q e =
@@ -127,6 +114,14 @@ loss_linked : (write entry : Entry) → loss_covers entry write ≡ true → is_
 loss_linked write (L who file block first last) h = within_linked who file block first last write h
 loss_linked write other h = absurd (cc)
 
+called_linked : (who : Who) (q : ℕ) (entry : Entry) → is_call who q entry ≡ true → is_link Calls (spot who q 0) entry ≡ true
+called_linked who q (C by n told) h = link_call by who n q h
+called_linked who q other h = absurd (cc)
+
+answered_linked : (who : Who) (q : ℕ) (entry : Entry) → is_answer who q entry ≡ true → is_link Calls (spot who q 0) entry ≡ true
+answered_linked who q (A by n said) h = link_call by who n q h
+answered_linked who q other h = absurd (cc)
+
 by_linked : (who : Who) (q k : ℕ) (entry : Entry) → is_answer_by who q k entry ≡ true → is_link Calls (spot who q 0) entry ≡ true
 by_linked who q k (A by n (OkBy v p)) h = link_call by who n q (and_parts (same_who by who && nat_eq n q) (nat_eq p k) h).0
 by_linked who q k other h = absurd (cc)
@@ -135,11 +130,25 @@ with_linked : (who : Who) (q v : ℕ) (entry : Entry) → is_answer_with who q v
 with_linked who q v (A by n said) h = link_call by who n q (and_parts (same_who by who && nat_eq n q) (gives_value v said) h).0
 with_linked who q v other h = absurd (cc)
 
+covered_linked : (who : Who) (file block first last : ℕ) (write : Entry) → is_within who file block first last write ≡ true
+    → is_link Own (spot who file block) write ≡ true
+covered_linked who file block first last (W by f b n v false) h =
+    let p = tells_within who file block first last by f b n v h in
+    and_from (same_who by who) (nat_eq f file && nat_eq b block) p.0 (and_from (nat_eq f file) (nat_eq b block) p.1 p.2)
+covered_linked who file block first last other h = absurd (cc)
+
+lost_linked : (loss entry : Entry) → loss_covers loss entry ≡ true → is_link Own (own_spot loss) entry ≡ true
+lost_linked (L who file block first last) entry h = covered_linked who file block first last entry h
+lost_linked other entry h = absurd (cc)
+
 pub sought_linked : (sought : Sought) (entry : Entry) → passes sought entry ≡ true → is_link (kind_sought sought) (spot_sought sought) entry ≡ true
+sought_linked (Call who q) entry h = called_linked who.now q entry h
+sought_linked (Answer who q) entry h = answered_linked who.now q entry h
 sought_linked (AnswerBy who q packet) entry h = by_linked who.now q packet entry h
 sought_linked (AnswerWith who q value) entry h = with_linked who.now q value entry h
 sought_linked (Store write) entry h = store_linked write.now entry h
 sought_linked (Loss write) entry h = loss_linked write.now entry h
+sought_linked (Lost loss) entry h = lost_linked loss.now entry h
 
 -- the same, where key and kind are known by what they are equal to
 pub sought_here : (sought : Sought) (kind : Kind) (key : Spot) → kind ≡ kind_sought sought → key ≡ spot_sought sought → (entry : Entry)

@@ -1,18 +1,17 @@
 -- What following links shows.
-use Rattle.std.proofs.Common.{◌≡◌, ◌<◌, ◌≤◌, ℕ, ◌+◌, ◌-◌, List, ◌∷◌, length, take, reverse, Some, Bool, true, false, ◌||◌, ◌∙◌, ap, subst, arith}
+use Rattle.std.proofs.Common.{◌≡◌, ◌<◌, ◌≤◌, ℕ, ◌+◌, ◌-◌, List, ◌∷◌, length, take, reverse, Some, true, ◌∙◌, ap, subst, arith}
 use Rattle.std.specs.List.{slice_get}
 use Rattle.std.specs.Option.{option_or}
 use Rattle.nq_base.specs.declared.Entry.{Entry}
 use Rattle.nq_base.specs.declared.Who.{Who}
 use Rattle.nq_check.specs.declared.links.Kind.{Kind}
 use Rattle.nq_check.specs.declared.links.Kind.TheVariants.{Calls}
-use Rattle.nq_check.specs.Links.{IsFree, IsLinked, is_link, spot_of}
+use Rattle.nq_check.specs.Links.{IsFree, IsLinked, spot_of}
 use Rattle.nq_check.specs.Marks.{Spot, same_spot, spot}
-use Rattle.nq_check.proofs.Climbs.{skip_exists, skip_told}
+use Rattle.nq_check.proofs.Climbs.{skip_told}
 use Rattle.nq_check.proofs.Once.{same_is}
-use Rattle.nq_rules.proofs.Places.{taken_here}
+use Rattle.nq_check.proofs.Places.{taken_here}
 use Rattle.nq_model.specs.Journal.{call_of, told_by}
-use Rattle.nq_model.specs.JournalTest.{exists}
 
 -- the link of an entry of a key passes over none of that key
 pub back_free : (kind : Kind) (whole : List Entry) (n : ℕ) (heads : List (Spot × ℕ)) (earlier : List ℕ) (place : ℕ) (entry : Entry) (e : ℕ) (key : Spot)
@@ -26,14 +25,6 @@ pub taken_last : {X : Type 0} (xs : List X) (k : ℕ) (x : X) → 0 < k → slic
 taken_last xs k x up e =
     let same : (k - 1) + 1 ≡ k = omega arith in
     subst (λ i. reverse (take i xs) ≡ x ∷ reverse (take (k - 1) xs)) same (taken_here xs (k - 1) x e)
-
--- it is not, and no link leads to another before the next
-pub none_last : (test : Entry → Bool) (kind : Kind) (key : Spot) (whole : List Entry) (next k : ℕ) (x : Entry)
-    → ((entry : Entry) → test entry ≡ true → is_link kind key entry ≡ true) → 0 < k → k ≤ length whole → next ≤ k - 1 → slice_get whole (k - 1) ≡ Some x
-    → test x ≡ false → IsFree kind key whole next (k - 1) → exists test (reverse (take k whole)) ≡ exists test (reverse (take next whole))
-none_last test kind key whole next k x linked up within low e t free =
-    ap (exists test) (taken_last whole k x up e) ∙ ap (λ b. b || exists test (reverse (take (k - 1) whole))) t
-    ∙ skip_exists test kind key whole next (k - 1) linked low (omega arith) free
 
 -- what the call asks, with what the entry before a place tells of it
 pub told_last : (key : Spot) (who : Who) (q : ℕ) (whole : List Entry) (next k : ℕ) (x : Entry) → key ≡ spot who q 0 → 0 < k → k ≤ length whole

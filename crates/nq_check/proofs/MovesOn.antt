@@ -3,7 +3,7 @@ use Rattle.std.proofs.Common.{◌≡◌, ℕ, ◌+◌, List, Some, true, inl, in
 use Rattle.std.specs.List.{slice_get}
 use Rattle.std.proofs.lemmas.Bool.{cases_lt}
 use Rattle.nq_base.specs.declared.Entry.{Entry}
-use Rattle.nq_rules.specs.declared.Rule.{Rule}
+use Rattle.nq_check.specs.declared.rules.Rule.{Rule}
 use Rattle.nq_check.specs.Fronts.{KeepsBelow, keeps_at}
 
 some_one : {X : Type 0} (x y : X) → Some x ≡ Some y → x ≡ y

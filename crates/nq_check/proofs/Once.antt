@@ -14,7 +14,7 @@ use Rattle.nq_model.proofs.JournalTests.{tells_covers, tells_exists}
 use Rattle.nq_check.specs.Covered.{Accounts, IsAnew, IsCoveredTo, IsExtended, IsRaised, IsReached, is_outside}
 use Rattle.nq_check.specs.Marks.{IsMarked, Spot, mark_at, same_spot, spot}
 use Rattle.nq_check.specs.declared.covering.Reach.{Reach}
-use Rattle.nq_rules.proofs.Places.{taken_here}
+use Rattle.nq_check.proofs.Places.{taken_here}
 
 -- ---- spots
 

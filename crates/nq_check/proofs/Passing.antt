@@ -1,17 +1,15 @@
 -- A test that entries pass, one more of them at a time.
 use Rattle.std.proofs.Common.{◌≡◌, ◌<◌, ◌≤◌, ℕ, ◌+◌, ◌-◌, List, ◌∷◌, take, drop, reverse, Some, true, inl, inr, refl, sym, ◌∙◌, subst, arith}
-use Rattle.std.specs.Prelude.{Bool, false, not, ◌&&◌, if◌then◌else◌}
+use Rattle.std.specs.Prelude.{Bool, false, if◌then◌else◌}
 use Rattle.std.specs.List.{slice_get}
 use Rattle.std.proofs.lemmas.Bool.{and_from, cases_lt}
 use Rattle.nq_base.specs.declared.Entry.{Entry}
 use Rattle.nq_base.specs.declared.Entry.TheVariants.{L, A}
 use Rattle.nq_base.specs.declared.Said.TheVariants.{Lost}
 use Rattle.nq_check.specs.Fronts.{KeepsBelow, keeps_at}
-use Rattle.nq_check.specs.Losses.{PassBetween, is_ended, is_naming, is_over, is_told}
-use Rattle.nq_rules.specs.Named.{is_reported}
-use Rattle.nq_rules.specs.declared.Rule.TheVariants.{Reported}
-use Rattle.nq_model.specs.CutOffTest.{ends_first}
-use Rattle.nq_model.specs.JournalTest.{exists, loss_covers}
+use Rattle.nq_check.specs.Losses.{PassBetween, is_ended, is_naming, is_told}
+use Rattle.nq_check.specs.Named.{is_reported}
+use Rattle.nq_check.specs.declared.rules.Rule.TheVariants.{Reported}
 use Rattle.nq_model.specs.Reported.{loss_told}
 
 some_one : {X : Type 0} (x y : X) → Some x ≡ Some y → x ≡ y
@@ -57,31 +55,22 @@ pass_back test whole left to true x front up e is h below =
     (pass_down test whole (left - 1) to x e (h refl) (subst (λ k. PassBetween test whole k to) same below))
 pass_back test whole left to false x front up e is h below = pass_none test whole (left - 1) front (omega arith)
 
--- the front moves no further, whether or not another test passes there
-pub pass_if : (test : ℕ → Entry → Bool) (whole : List Entry) (from to place : ℕ) (passes : Bool) (front : ℕ) → place ≤ from
-    → front ≡ (if passes then to else place) → PassBetween test whole from to → PassBetween test whole from front
-pass_if test whole from to place true front low is h = subst (λ f. PassBetween test whole from f) (sym is) h
-pass_if test whole from to place false front low is h = pass_none test whole from front (omega arith)
-
 -- ---- the rule of losses, by its parts
 
 all_parts : (whole : List Entry) (place : ℕ) (entry : Entry) → is_naming whole place entry ≡ true → is_told whole place entry ≡ true
-    → is_over whole place entry ≡ true → is_ended whole place entry ≡ true → keeps_at Reported whole place entry ≡ true
-all_parts whole place (L who file block first last) n t o e =
-    and_from (ends_first (L who file block first last) who file (reverse (take place whole)) && not
-    (exists (loss_covers (L who file block first last)) (drop (place + 1) whole)))
+    → is_ended whole place entry ≡ true → keeps_at Reported whole place entry ≡ true
+all_parts whole place (L who file block first last) n t e =
+    and_from (is_ended whole place (L who file block first last))
     (is_reported (reverse whole) (L who file block first last ∷ reverse (take place whole)) who (loss_told file block first last) (drop (place + 1) whole))
-    (and_from (ends_first (L who file block first last) who file (reverse (take place whole)))
-    (not (exists (loss_covers (L who file block first last)) (drop (place + 1) whole))) e o) t
-all_parts whole place (A who q (Lost spans)) n t o e = n
-all_parts whole place other n t o e = refl
+    e t
+all_parts whole place (A who q (Lost spans)) n t e = n
+all_parts whole place other n t e = refl
 
-pub all_below : (whole : List Entry) (named told over ended front : ℕ) → PassBetween (is_naming whole) whole 0 named
-    → PassBetween (is_told whole) whole 0 told → PassBetween (is_over whole) whole 0 over → PassBetween (is_ended whole) whole 0 ended → front ≤ named
-    → front ≤ told → front ≤ over → front ≤ ended → KeepsBelow Reported whole front
-all_below whole named told over ended front n t o e a b c d place entry below there =
+pub all_below : (whole : List Entry) (named told ended front : ℕ) → PassBetween (is_naming whole) whole 0 named
+    → PassBetween (is_told whole) whole 0 told → PassBetween (is_ended whole) whole 0 ended → front ≤ named → front ≤ told → front ≤ ended
+    → KeepsBelow Reported whole front
+all_below whole named told ended front n t e a b d place entry below there =
     all_parts whole place entry
     (n place entry (omega arith) (omega arith) there)
     (t place entry (omega arith) (omega arith) there)
-    (o place entry (omega arith) (omega arith) there)
     (e place entry (omega arith) (omega arith) there)

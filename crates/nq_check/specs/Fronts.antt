@@ -3,10 +3,9 @@ use Rattle.std.specs.Prelude.{◌≡◌, ◌<◌, ◌+◌, ℕ, List, Some, Bool
 use Rattle.std.specs.List.{slice_get}
 use Rattle.nq_base.specs.declared.Entry.{Entry}
 use Rattle.nq_check.specs.declared.fronts.Fronts.{Fronts}
-use Rattle.nq_check.specs.Tables.{AreTables}
-use Rattle.nq_rules.specs.declared.Rule.{Rule}
-use Rattle.nq_rules.specs.declared.Rule.TheVariants.{Ordered, Accounted, Reported, Synchronized}
-use Rattle.nq_rules.specs.Rules.{keeps}
+use Rattle.nq_check.specs.declared.rules.Rule.{Rule}
+use Rattle.nq_check.specs.declared.rules.Rule.TheVariants.{Ordered, Accounted, Reported, Synchronized}
+use Rattle.nq_check.specs.Rules.{keeps}
 
 -- whether the entry at a place of a journal, the oldest first, keeps a rule
 abbrev pub keeps_at : Rule → (whole : List Entry) (place : ℕ) → Entry → Bool
@@ -16,10 +15,9 @@ keeps_at rule whole place entry = keeps rule (reverse whole) (drop (place + 1) w
 abbrev pub KeepsBelow : Rule → (whole : List Entry) (front : ℕ) → Type 0
 KeepsBelow rule whole front = (place : ℕ) (entry : Entry) → place < front → slice_get whole place ≡ Some entry → keeps_at rule whole place entry ≡ true
 
--- it is so with each front, and the entries are linked
+-- it is so with each front
 pub record AreFronts (whole : List Entry) (fronts : Fronts) : Type 0 where
-  pub tables : AreTables whole fronts.tables
   pub ordered : KeepsBelow Ordered whole fronts.ordered
-  pub accounted : KeepsBelow Accounted whole fronts.accounted
+  pub accounted : KeepsBelow Accounted whole fronts.fates.accounted
   pub reported : KeepsBelow Reported whole fronts.reported
   pub synchronized : KeepsBelow Synchronized whole fronts.synchronized

@@ -4,22 +4,15 @@ use Rattle.std.specs.List.{slice_get}
 use Rattle.nq_base.specs.declared.Entry.{Entry}
 use Rattle.nq_base.specs.declared.Entry.TheVariants.{S}
 use Rattle.nq_base.specs.declared.Who.{Who}
-use Rattle.nq_check.specs.Links.{IsLinked}
 use Rattle.nq_check.specs.Rising.{Rises}
-use Rattle.nq_check.specs.declared.endings.Leases.{Leases}
-use Rattle.nq_check.specs.declared.links.Kind.TheVariants.{Grants, Stores, Own}
+use Rattle.nq_check.specs.Tables.{AreTables}
+use Rattle.nq_check.specs.declared.tables.Tables.{Tables}
 use Rattle.nq_model.specs.CutOffTest.{ends}
 use Rattle.nq_model.specs.Profile.{write_slack}
 
--- the grants, stores and writes of a journal are linked
-pub record AreLeases (whole : List Entry) (leases : Leases) : Type 0 where
-  pub grants : IsLinked Grants whole (length whole) leases.grants.heads.entries leases.grants.earlier.items
-  pub stores : IsLinked Stores whole (length whole) leases.stores.heads.entries leases.stores.earlier.items
-  pub writes : IsLinked Own whole (length whole) leases.writes.heads.entries leases.writes.earlier.items
-
--- they are, and no S before a place of the journal tells a later time than one behind it
-pub record AreLinked (whole : List Entry) (found : Leases) (place : ℕ) : Type 0 where
-  pub leases : AreLeases whole found
+-- the entries of a journal are linked, and no S before a place tells a later time than one behind it
+pub record AreLinked (whole : List Entry) (found : Tables) (place : ℕ) : Type 0 where
+  pub tables : AreTables whole found
   pub rises : Rises whole place
   pub within : place < length whole
 

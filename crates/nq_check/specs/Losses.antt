@@ -1,13 +1,12 @@
 -- The parts of what is asked of losses and of their names, each at a place of a journal, the oldest entry first.
-use Rattle.std.specs.Prelude.{◌≡◌, ◌<◌, ◌≤◌, ◌+◌, ℕ, List, ◌∷◌, Some, Bool, true, not, take, drop, reverse}
+use Rattle.std.specs.Prelude.{◌≡◌, ◌<◌, ◌≤◌, ◌+◌, ℕ, List, ◌∷◌, Some, Bool, true, take, drop, reverse}
 use Rattle.std.specs.List.{slice_get}
 use Rattle.nq_base.specs.declared.Entry.{Entry}
 use Rattle.nq_base.specs.declared.Entry.TheVariants.{L, A}
 use Rattle.nq_base.specs.declared.Said.TheVariants.{Lost}
-use Rattle.nq_rules.specs.Named.{is_reported}
-use Rattle.nq_model.specs.CutOffTest.{ends_first}
+use Rattle.nq_check.specs.Named.{is_reported}
+use Rattle.nq_model.specs.CutOffTest.{is_cut_off}
 use Rattle.nq_model.specs.Journal.{call_of}
-use Rattle.nq_model.specs.JournalTest.{exists, loss_covers}
 use Rattle.nq_model.specs.Reported.{loss_told}
 use Rattle.nq_model.specs.ReportedTest.{name_losses}
 
@@ -26,12 +25,6 @@ is_told whole place (L who file block first last) =
     is_reported (reverse whole) (L who file block first last ∷ reverse (take place whole)) who (loss_told file block first last) (drop (place + 1) whole)
 is_told whole place other = true
 
--- the lease of an L ended before it, and behind each write before it that it covers
+-- an L is cut off
 abbrev pub is_ended : (whole : List Entry) (place : ℕ) → Entry → Bool
-is_ended whole place (L who file block first last) = ends_first (L who file block first last) who file (reverse (take place whole))
-is_ended whole place other = true
-
--- an L covers no write behind it
-abbrev pub is_over : (whole : List Entry) (place : ℕ) → Entry → Bool
-is_over whole place (L who file block first last) = not (exists (loss_covers (L who file block first last)) (drop (place + 1) whole))
-is_over whole place other = true
+is_ended whole place entry = is_cut_off (drop (place + 1) whole) entry (reverse (take place whole))

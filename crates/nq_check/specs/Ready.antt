@@ -7,7 +7,7 @@ use Rattle.nq_check.specs.Tables.{AreTables}
 use Rattle.nq_check.specs.declared.links.Kind.TheVariants.{Delays}
 use Rattle.nq_check.specs.declared.links.Links.{Links}
 use Rattle.nq_check.specs.declared.tables.Tables.{Tables}
-use Rattle.nq_rules.specs.declared.Rule.TheVariants.{Ordered, Synchronized}
+use Rattle.nq_check.specs.declared.rules.Rule.TheVariants.{Ordered, Synchronized}
 
 -- the entries are linked, those up to a place stand in order, and the answers before it are kept
 pub record IsReady (whole : List Entry) (place : ℕ) (links : Tables) (delays : Links) : Type 0 where

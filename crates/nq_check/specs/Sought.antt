@@ -4,29 +4,38 @@ use Rattle.nq_base.specs.declared.Entry.{Entry}
 use Rattle.nq_check.specs.Links.{own_spot}
 use Rattle.nq_check.specs.Marks.{Spot, spot}
 use Rattle.nq_check.specs.declared.links.Kind.{Kind}
-use Rattle.nq_check.specs.declared.links.Kind.TheVariants.{Calls, Covers}
+use Rattle.nq_check.specs.declared.links.Kind.TheVariants.{Calls, Covers, Own}
 use Rattle.nq_check.specs.declared.sought.Sought.{Sought}
-use Rattle.nq_check.specs.declared.sought.Sought.TheVariants.{AnswerBy, AnswerWith, Store, Loss}
-use Rattle.nq_model.specs.JournalTest.{is_answer_by, loss_covers, store_covers}
+use Rattle.nq_check.specs.declared.sought.Sought.TheVariants.{Call, Answer, AnswerBy, AnswerWith, Store, Loss, Lost}
+use Rattle.nq_model.specs.JournalTest.{is_answer, is_answer_by, is_call, loss_covers, store_covers}
 use Rattle.nq_model.specs.LegalTest.{is_answer_with}
 
 -- whether an entry is what is looked for
 abbrev pub passes : Sought → Entry → Bool
+passes (Call who q) entry = is_call who.now q entry
+passes (Answer who q) entry = is_answer who.now q entry
 passes (AnswerBy who q packet) entry = is_answer_by who.now q packet entry
 passes (AnswerWith who q value) entry = is_answer_with who.now q value entry
 passes (Store write) entry = store_covers entry write.now
 passes (Loss write) entry = loss_covers entry write.now
+passes (Lost loss) entry = loss_covers loss.now entry
 
 -- the key of the links to follow
 abbrev pub spot_sought : Sought → Spot
+spot_sought (Call who q) = spot who.now q 0
+spot_sought (Answer who q) = spot who.now q 0
 spot_sought (AnswerBy who q packet) = spot who.now q 0
 spot_sought (AnswerWith who q value) = spot who.now q 0
 spot_sought (Store write) = own_spot write.now
 spot_sought (Loss write) = own_spot write.now
+spot_sought (Lost loss) = own_spot loss.now
 
 -- the kind of the links to follow
 abbrev pub kind_sought : Sought → Kind
+kind_sought (Call who q) = Calls
+kind_sought (Answer who q) = Calls
 kind_sought (AnswerBy who q packet) = Calls
 kind_sought (AnswerWith who q value) = Calls
 kind_sought (Store write) = Covers
 kind_sought (Loss write) = Covers
+kind_sought (Lost loss) = Own

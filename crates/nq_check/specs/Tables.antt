@@ -2,9 +2,16 @@
 use Rattle.std.specs.Prelude.{◌≡◌, ◌<◌, ◌≤◌, ℕ, List, Some, Bool, true, false, length}
 use Rattle.std.specs.List.{slice_get}
 use Rattle.nq_base.specs.declared.Entry.{Entry}
+use Rattle.nq_check.specs.declared.tables.Leases.{Leases}
 use Rattle.nq_check.specs.declared.tables.Tables.{Tables}
-use Rattle.nq_check.specs.declared.links.Kind.TheVariants.{Calls, Writes, Covers, Cuts}
+use Rattle.nq_check.specs.declared.links.Kind.TheVariants.{Calls, Writes, Covers, Cuts, Own, Grants, Stores}
 use Rattle.nq_check.specs.Links.{IsLinked}
+
+-- the grants, stores and writes of a journal are linked
+pub record AreLeases (whole : List Entry) (leases : Leases) : Type 0 where
+  pub grants : IsLinked Grants whole (length whole) leases.grants.heads.entries leases.grants.earlier.items
+  pub stores : IsLinked Stores whole (length whole) leases.stores.heads.entries leases.stores.earlier.items
+  pub own : IsLinked Own whole (length whole) leases.own.heads.entries leases.own.earlier.items
 
 -- the entries of a journal are linked in each kind
 pub record AreTables (whole : List Entry) (tables : Tables) : Type 0 where
@@ -12,6 +19,7 @@ pub record AreTables (whole : List Entry) (tables : Tables) : Type 0 where
   pub writes : IsLinked Writes whole (length whole) tables.writes.heads.entries tables.writes.earlier.items
   pub covers : IsLinked Covers whole (length whole) tables.covers.heads.entries tables.covers.earlier.items
   pub cuts : IsLinked Cuts whole (length whole) tables.cuts.heads.entries tables.cuts.earlier.items
+  pub leases : AreLeases whole tables.leases
 
 -- no entry from a place on and before another passes a test
 abbrev pub NoneBetween : (test : Entry → Bool) (whole : List Entry) (from to : ℕ) → Type 0

@@ -1,16 +1,14 @@
 //! A fast pass over the entries that account for the delayed writes which they cover.
 
-ghost use Rattle.std.specs.Prelude.{◌≡◌, true, reverse, slice_get, Some, IfOk, IfSome, IsTrue, OnOk};
-ghost use Rattle.nq_check.specs.Covered.{Accounts, IsAnew, IsExtended, IsRaised, is_outside};
+ghost use Rattle.std.specs.Prelude.{◌≡◌, true, reverse, slice_get, Some, IfOk, IfSome, IsTrue, OnOk, ◌-◌};
+ghost use Rattle.nq_check.specs.Covered.{Accounts, IsAnew, IsRaised, is_outside};
 ghost use Rattle.nq_check.specs.Fronts.{KeepsBelow};
-ghost use Rattle.nq_rules.specs.declared.Rule.{Rule};
+ghost use Rattle.nq_check.specs.declared.rules.Rule.{Rule};
 ghost use Rattle.nq_model.specs.JournalTest.{covers, exists};
 
-use crate::behind::below_highest;
 use crate::links::{Heads, Key, head_at, own_key, set_head};
-use crate::marks::{Marks, mark_at, set_mark};
+use crate::rules::entries::covers;
 use nq_base::{Entry, NoMemory, Number, Who};
-use nq_rules::entries::covers;
 use std::alloc::Global;
 use std::collections::HashMap;
 
@@ -51,18 +49,25 @@ pub(crate) fn covers_at(whole: &[Entry], place: usize, entry: &Entry) -> bool
 #[derive(Drop)]
 pub(crate) struct Reach {
     /// The highest number that is covered.
-    highest: Marks,
+    highest: Heads,
     /// How far the lowest is below the highest number that there is.
-    lowest: Marks,
+    lowest: Heads,
+}
+
+/// How far a number is below the highest one.
+fn below_highest(number: Number) -> usize
+    ensures { result ≡ 18446744073709551615 - number }
+{
+    (u64::MAX - number.0) as usize
 }
 
 #[tactic(auto, using(crate::proofs::Once::raised_to, crate::proofs::Once::raised_before))]
 /// Raises the number at a key to another where it is lower.
-fn raise(marks: &mut Marks, at: Key, number: u64) -> Result<(), NoMemory>
+fn raise(marks: &mut Heads, at: Key, number: usize) -> Result<(), NoMemory>
     ensures { OnOk result (IsRaised at number marks.old.entries marks.new.entries) }
 {
-    if mark_at(marks, at) < number {
-        set_mark(marks, at, number)?;
+    if head_at(marks, at) < number {
+        set_head(marks, at, number)?;
     }
     Ok(())
 }
@@ -71,16 +76,8 @@ fn raise(marks: &mut Marks, at: Key, number: u64) -> Result<(), NoMemory>
 fn is_outside(reach: &Reach, at: Key, first: Number, last: Number) -> bool
     ensures { result ≡ is_outside 18446744073709551615 reach.now at first last }
 {
-    mark_at(&reach.highest, at) < first.0 || mark_at(&reach.lowest, at) < below_highest(last.0)
-}
-
-/// Takes in that numbers are covered on a block.
-fn extend(reach: &mut Reach, at: Key, first: Number, last: Number) -> Result<(), NoMemory>
-    ensures { OnOk result (IsExtended 18446744073709551615 at first last reach.old reach.new) }
-{
-    raise(&mut reach.highest, at, last.0)?;
-    raise(&mut reach.lowest, at, below_highest(first.0))?;
-    Ok(())
+    head_at(&reach.highest, at) < first.0 as usize
+        || head_at(&reach.lowest, at) < below_highest(last)
 }
 
 /// Whether numbers are above all that are covered on a block, or below them. Then they are taken in.
@@ -90,7 +87,8 @@ fn covers_anew(reach: &mut Reach, at: Key, first: Number, last: Number) -> Resul
     if !is_outside(reach, at, first, last) {
         return Ok(false);
     }
-    extend(reach, at, first, last)?;
+    raise(&mut reach.highest, at, last.0 as usize)?;
+    raise(&mut reach.lowest, at, below_highest(first))?;
     Ok(true)
 }
 

@@ -2,30 +2,26 @@
 
 ghost use Rattle.std.specs.Prelude.{◌≡◌, ◌+◌, ◌<◌, ◌≤◌, ◌&&◌, nat_eq, nat_le, true, IsTrue, Some, IfOk, IfSome, length, reverse, take};
 ghost use Rattle.std.specs.List.{slice_get};
-ghost use Rattle.nq_rules.specs.Grants.{given};
-ghost use Rattle.nq_check.specs.Leases.{AreLeases, AreLinked, HasEndBetween, IsStorePast};
+ghost use Rattle.nq_check.specs.Grants.{given};
+ghost use Rattle.nq_check.specs.Leases.{AreLinked, HasEndBetween, IsStorePast};
 ghost use Rattle.nq_check.specs.Links.{IsFree, IsLinked};
 ghost use Rattle.nq_check.specs.Losses.{PassBetween, is_ended};
+ghost use Rattle.nq_check.specs.Tables.{AreTables};
 ghost use Rattle.nq_model.specs.CutOff.{last_grant};
 ghost use Rattle.nq_model.specs.CutOffTest.{has_passed, is_store_over};
 ghost use Rattle.nq_model.specs.JournalTest.{each};
 ghost use Rattle.nq_model.specs.Table.{same_who};
 
-use crate::links::{Heads, Key, Kind, Links, file_key, head_at, link, own_key, set_head};
+use crate::links::{Heads, Key, Kind, Links, file_key, head_at, own_key, set_head};
 use crate::rising::rising_front;
-use crate::sought::back_from;
+use crate::rules::excused::{
+    Granted, WRITE_SLACK, grant_by, has_passed, is_grant_over, is_long_wait,
+};
+use crate::sought::{back_from, covers_behind};
+use crate::tables::Tables;
 use nq_base::{Entry, FileId, NoMemory, Ticks, Who};
-use nq_rules::excused::{Granted, WRITE_SLACK, grant_by, has_passed, is_grant_over, is_long_wait};
 use std::alloc::Global;
 use std::collections::HashMap;
-
-/// The links of what tells whether a lease has ended.
-#[derive(Drop)]
-pub(crate) struct Leases {
-    grants: Links,
-    stores: Links,
-    writes: Links,
-}
 
 /// Where leases may have ended. Places are counted from 1.
 #[derive(Drop)]
@@ -49,20 +45,6 @@ struct Lease<'a> {
     place: usize,
 }
 
-/// Links the entries of a journal.
-fn link_leases(alloc: Global, whole: &[Entry]) -> Result<Leases, NoMemory>
-    ensures { IfOk result (AreLeases whole.now) }
-{
-    let grants = link(alloc, Kind::Grants, whole)?;
-    let stores = link(alloc, Kind::Stores, whole)?;
-    let writes = link(alloc, Kind::Own, whole)?;
-    Ok(Leases {
-        grants,
-        stores,
-        writes,
-    })
-}
-
 /// The place of the last entry of a key before a place, as the links from a later place lead to it. Counted from 1.
 fn last_before(
     links: &Links,
@@ -78,21 +60,28 @@ fn last_before(
     ensures low { result ≤ to }
     ensures free { IsFree kind key whole.now result to }
 {
-    let mut at = back_from(links, kind, key, whole, from);
+    let mut at = back_from(links, kind, key, whole, whole.len(), from);
     while at > to {
-        at = back_from(links, kind, key, whole, at - 1);
+        at = back_from(links, kind, key, whole, whole.len(), at - 1);
     }
     at
 }
 
 /// The last grant of a lease before a place, if it is known.
-fn grant_before(leases: &Leases, whole: &[Entry], lease: &Lease, to: usize) -> Option<Granted>
-    requires linked { AreLinked whole.now leases.now lease.now.place }
+fn grant_before(tables: &Tables, whole: &[Entry], lease: &Lease, to: usize) -> Option<Granted>
+    requires linked { AreLinked whole.now tables.now lease.now.place }
     requires upto { to ≤ lease.now.place }
     ensures { IfSome result (λ grant. given (Some grant) ≡ last_grant (reverse (take to whole.now)) lease.now.who.now lease.now.file) }
 {
     let key = file_key(lease.who, lease.file);
-    let at = last_before(&leases.grants, Kind::Grants, key, whole, lease.place, to);
+    let at = last_before(
+        &tables.leases.grants,
+        Kind::Grants,
+        key,
+        whole,
+        lease.place,
+        to,
+    );
     if at == 0 {
         return None;
     }
@@ -110,13 +99,20 @@ fn is_store_past(entry: &Entry, at: Ticks) -> bool
 }
 
 /// Whether write slack has passed since each S of a lease before a place.
-fn are_stores_past(leases: &Leases, whole: &[Entry], lease: &Lease, to: usize, now: Ticks) -> bool
-    requires linked { AreLinked whole.now leases.now lease.now.place }
+fn are_stores_past(tables: &Tables, whole: &[Entry], lease: &Lease, to: usize, now: Ticks) -> bool
+    requires linked { AreLinked whole.now tables.now lease.now.place }
     requires upto { to ≤ lease.now.place }
     ensures { IsTrue result → each (is_store_over lease.now.who.now lease.now.file now) (reverse (take to whole.now)) ≡ true }
 {
     let key = file_key(lease.who, lease.file);
-    let at = last_before(&leases.stores, Kind::Stores, key, whole, lease.place, to);
+    let at = last_before(
+        &tables.leases.stores,
+        Kind::Stores,
+        key,
+        whole,
+        lease.place,
+        to,
+    );
     if at == 0 {
         return true;
     }
@@ -140,13 +136,13 @@ fn is_late(until: Ticks, heard: Ticks, now: Ticks, grant: Option<Granted>) -> bo
 
 /// Whether the lease of an L ended behind a place and before the L, late enough, by the F at a place that is counted from 1.
 fn ends_in_silence(
-    leases: &Leases,
+    tables: &Tables,
     whole: &[Entry],
     lease: &Lease,
     last: usize,
     silent: usize,
 ) -> bool
-    requires linked { AreLinked whole.now leases.now lease.now.place }
+    requires linked { AreLinked whole.now tables.now lease.now.place }
     ensures { IsTrue result → HasEndBetween whole.now last lease.now.place lease.now.who.now lease.now.file }
 {
     if silent <= last {
@@ -167,11 +163,11 @@ fn ends_in_silence(
             if !is_of(lease, who, *file) {
                 return false;
             }
-            let grant = grant_before(leases, whole, lease, end);
+            let grant = grant_before(tables, whole, lease, end);
             if !is_late(*until, *heard, *now, grant) {
                 return false;
             }
-            are_stores_past(leases, whole, lease, end, *now)
+            are_stores_past(tables, whole, lease, end, *now)
         }
         _ => false,
     }
@@ -179,13 +175,13 @@ fn ends_in_silence(
 
 /// Whether it ended so by the last O, late enough since the last X before that.
 fn ends_by_opening(
-    leases: &Leases,
+    tables: &Tables,
     whole: &[Entry],
     lease: &Lease,
     last: usize,
     ends: &Ends,
 ) -> bool
-    requires linked { AreLinked whole.now leases.now lease.now.place }
+    requires linked { AreLinked whole.now tables.now lease.now.place }
     ensures { IsTrue result → HasEndBetween whole.now last lease.now.place lease.now.who.now lease.now.file }
 {
     let opened = ends.opened;
@@ -206,31 +202,32 @@ fn ends_by_opening(
     let booted = &whole[since - 1];
     match &whole[end] {
         Entry::O { boot, now, .. } => {
-            let grant = grant_before(leases, whole, lease, end);
+            let grant = grant_before(tables, whole, lease, end);
             if !is_long_wait(booted, *boot, *now, &grant) {
                 return false;
             }
-            are_stores_past(leases, whole, lease, end, *now)
+            are_stores_past(tables, whole, lease, end, *now)
         }
         _ => false,
     }
 }
 
 /// Whether the lease of an L ended behind a place and before the L.
-fn ends_behind(ends: &Ends, leases: &Leases, whole: &[Entry], lease: &Lease, last: usize) -> bool
-    requires linked { AreLinked whole.now leases.now lease.now.place }
+fn ends_behind(ends: &Ends, tables: &Tables, whole: &[Entry], lease: &Lease, last: usize) -> bool
+    requires linked { AreLinked whole.now tables.now lease.now.place }
     ensures { IsTrue result → HasEndBetween whole.now last lease.now.place lease.now.who.now lease.now.file }
 {
     let silent = head_at(&ends.silent, file_key(lease.who, lease.file));
-    if ends_in_silence(leases, whole, lease, last, silent) {
+    if ends_in_silence(tables, whole, lease, last, silent) {
         return true;
     }
-    ends_by_opening(leases, whole, lease, last, ends)
+    ends_by_opening(tables, whole, lease, last, ends)
 }
 
-/// Whether the entry at a place is no L, or a lease ended before it and behind each write that it covers.
-fn is_ended_at(ends: &Ends, leases: &Leases, whole: &[Entry], place: usize, entry: &Entry) -> bool
-    requires linked { AreLinked whole.now leases.now place }
+/// Whether the entry at a place is no L, or a lease ended before it and behind each write that it covers, and it covers none
+/// behind it.
+fn is_ended_at(ends: &Ends, tables: &Tables, whole: &[Entry], place: usize, entry: &Entry) -> bool
+    requires linked { AreLinked whole.now tables.now place }
     requires there { slice_get whole.now place ≡ Some entry.now }
     ensures { IsTrue result → is_ended whole.now place entry.now ≡ true }
 {
@@ -241,14 +238,24 @@ fn is_ended_at(ends: &Ends, leases: &Leases, whole: &[Entry], place: usize, entr
             block,
             ..
         } => {
+            if covers_behind(&tables.leases.own, whole, place, entry) {
+                return false;
+            }
             let key = own_key(who, *file, *block);
-            let last = back_from(&leases.writes, Kind::Own, key, whole, place);
+            let last = back_from(
+                &tables.leases.own,
+                Kind::Own,
+                key,
+                whole,
+                whole.len(),
+                place,
+            );
             let lease = Lease {
                 who,
                 file: *file,
                 place,
             };
-            ends_behind(ends, leases, whole, &lease, last)
+            ends_behind(ends, tables, whole, &lease, last)
         }
         _ => true,
     }
@@ -271,10 +278,14 @@ fn take_end(ends: &mut Ends, place: usize, entry: &Entry) -> Result<(), NoMemory
 }
 
 /// A place below which a lease ended before each L and behind each write that it covers.
-pub(crate) fn endings_front(alloc: Global, whole: &[Entry]) -> Result<usize, NoMemory>
+pub(crate) fn endings_front(
+    alloc: Global,
+    tables: &Tables,
+    whole: &[Entry],
+) -> Result<usize, NoMemory>
+    requires { AreTables whole.now tables.now }
     ensures { IfOk result (λ front. PassBetween (is_ended whole.now) whole.now 0 front) }
 {
-    let leases = link_leases(alloc, whole)?;
     let rising = rising_front(whole);
     let mut ends = Ends {
         silent: HashMap::new(alloc),
@@ -283,10 +294,7 @@ pub(crate) fn endings_front(alloc: Global, whole: &[Entry]) -> Result<usize, NoM
         booted: 0,
     };
     for (place, entry) in whole.iter().enumerate() {
-        if place >= rising {
-            return Ok(place);
-        }
-        if !is_ended_at(&ends, &leases, whole, place, entry) {
+        if place >= rising || !is_ended_at(&ends, tables, whole, place, entry) {
             return Ok(place);
         }
         take_end(&mut ends, place, entry)?;

@@ -1,54 +1,46 @@
-//! Where to look first for what became of a delayed write: what is kept here is a hint, and whoever takes it looks at the
+//! Where to look first for what became of a delayed write: what is kept here of places is a hint, and whoever takes it looks at the
 //! entry.
 
-ghost use Rattle.std.specs.Prelude.{◌≡◌, ◌<◌, length};
-ghost use Rattle.nq_check.specs.Tables.{AreTables};
+ghost use Rattle.std.specs.Prelude.{IfOk};
+ghost use Rattle.nq_check.specs.Fronts.{KeepsBelow};
+ghost use Rattle.nq_check.specs.declared.rules.Rule.{Rule};
 
-use crate::covering::{covers_at, number_key};
-use crate::links::{Heads, Key, file_key, head_at, own_key, set_head};
-use crate::reports::reports_of;
-use crate::sought::call_along;
+use crate::covering::{accounted_front, covers_at, number_key, places_of_writes};
+use crate::links::{Heads, head_at};
+use crate::rules::entries::covers;
 use crate::tables::Tables;
-use nq_base::{Entry, NoMemory, Number, Said};
-use nq_rules::entries::covers;
+use nq_base::{Entry, NoMemory, Number};
 use std::alloc::Global;
-use std::collections::HashMap;
 
-/// For each delayed write the place of an S or L that covers it, and for each L the place of an A that names it. Elsewhere
-/// there is a place that no entry has.
-pub(crate) type Fates = Vec<usize>;
+/// What became of delayed writes.
+#[derive(Drop)]
+pub(crate) struct Fates {
+    /// For each delayed write the place of an S or L that covers it. Elsewhere there is a place that no entry has.
+    covered: Vec<usize>,
+    /// For each loss the place of an A that names it, counted from 1.
+    pub(crate) named: Heads,
+    /// How far the entries account for what they cover.
+    pub(crate) accounted: usize,
+}
 
 /// The place that stands for none.
 const NOWHERE: usize = usize::MAX;
 
-/// What one look over a journal keeps.
-#[derive(Drop)]
-struct Search {
-    fates: Fates,
-    /// For each write the one before it of its incarnation on its block, and for each L the one before it on its file.
-    /// Both are places counted from 1.
-    earlier: Vec<usize>,
-    /// The last write of each incarnation on a block.
-    writes: Heads,
-    /// The last L of each incarnation on a file.
-    losses: Heads,
+/// The place that is kept at another.
+fn place_in(places: &Vec<usize>, at: usize) -> usize {
+    places.get(at).copied().unwrap_or(NOWHERE)
+}
+
+/// Keeps the fate of a write.
+fn set_fate(covered: &mut Vec<usize>, at: usize, fate: usize) {
+    if at < covered.len() {
+        covered[at] = fate;
+    }
 }
 
 /// The fate that is kept for an entry.
 pub(crate) fn fate_at(fates: &Fates, place: usize) -> usize {
-    fates.get(place).copied().unwrap_or(NOWHERE)
-}
-
-/// Keeps the fate of an entry.
-fn set_fate(fates: &mut Fates, place: usize, fate: usize) {
-    if place < fates.len() {
-        fates[place] = fate;
-    }
-}
-
-/// Whether an entry settles another: it covers that write, or names that L.
-fn settles(entry: &Entry, other: &Entry) -> bool {
-    matches!(other, Entry::L { .. }) || covers(entry, other)
+    place_in(&fates.covered, place)
 }
 
 /// Whether an entry is a write whose number is below another.
@@ -59,27 +51,32 @@ fn is_before(entry: &Entry, first: Number) -> bool {
     }
 }
 
-/// The place, counted from 1, of the last write that an S or L covers, whose number is told; of the block's last write where
-/// that is not known.
+/// The place, counted from 1, of the last write that an S or L covers, whose number is told; of the last write of its block before
+/// it where that is not known.
 fn last_covered(
-    search: &Search,
+    tables: &Tables,
     places: &Heads,
     whole: &[Entry],
+    place: usize,
     entry: &Entry,
-    numbered: Key,
-    key: Key,
 ) -> usize {
-    let place = head_at(places, numbered);
-    if place < whole.len() && covers_at(whole, place, entry) {
-        return place + 1;
+    match entry {
+        Entry::S { who, last, .. } | Entry::L { who, last, .. } => {
+            let numbered = head_at(places, number_key(who, *last));
+            if numbered < whole.len() && covers_at(whole, numbered, entry) {
+                return numbered + 1;
+            }
+            place_in(&tables.leases.own.earlier, place)
+        }
+        _ => 0,
     }
-    head_at(&search.writes, key)
 }
 
-/// Sets the fate of what an entry settles, back from a place, counted from 1, to one that has a fate or to a write with a
-/// number below the first that is settled.
+/// Sets the fate of the writes that an S or L covers, back from a place, counted from 1, to one that has a fate or to a write with
+/// a number below the first that is covered.
 fn settle(
-    search: &mut Search,
+    covered: &mut Vec<usize>,
+    tables: &Tables,
     whole: &[Entry],
     from: usize,
     first: Number,
@@ -91,13 +88,13 @@ fn settle(
         let Some(other) = whole.get(at - 1) else {
             return;
         };
-        if is_before(other, first) || fate_at(&search.fates, at - 1) != NOWHERE {
+        if is_before(other, first) || place_in(covered, at - 1) != NOWHERE {
             return;
         }
-        if settles(entry, other) {
-            set_fate(&mut search.fates, at - 1, place);
+        if covers(entry, other) {
+            set_fate(covered, at - 1, place);
         }
-        let earlier = search.earlier.get(at - 1).copied().unwrap_or(0);
+        let earlier = place_in(&tables.leases.own.earlier, at - 1);
         if earlier >= at {
             return;
         }
@@ -105,123 +102,37 @@ fn settle(
     }
 }
 
-/// Sets the fates of the delayed writes that an S or L covers.
-fn settle_covered(
-    search: &mut Search,
-    places: &Heads,
-    whole: &[Entry],
-    place: usize,
-    entry: &Entry,
-) {
-    match entry {
-        Entry::S {
-            who,
-            file,
-            block,
-            first,
-            last,
-            ..
-        }
-        | Entry::L {
-            who,
-            file,
-            block,
-            first,
-            last,
-        } => {
-            let key = own_key(who, *file, *block);
-            let from = last_covered(search, places, whole, entry, number_key(who, *last), key);
-            settle(search, whole, from, *first, place, entry);
-        }
-        _ => {}
-    }
-}
-
-/// Sets the fates of the losses that an A names.
-fn settle_named(search: &mut Search, tables: &Tables, whole: &[Entry], place: usize, entry: &Entry)
-    requires tables { AreTables whole.now tables.now }
-{
-    match entry {
-        Entry::A {
-            who,
-            q,
-            said: Said::Lost(_),
-        } => {
-            let Some(told) = call_along(&tables.calls, whole, who, *q) else {
-                return;
-            };
-            if let Some(key) = reports_of(who, &told) {
-                let from = head_at(&search.losses, key);
-                settle(search, whole, from, Number(0), place, entry);
-            }
-        }
-        _ => {}
-    }
-}
-
-/// The last entry of a key, counted from 1; then the one at a place is the last.
-fn follow(heads: &mut Heads, key: Key, place: usize) -> Result<usize, NoMemory>
-    requires { place < 18446744073709551615 }
-{
-    let earlier = head_at(heads, key);
-    set_head(heads, key, place + 1)?;
-    Ok(earlier)
-}
-
-/// The delayed write before a delayed write, or the L before an L, where those after it look.
-fn link_back(search: &mut Search, place: usize, entry: &Entry) -> Result<usize, NoMemory>
-    requires { place < 18446744073709551615 }
-{
-    match entry {
-        Entry::W {
-            who,
-            file,
-            block,
-            through,
-            ..
-        } if !*through => { follow(&mut search.writes, own_key(who, *file, *block), place) }
-        Entry::L { who, file, .. } => follow(&mut search.losses, file_key(who, *file), place),
-        _ => Ok(0),
-    }
-}
-
-/// Takes in the entry at a place.
-fn take_in(
-    search: &mut Search,
-    tables: &Tables,
-    places: &Heads,
-    whole: &[Entry],
-    place: usize,
-    entry: &Entry,
-) -> Result<(), NoMemory>
-    requires tables { AreTables whole.now tables.now }
-    requires within { place < length whole.now }
-{
-    settle_covered(search, places, whole, place, entry);
-    settle_named(search, tables, whole, place, entry);
-    let earlier = link_back(search, place, entry)?;
-    search.fates.push(NOWHERE)?;
-    search.earlier.push(earlier)?;
-    Ok(())
-}
-
-/// The fates of the delayed writes of a journal, and of its losses.
+/// What became of the delayed writes of a journal, whose losses are named at these places.
 pub(crate) fn find_fates(
     alloc: Global,
     tables: &Tables,
-    places: &Heads,
+    named: Heads,
     whole: &[Entry],
 ) -> Result<Fates, NoMemory>
-    requires tables { AreTables whole.now tables.now }
+    ensures { IfOk result (λ fates. KeepsBelow Rule.Accounted whole.now fates.accounted) }
 {
-    let mut search = Search {
-        fates: Vec::new(alloc),
-        earlier: Vec::new(alloc),
-        writes: HashMap::new(alloc),
-        losses: HashMap::new(alloc),
-    };
+    let places = places_of_writes(alloc, whole)?;
+    let accounted = accounted_front(alloc, &places, whole)?;
+    let mut covered = Vec::new(alloc);
     for (place, entry) in whole.iter().enumerate() {
-        take_in(&mut search, tables, places, whole, place, entry)?;
+        let from = last_covered(tables, &places, whole, place, entry);
+        match entry {
+            Entry::S { first, .. } | Entry::L { first, .. } => settle(
+                &mut covered,
+                tables,
+                whole,
+                from,
+                *first,
+                place,
+                entry,
+            ),
+            _ => {}
+        }
+        covered.push(NOWHERE)?;
     }
-    Ok(search.fates)
+    Ok(Fates {
+        covered,
+        named,
+        accounted,
+    })
 }

@@ -2,43 +2,44 @@
 
 ghost use Rattle.std.specs.Prelude.{IfOk};
 ghost use Rattle.nq_check.specs.Fronts.{AreFronts};
+ghost use Rattle.nq_check.specs.Tables.{AreTables};
 
-use crate::covering::{accounted_front, places_of_writes};
 use crate::fates::{Fates, find_fates};
 use crate::kept_front::kept_front;
+use crate::namings::find_names;
 use crate::ordering::ordered_front;
 use crate::reported_front::reported_front;
-use crate::tables::{Tables, make_tables};
+use crate::tables::Tables;
 use nq_base::{Entry, NoMemory};
 use std::alloc::Global;
 
-/// What tells which entries are legal, and a place for each other rule: the entries before it keep that rule.
+/// What became of delayed writes, and a place for each rule but the first: the entries before it keep that rule. That of the third rule
+/// stands beside what became of writes.
 #[derive(Drop)]
 pub(crate) struct Fronts {
-    pub(crate) tables: Tables,
     pub(crate) fates: Fates,
     pub(crate) ordered: usize,
-    pub(crate) accounted: usize,
     pub(crate) reported: usize,
     pub(crate) synchronized: usize,
 }
 
 /// The fronts of a journal.
-pub(crate) fn find_fronts(alloc: Global, whole: &[Entry]) -> Result<Fronts, NoMemory>
+pub(crate) fn find_fronts(
+    alloc: Global,
+    tables: &Tables,
+    whole: &[Entry],
+) -> Result<Fronts, NoMemory>
+    requires { AreTables whole.now tables.now }
     ensures { IfOk result (AreFronts whole.now) }
 {
-    let tables = make_tables(alloc, whole)?;
-    let ordered = ordered_front(alloc, whole)?;
-    let places = places_of_writes(alloc, whole)?;
-    let accounted = accounted_front(alloc, &places, whole)?;
-    let fates = find_fates(alloc, &tables, &places, whole)?;
-    let reported = reported_front(alloc, &tables, whole, ordered)?;
-    let synchronized = kept_front(alloc, &tables, &fates, whole, ordered)?;
+    let ordered = ordered_front(alloc, tables, whole)?;
+    let names = find_names(alloc, tables, whole)?;
+    let reported = reported_front(alloc, tables, &names, whole, ordered)?;
+    let fates = find_fates(alloc, tables, names.named, whole)?;
+    let synchronized = kept_front(alloc, tables, &fates, whole, ordered)?;
     Ok(Fronts {
-        tables,
         fates,
         ordered,
-        accounted,
         reported,
         synchronized,
     })

@@ -3,30 +3,34 @@
 ghost use Rattle.std.specs.Prelude.{◌≡◌, ◌+◌, ◌<◌, Some, length, reverse, take, drop};
 ghost use Rattle.std.specs.List.{slice_get};
 ghost use Rattle.nq_check.specs.Fronts.{AreFronts, KeepsBelow, keeps_at};
-ghost use Rattle.nq_rules.specs.Rules.{first_rule};
-ghost use Rattle.nq_rules.specs.Verdict.{IsVerdict, verdict};
+ghost use Rattle.nq_check.specs.Rules.{first_rule};
+ghost use Rattle.nq_check.specs.Tables.{AreTables};
+ghost use Rattle.nq_check.specs.Verdict.{IsVerdict, verdict};
 
 use crate::fronts::{Fronts, find_fronts};
-use crate::legal::{Hints, is_legal};
+use crate::legal::is_legal;
+use crate::rules::accounted::is_accounted_at;
+use crate::rules::excused::is_cut_off;
+use crate::rules::named::is_reported_at;
+use crate::rules::ordered::is_in_order;
+use crate::rules::synchronized::is_kept_at;
+use crate::rules::{Judged, Rule};
+use crate::tables::{Tables, make_tables};
 use nq_base::{Entry, Journal, NoMemory};
-use nq_rules::accounted::is_accounted_at;
-use nq_rules::excused::is_cut_off;
-use nq_rules::named::is_reported_at;
-use nq_rules::ordered::is_in_order;
-use nq_rules::synchronized::is_kept_at;
-use nq_rules::{Judged, Rule};
 use std::alloc::Global;
 
 /// Whether the entry at a place keeps a rule, which the entries before the front are known to keep.
 fn keeps(
-    whole: &[Entry],
+    tables: &Tables,
     fronts: &Fronts,
+    whole: &[Entry],
     place: usize,
     entry: &Entry,
     rule: Rule,
     front: usize,
 ) -> bool
     requires there { (place < length whole.now) × (slice_get whole.now place ≡ Some entry.now) }
+    requires tables { AreTables whole.now tables.now }
     requires fronts { AreFronts whole.now fronts.now }
     requires front { KeepsBelow rule whole.now front }
     ensures { result ≡ keeps_at rule whole.now place entry.now }
@@ -37,51 +41,70 @@ fn keeps(
     let before = &whole[..place];
     let after = &whole[place + 1..];
     match rule {
-        Rule::Legal => {
-            let hints = Hints {
-                fates: &fronts.fates,
-                accounted: fronts.accounted,
-            };
-            is_legal(&fronts.tables, &hints, whole, place, entry)
-        }
+        Rule::Legal => is_legal(tables, &fronts.fates, whole, place, entry),
         Rule::Ordered => is_in_order(whole, before, entry, after),
         Rule::Accounted => is_accounted_at(whole, before, entry),
         Rule::Reported => {
-            is_cut_off(before, entry, after) && is_reported_at(whole, place, entry)
+            is_cut_off(tables, whole, place, entry) && is_reported_at(whole, place, entry)
         }
         Rule::Synchronized => is_kept_at(whole, before, entry),
     }
 }
 
-#[tactic(auto, unfolding(nq_rules::specs::Rules::first_rule))]
+#[tactic(auto, unfolding(crate::specs::Rules::first_rule))]
 /// The first rule under which the entry at a place is at fault.
-fn first_rule(whole: &[Entry], place: usize, entry: &Entry, fronts: &Fronts) -> Option<Rule>
+fn first_rule(
+    tables: &Tables,
+    fronts: &Fronts,
+    whole: &[Entry],
+    place: usize,
+    entry: &Entry,
+) -> Option<Rule>
     requires there { (place < length whole.now) × (slice_get whole.now place ≡ Some entry.now) }
+    requires tables { AreTables whole.now tables.now }
     requires fronts { AreFronts whole.now fronts.now }
     ensures { result ≡ first_rule (reverse whole.now) (drop (place + 1) whole.now) entry.now (reverse (take place whole.now)) }
 {
-    if !keeps(whole, fronts, place, entry, Rule::Legal, 0) {
+    if !keeps(tables, fronts, whole, place, entry, Rule::Legal, 0) {
         return Some(Rule::Legal);
     }
-    if !keeps(whole, fronts, place, entry, Rule::Ordered, fronts.ordered) {
+    if !keeps(
+        tables,
+        fronts,
+        whole,
+        place,
+        entry,
+        Rule::Ordered,
+        fronts.ordered,
+    ) {
         return Some(Rule::Ordered);
     }
     if !keeps(
-        whole,
+        tables,
         fronts,
+        whole,
         place,
         entry,
         Rule::Accounted,
-        fronts.accounted,
+        fronts.fates.accounted,
     ) {
         return Some(Rule::Accounted);
     }
-    if !keeps(whole, fronts, place, entry, Rule::Reported, fronts.reported) {
+    if !keeps(
+        tables,
+        fronts,
+        whole,
+        place,
+        entry,
+        Rule::Reported,
+        fronts.reported,
+    ) {
         return Some(Rule::Reported);
     }
     if !keeps(
-        whole,
+        tables,
         fronts,
+        whole,
         place,
         entry,
         Rule::Synchronized,
@@ -98,19 +121,23 @@ pub fn check(alloc: Global, journal: &Journal) -> Judged
     ensures { IsVerdict result (verdict (reverse journal.now.entries)) }
 {
     let whole = journal.entries();
-    match find_fronts(alloc, whole) {
-        Ok(fronts) => judge(whole, &fronts),
+    let Ok(tables) = make_tables(alloc, whole) else {
+        return Judged::Memory;
+    };
+    match find_fronts(alloc, &tables, whole) {
+        Ok(fronts) => judge(&tables, &fronts, whole),
         Err(NoMemory) => Judged::Memory,
     }
 }
 
 /// Judges entries, the oldest first.
-fn judge(whole: &[Entry], fronts: &Fronts) -> Judged
-    requires { AreFronts whole.now fronts.now }
+fn judge(tables: &Tables, fronts: &Fronts, whole: &[Entry]) -> Judged
+    requires tables { AreTables whole.now tables.now }
+    requires fronts { AreFronts whole.now fronts.now }
     ensures { IsVerdict result (verdict (reverse whole.now)) }
 {
     for (place, entry) in whole.iter().enumerate() {
-        if let Some(rule) = first_rule(whole, place, entry, fronts) {
+        if let Some(rule) = first_rule(tables, fronts, whole, place, entry) {
             return Judged::No { place, rule };
         }
     }

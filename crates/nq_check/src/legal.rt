@@ -4,8 +4,8 @@ ghost use Rattle.std.specs.Prelude.{◌≡◌, ◌+◌, ◌-◌, ◌<◌, ◌≤
 ghost use Rattle.std.specs.List.{slice_get};
 ghost use Rattle.nq_check.specs.Fronts.{KeepsBelow};
 ghost use Rattle.nq_check.specs.Tables.{AreTables, HasBetween, NoneBetween};
-ghost use Rattle.nq_rules.specs.Legal.{is_legal_answer, is_legal_at};
-ghost use Rattle.nq_rules.specs.declared.Rule.{Rule};
+ghost use Rattle.nq_check.specs.Legal.{is_legal_answer, is_legal_at};
+ghost use Rattle.nq_check.specs.declared.rules.Rule.{Rule};
 ghost use Rattle.nq_model.specs.Journal.{call_of, cuts};
 ghost use Rattle.nq_model.specs.JournalTest.{is_counted, is_lost, is_stored};
 ghost use Rattle.nq_model.specs.LegalTest.{is_counted_by, is_counted_with, is_legal_read, is_reading};
@@ -13,19 +13,14 @@ ghost use Rattle.nq_model.specs.StandsTest.{standing_value, stands};
 
 use crate::fates::{Fates, fate_at};
 use crate::links::{Kind, block_key, call_key};
+use crate::rules::calls::is_reading;
+use crate::rules::entries::{
+    cuts, is_read_by, is_through, is_write_by, is_write_on, value_written,
+};
 use crate::settled::{is_lost_at, is_stored_at};
-use crate::sought::{Sought, back_from, call_along, is_before, is_somewhere, last_of};
+use crate::sought::{Sought, back_from, call_along, is_before, is_somewhere};
 use crate::tables::Tables;
 use nq_base::{BlockNo, Entry, FileId, Said, Who};
-use nq_rules::calls::is_reading;
-use nq_rules::entries::{cuts, is_read_by, is_through, is_write_by, is_write_on, value_written};
-
-/// Where to look first for what became of a delayed write, and how far the entries account for what they cover.
-#[derive(Drop)]
-pub(crate) struct Hints<'a> {
-    pub(crate) fates: &'a Fates,
-    pub(crate) accounted: usize,
-}
 
 /// A read, as its R tells it.
 #[derive(Drop)]
@@ -38,7 +33,7 @@ struct Reading<'a> {
 }
 
 /// Whether an entry is a counted read.
-fn is_counted(tables: &Tables, whole: &[Entry], entry: &Entry) -> bool
+pub(crate) fn is_counted(tables: &Tables, whole: &[Entry], entry: &Entry) -> bool
     requires tables { AreTables whole.now tables.now }
     ensures { result ≡ is_counted (reverse whole.now) entry.now }
 {
@@ -61,17 +56,17 @@ fn is_counted(tables: &Tables, whole: &[Entry], entry: &Entry) -> bool
 
 /// Whether an S covers the write at a place. The entry that is its fate is looked at first: where all entries are known to
 /// account for what they cover, no S covers a write that was lost.
-fn is_stored(tables: &Tables, hints: &Hints, whole: &[Entry], at: usize, write: &Entry) -> bool
+fn is_stored(tables: &Tables, fates: &Fates, whole: &[Entry], at: usize, write: &Entry) -> bool
     requires tables { AreTables whole.now tables.now }
-    requires accounted { KeepsBelow Rule.Accounted whole.now hints.now.accounted }
+    requires accounted { KeepsBelow Rule.Accounted whole.now fates.now.accounted }
     requires there { slice_get whole.now at ≡ Some write.now }
     ensures { result ≡ is_stored (reverse whole.now) write.now }
 {
-    let fate = fate_at(hints.fates, at);
+    let fate = fate_at(fates, at);
     if is_stored_at(whole, fate, write) {
         return true;
     }
-    if hints.accounted >= whole.len() && is_lost_at(whole, fate, write) {
+    if fates.accounted >= whole.len() && is_lost_at(whole, fate, write) {
         return false;
     }
     is_somewhere(&tables.covers, whole, Sought::Store(write))
@@ -99,7 +94,7 @@ fn is_lost(
 /// Whether the write at a place stands for the read at another.
 fn stands(
     tables: &Tables,
-    hints: &Hints,
+    fates: &Fates,
     whole: &[Entry],
     place: usize,
     read: &Reading,
@@ -107,28 +102,28 @@ fn stands(
     write: &Entry,
 ) -> bool
     requires tables { AreTables whole.now tables.now }
-    requires accounted { KeepsBelow Rule.Accounted whole.now hints.now.accounted }
+    requires accounted { KeepsBelow Rule.Accounted whole.now fates.now.accounted }
     requires there { slice_get whole.now at ≡ Some write.now }
     requires within { place < length whole.now }
     ensures { result ≡ stands (reverse whole.now) (reverse (take place whole.now)) read.now.who.now read.now.file read.now.block write.now }
 {
     is_write_on(write, read.file, read.block)
         && (is_through(write)
-            || (is_stored(tables, hints, whole, at, write)
+            || (is_stored(tables, fates, whole, at, write)
                 || is_write_by(write, read.who)
-                    && !is_lost(tables, hints.fates, whole, place, at, write)))
+                    && !is_lost(tables, fates, whole, place, at, write)))
 }
 
 /// The place of the last write before a read that stands for it, counted from 1, or 0 where there is none.
 fn last_standing(
     tables: &Tables,
-    hints: &Hints,
+    fates: &Fates,
     whole: &[Entry],
     place: usize,
     read: &Reading,
 ) -> usize
     requires tables { AreTables whole.now tables.now }
-    requires accounted { KeepsBelow Rule.Accounted whole.now hints.now.accounted }
+    requires accounted { KeepsBelow Rule.Accounted whole.now fates.now.accounted }
     requires within { place < length whole.now }
     ensures low { result ≤ place }
     ensures none { NoneBetween (stands (reverse whole.now) (reverse (take place whole.now)) read.now.who.now read.now.file read.now.block) whole.now
@@ -137,12 +132,19 @@ fn last_standing(
         → stands (reverse whole.now) (reverse (take place whole.now)) read.now.who.now read.now.file read.now.block write ≡ true }
 {
     let key = block_key(read.file, read.block);
-    let mut at = back_from(&tables.writes, Kind::Writes, key, whole, place);
+    let mut at = back_from(&tables.writes, Kind::Writes, key, whole, whole.len(), place);
     while at > 0 {
-        if stands(tables, hints, whole, place, read, at - 1, &whole[at - 1]) {
+        if stands(tables, fates, whole, place, read, at - 1, &whole[at - 1]) {
             return at;
         }
-        at = back_from(&tables.writes, Kind::Writes, key, whole, at - 1);
+        at = back_from(
+            &tables.writes,
+            Kind::Writes,
+            key,
+            whole,
+            whole.len(),
+            at - 1,
+        );
     }
     0
 }
@@ -155,12 +157,12 @@ fn is_cut_since(tables: &Tables, whole: &[Entry], from: usize, place: usize, rea
     ensures no { result ≡ false → NoneBetween (λ entry. cuts entry read.now.file read.now.block) whole.now from place }
 {
     let key = block_key(read.file, BlockNo(0));
-    let mut at = back_from(&tables.cuts, Kind::Cuts, key, whole, place);
+    let mut at = back_from(&tables.cuts, Kind::Cuts, key, whole, whole.len(), place);
     while at > from {
         if cuts(&whole[at - 1], read.file, read.block) {
             return true;
         }
-        at = back_from(&tables.cuts, Kind::Cuts, key, whole, at - 1);
+        at = back_from(&tables.cuts, Kind::Cuts, key, whole, whole.len(), at - 1);
     }
     false
 }
@@ -168,17 +170,17 @@ fn is_cut_since(tables: &Tables, whole: &[Entry], from: usize, place: usize, rea
 /// The value of the last write before a read that stands for it, or 0 where there is none.
 fn standing_value(
     tables: &Tables,
-    hints: &Hints,
+    fates: &Fates,
     whole: &[Entry],
     place: usize,
     read: &Reading,
 ) -> u32
     requires tables { AreTables whole.now tables.now }
-    requires accounted { KeepsBelow Rule.Accounted whole.now hints.now.accounted }
+    requires accounted { KeepsBelow Rule.Accounted whole.now fates.now.accounted }
     requires within { place < length whole.now }
     ensures { result ≡ standing_value (reverse whole.now) (reverse (take place whole.now)) read.now.who.now read.now.file read.now.block }
 {
-    let at = last_standing(tables, hints, whole, place, read);
+    let at = last_standing(tables, fates, whole, place, read);
     if is_cut_since(tables, whole, at, place, read) {
         return 0;
     }
@@ -191,18 +193,18 @@ fn standing_value(
 /// Whether a counted read is legal.
 fn is_legal_read(
     tables: &Tables,
-    hints: &Hints,
+    fates: &Fates,
     whole: &[Entry],
     place: usize,
     read: &Reading,
 ) -> bool
     requires tables { AreTables whole.now tables.now }
-    requires accounted { KeepsBelow Rule.Accounted whole.now hints.now.accounted }
+    requires accounted { KeepsBelow Rule.Accounted whole.now fates.now.accounted }
     requires within { place < length whole.now }
     ensures { result ≡ is_legal_read (reverse whole.now) (reverse (take place whole.now)) read.now.who.now read.now.q read.now.file read.now.block
         read.now.value }
 {
-    read.value == standing_value(tables, hints, whole, place, read)
+    read.value == standing_value(tables, fates, whole, place, read)
         && is_reading(call_along(&tables.calls, whole, read.who, read.q))
         && is_somewhere(
             &tables.calls,
@@ -249,7 +251,7 @@ fn counted(number: usize, here: bool) -> usize
     if here { number + 1 } else { number }
 }
 
-#[tactic(auto, unfolding(nq_rules::specs::Legal::is_legal_answer))]
+#[tactic(auto, unfolding(crate::specs::Legal::is_legal_answer))]
 /// Whether exactly one counted read is of a call and a value.
 fn is_legal_answer(tables: &Tables, whole: &[Entry], by: &Who, n: u64, v: u32) -> bool
     requires tables { AreTables whole.now tables.now }
@@ -257,11 +259,18 @@ fn is_legal_answer(tables: &Tables, whole: &[Entry], by: &Who, n: u64, v: u32) -
 {
     let key = call_key(by, n);
     let mut number: usize = 0;
-    let mut at = last_of(&tables.calls, Kind::Calls, key, whole);
+    let mut at = back_from(
+        &tables.calls,
+        Kind::Calls,
+        key,
+        whole,
+        whole.len(),
+        whole.len(),
+    );
     while at > 0 {
         let counts = is_counted_with(tables, whole, by, n, v, &whole[at - 1]);
         number = counted(number, counts);
-        at = back_from(&tables.calls, Kind::Calls, key, whole, at - 1);
+        at = back_from(&tables.calls, Kind::Calls, key, whole, whole.len(), at - 1);
     }
     number == 1
 }
@@ -277,13 +286,13 @@ fn answers_legally(tables: &Tables, whole: &[Entry], by: &Who, n: u64, v: u32) -
 /// Whether the entry at a place is legal, as the links show.
 pub(crate) fn is_legal(
     tables: &Tables,
-    hints: &Hints,
+    fates: &Fates,
     whole: &[Entry],
     place: usize,
     entry: &Entry,
 ) -> bool
     requires tables { AreTables whole.now tables.now }
-    requires accounted { KeepsBelow Rule.Accounted whole.now hints.now.accounted }
+    requires accounted { KeepsBelow Rule.Accounted whole.now fates.now.accounted }
     requires within { place < length whole.now }
     ensures { result ≡ is_legal_at (reverse whole.now) entry.now (reverse (take place whole.now)) }
 {
@@ -299,7 +308,7 @@ pub(crate) fn is_legal(
             !is_counted(tables, whole, entry)
                 || is_legal_read(
                     tables,
-                    hints,
+                    fates,
                     whole,
                     place,
                     &Reading {

@@ -1,25 +1,23 @@
 //! A judge of anybody's journal: whether it is sound, and which of its entries is the first at fault.
 #![tactic(auto)]
 
-mod behind;
 mod covering;
 mod endings;
 mod fates;
 mod fronts;
 mod judge;
 mod kept_front;
-mod latest;
+pub mod laws;
 mod legal;
 mod lines;
 mod links;
-mod marks;
 mod namings;
 mod ordering;
 mod puts;
-mod replies;
 mod reported_front;
 mod reports;
 mod rising;
+mod rules;
 mod settled;
 mod sought;
 mod syncs;
@@ -27,4 +25,4 @@ mod tables;
 mod trail;
 
 pub use judge::check;
-pub use nq_rules::{Judged, Rule};
+pub use rules::{Judged, Rule};

@@ -134,9 +134,10 @@ fn call_key_of(entry: &Entry) -> Key
     ensures { result ≡ spot_of Calls entry.now }
 {
     match entry {
-        Entry::C { who, q, .. } | Entry::R { who, q, .. } | Entry::A { who, q, .. } => call_key(
-            who, *q,
-        ),
+        Entry::C { who, q, .. }
+        | Entry::R { who, q, .. }
+        | Entry::Z { who, q, .. }
+        | Entry::A { who, q, .. } => call_key(who, *q),
         _ => ((0, 0), (0, 0)),
     }
 }
@@ -182,7 +183,10 @@ pub(crate) fn is_member(kind: Kind, entry: &Entry) -> bool
         Kind::Grants => matches!(entry, Entry::G { .. }),
         Kind::Stores => matches!(entry, Entry::S { .. }),
         Kind::Own => matches!(entry, Entry::W { .. }),
-        Kind::Calls => matches!(entry, Entry::C { .. } | Entry::R { .. } | Entry::A { .. }),
+        Kind::Calls => matches!(
+            entry,
+            Entry::C { .. } | Entry::R { .. } | Entry::Z { .. } | Entry::A { .. }
+        ),
         Kind::Writes => matches!(entry, Entry::W { .. }),
         Kind::Covers => matches!(entry, Entry::S { .. } | Entry::L { .. }),
         Kind::Cuts => matches!(entry, Entry::Z { .. }),

@@ -4,16 +4,17 @@ ghost use Rattle.std.specs.Prelude.{◌≡◌, ◌+◌, ◌<◌, Some, IfOk, IsT
 ghost use Rattle.std.specs.List.{slice_get};
 ghost use Rattle.nq_check.specs.Fronts.{KeepsBelow};
 ghost use Rattle.nq_check.specs.InOrder.{IsNext, StandsInOrder, is_else};
-ghost use Rattle.nq_check.specs.Replies.{AreTold};
+ghost use Rattle.nq_check.specs.Tables.{AreTables};
 ghost use Rattle.nq_model.specs.OrderedTest.{is_busy_next};
-ghost use Rattle.nq_rules.specs.declared.Rule.TheVariants.{Ordered};
+ghost use Rattle.nq_check.specs.declared.rules.Rule.TheVariants.{Ordered};
 
+use crate::legal::is_counted;
 use crate::lines::{
     Line, Lines, after_answer, after_call, after_read, after_resize, after_write, line_at, set_line,
 };
-use crate::replies::{Replies, may_count, replies_of};
+use crate::rules::ordered::is_busy_next;
+use crate::tables::Tables;
 use nq_base::{Entry, NoMemory, Who};
-use nq_rules::ordered::is_busy_next;
 use std::alloc::Global;
 use std::collections::HashMap;
 
@@ -48,14 +49,14 @@ fn is_busy_behind(whole: &[Entry], place: usize, by: &Who, n: u64) -> bool
 
 /// Whether the entry at a place has a next line where it needs one. Then that line is set.
 fn stands(
+    tables: &Tables,
     whole: &[Entry],
-    replies: &Replies,
     lines: &mut Lines,
     place: usize,
     entry: &Entry,
 ) -> Result<bool, NoMemory>
     requires there { (place < length whole.now) × (slice_get whole.now place ≡ Some entry.now) }
-    requires told { AreTold (reverse whole.now) replies.now.entries }
+    requires tables { AreTables whole.now tables.now }
     ensures { IfOk result (λ yes. IsTrue yes → StandsInOrder (reverse whole.now) (drop (place + 1) whole.now) entry.now lines.old.entries lines.new.entries) }
 {
     match entry {
@@ -85,8 +86,8 @@ fn stands(
             let next = after_resize(&line_at(lines, who), *q, *file, *to);
             set_next(lines, who, next)
         }
-        Entry::R { who, q, served, .. } => {
-            if !may_count(replies, who, *q, served) {
+        Entry::R { who, q, .. } => {
+            if !is_counted(tables, whole, entry) {
                 return Ok(true);
             }
             let next = after_read(&line_at(lines, who), *q);
@@ -101,13 +102,17 @@ fn stands(
 }
 
 /// A place below which each entry stands in order.
-pub(crate) fn ordered_front(alloc: Global, whole: &[Entry]) -> Result<usize, NoMemory>
+pub(crate) fn ordered_front(
+    alloc: Global,
+    tables: &Tables,
+    whole: &[Entry],
+) -> Result<usize, NoMemory>
+    requires { AreTables whole.now tables.now }
     ensures { IfOk result (λ front. KeepsBelow Ordered whole.now front) }
 {
-    let replies = replies_of(alloc, whole)?;
     let mut lines = HashMap::new(alloc);
     for (place, entry) in whole.iter().enumerate() {
-        if !stands(whole, &replies, &mut lines, place, entry)? {
+        if !stands(tables, whole, &mut lines, place, entry)? {
             return Ok(place);
         }
     }

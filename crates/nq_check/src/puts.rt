@@ -3,16 +3,17 @@
 ghost use Rattle.std.specs.Prelude.{◌≡◌, ◌||◌, ◌+◌, ◌<◌, IsTrue, Some, length, reverse, take, true};
 ghost use Rattle.std.specs.List.{slice_get};
 ghost use Rattle.nq_check.specs.Fronts.{KeepsBelow};
-ghost use Rattle.nq_rules.specs.Kept.{is_put_kept};
+ghost use Rattle.nq_check.specs.Kept.{is_put_kept};
 ghost use Rattle.nq_check.specs.Tables.{AreTables};
-ghost use Rattle.nq_rules.specs.declared.Rule.TheVariants.{Ordered};
+ghost use Rattle.nq_check.specs.declared.rules.Rule.TheVariants.{Ordered};
 ghost use Rattle.nq_model.specs.JournalTest.{is_answer, is_stored, is_through, somewhere};
 
-use crate::latest::Latest;
-use crate::sought::{Sought, is_before};
+use crate::links::{Kind, call_key, head_at};
+use crate::rules::entries::{is_call, is_through, is_write_by};
+use crate::sought::{Sought, back_from, is_before};
 use crate::tables::Tables;
+use crate::trail::Hints;
 use nq_base::{Entry, Who};
-use nq_rules::entries::{is_call, is_through, is_write_by};
 
 /// Whether a write is through, or an S before a place covers it.
 fn is_through_or_stored(tables: &Tables, whole: &[Entry], place: usize, write: &Entry) -> bool
@@ -27,8 +28,8 @@ fn is_through_or_stored(tables: &Tables, whole: &[Entry], place: usize, write: &
 /// before the A.
 pub(crate) fn is_put_kept(
     tables: &Tables,
+    hints: &Hints,
     whole: &[Entry],
-    latest: &Latest,
     place: usize,
     entry: &Entry,
     by: &Who,
@@ -40,12 +41,14 @@ pub(crate) fn is_put_kept(
     requires ordered { KeepsBelow Ordered whole.now (place + 1) }
     ensures { IsTrue result → somewhere (is_put_kept (reverse (take place whole.now)) by.now n) (reverse (take place whole.now)) ≡ true }
 {
-    let (call, write) = (latest.call, latest.write);
-    if call >= write || write >= place {
+    let key = call_key(by, n);
+    let call = back_from(&tables.calls, Kind::Calls, key, whole, whole.len(), place);
+    let write = head_at(&hints.written, call_key(by, 0));
+    if call == 0 || call > write || write >= place {
         return false;
     }
     let written = &whole[write];
-    if !is_call(&whole[call], by, n) || !is_write_by(written, by) {
+    if !is_call(&whole[call - 1], by, n) || !is_write_by(written, by) {
         return false;
     }
     is_through_or_stored(tables, whole, place, written)

@@ -2,11 +2,12 @@
 
 ghost use Rattle.std.specs.Prelude.{◌≤◌, IfOk};
 ghost use Rattle.nq_check.specs.Fronts.{KeepsBelow};
+ghost use Rattle.nq_check.specs.Losses.{PassBetween, is_naming};
 ghost use Rattle.nq_check.specs.Tables.{AreTables};
-ghost use Rattle.nq_rules.specs.declared.Rule.{Rule};
+ghost use Rattle.nq_check.specs.declared.rules.Rule.{Rule};
 
 use crate::endings::endings_front;
-use crate::namings::find_names;
+use crate::namings::Namings;
 use crate::reports::{Found, reports_front};
 use crate::tables::Tables;
 use nq_base::{Entry, NoMemory};
@@ -23,20 +24,21 @@ fn lower(a: usize, b: usize) -> usize
 pub(crate) fn reported_front(
     alloc: Global,
     tables: &Tables,
+    names: &Namings,
     whole: &[Entry],
     ordered: usize,
 ) -> Result<usize, NoMemory>
     requires tables { AreTables whole.now tables.now }
+    requires names { PassBetween (is_naming whole.now) whole.now 0 names.now.front }
     requires ordered { KeepsBelow Rule.Ordered whole.now ordered }
     ensures { IfOk result (KeepsBelow Rule.Reported whole.now) }
 {
-    let names = find_names(alloc, tables, whole)?;
     let found = Found {
         tables,
         named: &names.named,
         ordered,
     };
     let reported = reports_front(alloc, &found, whole)?;
-    let ended = endings_front(alloc, whole)?;
+    let ended = endings_front(alloc, tables, whole)?;
     Ok(lower(names.front, lower(reported, ended)))
 }

@@ -1,26 +1,25 @@
-//! A fast pass over the losses that are reported by the first call that has to, and behind which no write stands that they cover.
+//! A fast pass over the losses that are reported by the first call that has to.
 
-ghost use Rattle.std.specs.Prelude.{◌≡◌, ◌+◌, ◌<◌, true, IsTrue, Some, IfOk, OnOk, length, reverse, take, drop};
+ghost use Rattle.std.specs.Prelude.{◌≡◌, ◌+◌, ◌<◌, true, IsTrue, Some, IfOk, OnOk, if◌then◌else◌, length, reverse, take, drop};
 ghost use Rattle.std.specs.List.{slice_get};
 ghost use Rattle.nq_check.specs.Fronts.{KeepsBelow};
-ghost use Rattle.nq_check.specs.Losses.{PassBetween, is_over, is_told};
-ghost use Rattle.nq_rules.specs.Named.{is_reported};
+ghost use Rattle.nq_check.specs.Losses.{PassBetween, is_told};
+ghost use Rattle.nq_check.specs.Named.{is_reported};
 ghost use Rattle.nq_check.specs.Reports.{AreNext, IsReportKey, TakesReport, answers, reports_of};
 ghost use Rattle.nq_check.specs.Tables.{AreTables};
-ghost use Rattle.nq_rules.specs.declared.Rule.{Rule};
+ghost use Rattle.nq_check.specs.declared.rules.Rule.{Rule};
 ghost use Rattle.nq_model.specs.JournalTest.{exists};
 ghost use Rattle.nq_model.specs.ReportedTest.{is_busy_answer, names};
 
-use crate::behind::{front_with, is_over, take_write};
 use crate::covering::entry_at;
 use crate::links::{Heads, Key, file_key, head_at, set_head};
 use crate::namings::loss_key;
+use crate::rules::calls::speaks_of;
+use crate::rules::entries::{is_answer, is_busy_answer};
+use crate::rules::named::are_names_of;
 use crate::sought::call_along;
 use crate::tables::Tables;
 use nq_base::{Entry, Loss, NoMemory, Said, Told, Who};
-use nq_rules::calls::speaks_of;
-use nq_rules::entries::{is_answer, is_busy_answer};
-use nq_rules::named::are_names_of;
 use std::alloc::Global;
 use std::collections::HashMap;
 
@@ -197,7 +196,14 @@ fn is_told(found: &Found, next: &Heads, whole: &[Entry], place: usize, entry: &E
     }
 }
 
-/// A place below which each L is reported, and covers no write behind it.
+/// A front once an entry before it was looked at: it stays where that passes, and else it is the entry's place.
+fn front_with(passes: bool, place: usize, front: usize) -> usize
+    ensures { result ≡ (if passes then front else place) }
+{
+    if passes { front } else { place }
+}
+
+/// A place below which each L is reported.
 pub(crate) fn reports_front(
     alloc: Global,
     found: &Found,
@@ -205,21 +211,16 @@ pub(crate) fn reports_front(
 ) -> Result<usize, NoMemory>
     requires tables { AreTables whole.now found.now.tables.now }
     requires ordered { KeepsBelow Rule.Ordered whole.now found.now.ordered }
-    ensures told { IfOk result (λ front. PassBetween (is_told whole.now) whole.now 0 front) }
-    ensures over { IfOk result (λ front. PassBetween (is_over whole.now) whole.now 0 front) }
+    ensures { IfOk result (λ front. PassBetween (is_told whole.now) whole.now 0 front) }
 {
-    let mut lows = HashMap::new(alloc);
     let mut next = HashMap::new(alloc);
     let mut front = whole.len();
     let mut left = whole.len();
     while left > 0 {
         let place = left - 1;
         let entry = &whole[place];
-        let over = is_over(&lows, entry);
         let told = is_told(found, &next, whole, place, entry);
-        let low = front_with(over, place, front);
-        front = front_with(told, place, low);
-        take_write(&mut lows, entry)?;
+        front = front_with(told, place, front);
         take_report(&mut next, whole, place, entry)?;
         left = place;
     }

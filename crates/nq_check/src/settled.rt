@@ -1,7 +1,7 @@
 //! A fast test that the delayed writes of an incarnation on a file are stored or told: it is true only where they are.
 
 ghost use Rattle.std.specs.Prelude.{◌≡◌, ◌<◌, ◌≤◌, IsTrue, length, reverse, take, true};
-ghost use Rattle.nq_check.specs.Links.{IsFree, IsLinked};
+ghost use Rattle.nq_check.specs.Links.{IsLinked};
 ghost use Rattle.nq_check.specs.Tables.{AreTables};
 ghost use Rattle.nq_check.specs.declared.links.Kind.TheVariants.{Delays};
 ghost use Rattle.nq_model.specs.JournalTest.{exists, is_lost, is_stored};
@@ -10,11 +10,13 @@ ghost use Rattle.nq_model.specs.SynchronizedTest.{are_stored_or_told, is_named_l
 
 use crate::covering::entry_at;
 use crate::fates::{Fates, fate_at};
-use crate::links::{Key, Kind, Links, file_key, head_at, key_of, same_key};
+use crate::links::{Heads, Kind, Links, file_key, head_at};
+use crate::namings::loss_key;
 use crate::reports::names;
+use crate::rules::entries::{loss_covers, store_covers};
+use crate::sought::back_from;
 use crate::tables::Tables;
 use nq_base::{Entry, FileId, Loss, Who};
-use nq_rules::entries::{loss_covers, store_covers};
 
 /// Whose delayed writes have to be settled: those of an incarnation on a file, before a place.
 #[derive(Drop)]
@@ -24,30 +26,34 @@ pub(crate) struct Settling<'a> {
     pub(crate) place: usize,
 }
 
-/// Whether the entry at a place, among those before an answer, names a loss.
+/// Whether an entry before an answer, at the place that is kept for a loss, names the loss.
 fn is_named_at(
     tables: &Tables,
+    named: &Heads,
     whole: &[Entry],
     answered: &[Entry],
-    at: usize,
     by: &Who,
     loss: &Loss,
 ) -> bool
     requires tables { AreTables whole.now tables.now }
     ensures { IsTrue result → exists (names (reverse whole.now) by.now loss.now) (reverse answered.now) ≡ true }
 {
-    match entry_at(answered, at) {
+    let at = head_at(named, loss_key(by, loss.first, loss.last));
+    if at == 0 {
+        return false;
+    }
+    match entry_at(answered, at - 1) {
         Some(entry) => names(tables, whole, by, loss, entry),
         None => false,
     }
 }
 
-/// Whether an entry is an L that covers a write, and the entry at a place before the answer names it.
+/// Whether an entry is an L that covers a write, and an entry before the answer is known to name it.
 fn is_named_loss(
     tables: &Tables,
+    named: &Heads,
     whole: &[Entry],
     answered: &[Entry],
-    at: usize,
     write: &Entry,
     entry: &Entry,
 ) -> bool
@@ -71,7 +77,7 @@ fn is_named_loss(
             if !loss_covers(entry, write) {
                 return false;
             }
-            is_named_at(tables, whole, answered, at, who, &loss)
+            is_named_at(tables, named, whole, answered, who, &loss)
         }
         _ => false,
     }
@@ -90,7 +96,7 @@ fn is_told_at(
     ensures { IsTrue result → exists (is_named_loss (reverse whole.now) (reverse answered.now) write.now) (reverse whole.now) ≡ true }
 {
     match entry_at(whole, at) {
-        Some(entry) => is_named_loss(tables, whole, answered, fate_at(fates, at), write, entry),
+        Some(entry) => is_named_loss(tables, &fates.named, whole, answered, write, entry),
         None => false,
     }
 }
@@ -134,34 +140,6 @@ fn is_settled(
     is_told_at(tables, fates, whole, answered, fate, write)
 }
 
-/// A place, counted from 1, from which on up to another place no delayed write has a key.
-fn last_delayed(delays: &Links, whole: &[Entry], key: Key, place: usize) -> usize
-    requires linked { IsLinked Delays whole.now place delays.now.heads.entries delays.now.earlier.items }
-    ensures low { result ≤ place }
-    ensures free { IsFree Delays key whole.now result place }
-{
-    let head = head_at(&delays.heads, key);
-    if head <= place {
-        return head;
-    }
-    place
-}
-
-/// The same before the entry at a place.
-fn delayed_before(delays: &Links, whole: &[Entry], key: Key, place: usize, at: usize) -> usize
-    requires linked { IsLinked Delays whole.now place delays.now.heads.entries delays.now.earlier.items }
-    requires within { at < place }
-    requires whole { place ≤ length whole.now }
-    ensures low { result ≤ at }
-    ensures free { IsFree Delays key whole.now result at }
-{
-    let earlier = delays.earlier[at];
-    if earlier <= at && same_key(key_of(Kind::Delays, &whole[at]), key) {
-        return earlier;
-    }
-    at
-}
-
 /// Whether each of the delayed writes that have to be settled is stored, by an S among the `stores`, or told. Those before
 /// another place are known to be.
 pub(crate) fn are_settled(
@@ -184,13 +162,13 @@ pub(crate) fn are_settled(
     let place = these.place;
     let answered = &whole[..place];
     let key = file_key(these.who, these.file);
-    let mut at = last_delayed(delays, whole, key, place);
+    let mut at = back_from(delays, Kind::Delays, key, whole, place, place);
     while at > known {
         let fate = fate_at(fates, at - 1);
         if !is_settled(tables, fates, whole, stores, answered, fate, &whole[at - 1]) {
             return false;
         }
-        at = delayed_before(delays, whole, key, place, at - 1);
+        at = back_from(delays, Kind::Delays, key, whole, place, at - 1);
     }
     true
 }

@@ -1,19 +1,26 @@
 //! Entries that are looked for along links.
 
-ghost use Rattle.std.specs.Prelude.{◌≡◌, ◌<◌, ◌≤◌, length, reverse, take};
+ghost use Rattle.std.specs.Prelude.{◌≡◌, ◌<◌, ◌≤◌, ◌+◌, IsTrue, drop, false, length, reverse, take};
 ghost use Rattle.nq_check.specs.Links.{IsFree, IsLinked};
 ghost use Rattle.nq_check.specs.Sought.{kind_sought, passes, spot_sought};
+ghost use Rattle.nq_check.specs.Tables.{HasBetween, NoneBetween};
 ghost use Rattle.nq_model.specs.Journal.{call_of};
-ghost use Rattle.nq_model.specs.JournalTest.{exists};
-ghost use Rattle.nq_check.specs.declared.links.Kind.TheVariants.{Calls};
+ghost use Rattle.nq_model.specs.JournalTest.{exists, loss_covers};
+ghost use Rattle.nq_check.specs.declared.links.Kind.TheVariants.{Calls, Own};
 
 use crate::links::{Key, Kind, Links, call_key, head_at, key_of, own_key_of, same_key};
+use crate::rules::entries::{
+    is_answer, is_answer_by, is_answer_with, is_call, loss_covers, store_covers, told_by,
+};
 use nq_base::{Entry, Told, Who};
-use nq_rules::entries::{is_answer_by, is_answer_with, loss_covers, store_covers, told_by};
 
 /// What is looked for along links.
 #[derive(Clone, Copy)]
 pub(crate) enum Sought<'a> {
+    /// A C of a call.
+    Call { who: &'a Who, q: u64 },
+    /// An A of a call.
+    Answer { who: &'a Who, q: u64 },
     /// An A of a call that says `by` a packet.
     AnswerBy { who: &'a Who, q: u64, packet: u64 },
     /// An A of a call that says ok with a value.
@@ -22,6 +29,8 @@ pub(crate) enum Sought<'a> {
     Store(&'a Entry),
     /// An L that covers a write.
     Loss(&'a Entry),
+    /// A write that an L covers.
+    Lost(&'a Entry),
 }
 
 /// Whether an entry is what is looked for.
@@ -29,10 +38,13 @@ fn passes(sought: Sought, entry: &Entry) -> bool
     ensures { result ≡ passes sought.entry entry.now }
 {
     match sought {
+        Sought::Call { who, q } => is_call(entry, who, q),
+        Sought::Answer { who, q } => is_answer(entry, who, q),
         Sought::AnswerBy { who, q, packet } => is_answer_by(entry, who, q, packet),
         Sought::AnswerWith { who, q, value } => is_answer_with(entry, who, q, value),
         Sought::Store(write) => store_covers(entry, write),
         Sought::Loss(write) => loss_covers(entry, write),
+        Sought::Lost(loss) => loss_covers(loss, entry),
     }
 }
 
@@ -41,10 +53,13 @@ fn key_sought(sought: Sought) -> Key
     ensures { result ≡ spot_sought sought.entry }
 {
     match sought {
+        Sought::Call { who, q } => call_key(who, q),
+        Sought::Answer { who, q } => call_key(who, q),
         Sought::AnswerBy { who, q, .. } => call_key(who, q),
         Sought::AnswerWith { who, q, .. } => call_key(who, q),
         Sought::Store(write) => own_key_of(write),
         Sought::Loss(write) => own_key_of(write),
+        Sought::Lost(loss) => own_key_of(loss),
     }
 }
 
@@ -53,20 +68,39 @@ fn kind_sought(sought: Sought) -> Kind
     ensures { result ≡ kind_sought sought.entry }
 {
     match sought {
+        Sought::Call { .. } => Kind::Calls,
+        Sought::Answer { .. } => Kind::Calls,
         Sought::AnswerBy { .. } => Kind::Calls,
         Sought::AnswerWith { .. } => Kind::Calls,
         Sought::Store(_) => Kind::Covers,
         Sought::Loss(_) => Kind::Covers,
+        Sought::Lost(_) => Kind::Own,
     }
 }
 
-/// A place, counted from 1, back to which the links of a key lead to no entry before another place.
-pub(crate) fn back_from(links: &Links, kind: Kind, key: Key, whole: &[Entry], place: usize) -> usize
-    requires linked { IsLinked kind whole.now (length whole.now) links.now.heads.entries links.now.earlier.items }
-    requires within { place < length whole.now }
+/// A place, counted from 1, back to which the links of a key lead to no entry before another place. The entries before a third
+/// one are linked.
+pub(crate) fn back_from(
+    links: &Links,
+    kind: Kind,
+    key: Key,
+    whole: &[Entry],
+    linked: usize,
+    place: usize,
+) -> usize
+    requires linked { IsLinked kind whole.now linked links.now.heads.entries links.now.earlier.items }
+    requires within { place ≤ linked }
+    requires whole { linked ≤ length whole.now }
     ensures low { result ≤ place }
     ensures free { IsFree kind key whole.now result place }
 {
+    if place == linked {
+        let head = head_at(&links.heads, key);
+        if head <= place {
+            return head;
+        }
+        return place;
+    }
     let earlier = links.earlier[place];
     if earlier <= place && same_key(key_of(kind, &whole[place]), key) {
         return earlier;
@@ -74,35 +108,38 @@ pub(crate) fn back_from(links: &Links, kind: Kind, key: Key, whole: &[Entry], pl
     place
 }
 
-/// A place, counted from 1, from which on the links of a key lead to no entry.
-pub(crate) fn last_of(links: &Links, kind: Kind, key: Key, whole: &[Entry]) -> usize
-    requires linked { IsLinked kind whole.now (length whole.now) links.now.heads.entries links.now.earlier.items }
-    ensures low { result ≤ length whole.now }
-    ensures free { IsFree kind key whole.now result (length whole.now) }
-{
-    let head = head_at(&links.heads, key);
-    if head <= whole.len() {
-        return head;
-    }
-    whole.len()
-}
-
-/// Whether what is looked for stands before a place.
-fn is_along(links: &Links, whole: &[Entry], from: usize, sought: Sought) -> bool
+/// Whether what is looked for stands from a place on and before another.
+pub(crate) fn is_between(
+    links: &Links,
+    whole: &[Entry],
+    from: usize,
+    place: usize,
+    sought: Sought,
+) -> bool
     requires linked { IsLinked (kind_sought sought) whole.now (length whole.now) links.now.heads.entries links.now.earlier.items }
-    requires within { from ≤ length whole.now }
-    ensures { result ≡ exists (passes sought.entry) (reverse (take from whole.now)) }
+    requires within { place ≤ length whole.now }
+    ensures yes { IsTrue result → HasBetween (passes sought.entry) whole.now from place }
+    ensures no { result ≡ false → NoneBetween (passes sought.entry) whole.now from place }
 {
     let key = key_sought(sought);
     let kind = kind_sought(sought);
-    let mut at = from;
-    while at > 0 {
+    let mut at = back_from(links, kind, key, whole, whole.len(), place);
+    while at > from {
         if passes(sought, &whole[at - 1]) {
             return true;
         }
-        at = back_from(links, kind, key, whole, at - 1);
+        at = back_from(links, kind, key, whole, whole.len(), at - 1);
     }
     false
+}
+
+/// Whether what is looked for stands before a place.
+pub(crate) fn is_before(links: &Links, whole: &[Entry], place: usize, sought: Sought) -> bool
+    requires linked { IsLinked (kind_sought sought) whole.now (length whole.now) links.now.heads.entries links.now.earlier.items }
+    requires within { place ≤ length whole.now }
+    ensures { result ≡ exists (passes sought.entry) (reverse (take place whole.now)) }
+{
+    is_between(links, whole, 0, place, sought)
 }
 
 /// Whether what is looked for stands in the journal.
@@ -110,18 +147,37 @@ pub(crate) fn is_somewhere(links: &Links, whole: &[Entry], sought: Sought) -> bo
     requires linked { IsLinked (kind_sought sought) whole.now (length whole.now) links.now.heads.entries links.now.earlier.items }
     ensures { result ≡ exists (passes sought.entry) (reverse whole.now) }
 {
-    let from = last_of(links, kind_sought(sought), key_sought(sought), whole);
-    is_along(links, whole, from, sought)
+    is_before(links, whole, whole.len(), sought)
 }
 
-/// Whether what is looked for stands before a place.
-pub(crate) fn is_before(links: &Links, whole: &[Entry], place: usize, sought: Sought) -> bool
-    requires linked { IsLinked (kind_sought sought) whole.now (length whole.now) links.now.heads.entries links.now.earlier.items }
+/// Whether a write that an L covers stands behind the L's place.
+pub(crate) fn covers_behind(links: &Links, whole: &[Entry], place: usize, loss: &Entry) -> bool
+    requires linked { IsLinked Own whole.now (length whole.now) links.now.heads.entries links.now.earlier.items }
     requires within { place < length whole.now }
-    ensures { result ≡ exists (passes sought.entry) (reverse (take place whole.now)) }
+    ensures { result ≡ exists (loss_covers loss.now) (drop (place + 1) whole.now) }
 {
-    let from = back_from(links, kind_sought(sought), key_sought(sought), whole, place);
-    is_along(links, whole, from, sought)
+    is_between(links, whole, place + 1, whole.len(), Sought::Lost(loss))
+}
+
+#[tactic(auto, using(crate::proofs::Backwards::last_first))]
+/// Whether what is looked for is one of the entries, without links. The first that is ends the search.
+fn is_among(entries: &[Entry], sought: Sought) -> bool
+    ensures { result ≡ exists (passes sought.entry) (reverse entries.now) }
+{
+    for entry in entries {
+        if passes(sought, entry) {
+            return true;
+        }
+    }
+    false
+}
+
+/// Whether it is one of the entries. Those from a place on are looked at first.
+pub(crate) fn is_near(entries: &[Entry], near: usize, sought: Sought) -> bool
+    ensures { result ≡ exists (passes sought.entry) (reverse entries.now) }
+{
+    let (earlier, later) = entries.split_at(near.min(entries.len()));
+    is_among(later, sought) || is_among(earlier, sought)
 }
 
 /// What a call asks, as its first C tells it.
@@ -131,10 +187,10 @@ pub(crate) fn call_along(links: &Links, whole: &[Entry], by: &Who, n: u64) -> Op
 {
     let key = call_key(by, n);
     let mut call = None;
-    let mut at = last_of(links, Kind::Calls, key, whole);
+    let mut at = back_from(links, Kind::Calls, key, whole, whole.len(), whole.len());
     while at > 0 {
         call = told_by(&whole[at - 1], by, n).or(call);
-        at = back_from(links, Kind::Calls, key, whole, at - 1);
+        at = back_from(links, Kind::Calls, key, whole, whole.len(), at - 1);
     }
     call
 }

@@ -8,14 +8,13 @@ ghost use Rattle.nq_model.specs.JournalTest.{somewhere};
 ghost use Rattle.nq_model.specs.SynchronizedTest.{are_stored_or_told, is_settled_resize};
 
 use crate::fates::Fates;
-use crate::latest::latest_of;
-use crate::links::{file_key, head_at};
+use crate::links::{Kind, call_key, file_key, head_at};
+use crate::rules::entries::is_resize_by;
 use crate::settled::{Settling, are_settled};
-use crate::sought::call_along;
+use crate::sought::{back_from, call_along};
 use crate::tables::Tables;
 use crate::trail::Trail;
 use nq_base::{Entry, FileId, Said, Told, Who};
-use nq_rules::entries::is_resize_by;
 
 /// A call as its A names it, and what it asks.
 #[derive(Drop)]
@@ -80,7 +79,7 @@ fn synced_before(
     ensures low { result ≤ place }
     ensures known { are_stored_or_told (reverse whole.now) (reverse whole.now) (reverse (take result whole.now)) by.now on ≡ true }
 {
-    let at = head_at(&trail.oks.synced, file_key(by, on));
+    let at = head_at(&trail.hints.synced, file_key(by, on));
     if at < place && is_sync_of(on, call_of_ok(tables, whole, by, &whole[at])) {
         return at;
     }
@@ -102,7 +101,7 @@ fn resized_before(
     ensures low { result ≤ place }
     ensures known { are_stored_or_told (reverse whole.now) (reverse (take resize whole.now)) (reverse (take result whole.now)) by.now on ≡ true }
 {
-    let at = head_at(&trail.oks.resized, file_key(by, on));
+    let at = head_at(&trail.hints.resized, file_key(by, on));
     if at < resize && is_sizing_of(on, call_of_ok(tables, whole, by, &whole[at])) {
         return at;
     }
@@ -131,7 +130,7 @@ pub(crate) fn is_sync_kept(
     are_settled(tables, fates, &trail.delays, whole, whole, known, &these)
 }
 
-/// Whether the last Z of an incarnation before an A is the Z of its call, and each delayed write on the file before the A is
+/// Whether the last entry of a call before its A is its Z, and each delayed write on the file before the A is
 /// stored before the Z, or told.
 pub(crate) fn is_resize_kept(
     tables: &Tables,
@@ -146,11 +145,12 @@ pub(crate) fn is_resize_kept(
     ensures { IsTrue result → somewhere (is_settled_resize (reverse whole.now) (reverse (take place whole.now)) asked.now.who.now asked.now.q on)
         (reverse (take place whole.now)) ≡ true }
 {
-    let at = latest_of(&trail.latests, asked.who).resize;
-    if at >= place || !is_resize_by(&whole[at], asked.who, asked.q) {
+    let key = call_key(asked.who, asked.q);
+    let at = back_from(&tables.calls, Kind::Calls, key, whole, whole.len(), place);
+    if at == 0 || !is_resize_by(&whole[at - 1], asked.who, asked.q) {
         return false;
     }
-    let known = resized_before(tables, trail, whole, at, place, asked.who, on);
+    let known = resized_before(tables, trail, whole, at - 1, place, asked.who, on);
     let these = Settling {
         who: asked.who,
         file: on,
@@ -161,7 +161,7 @@ pub(crate) fn is_resize_kept(
         fates,
         &trail.delays,
         whole,
-        &whole[..at],
+        &whole[..at - 1],
         known,
         &these,
     )

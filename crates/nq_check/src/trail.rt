@@ -5,8 +5,7 @@ ghost use Rattle.nq_check.specs.Links.{IsLinkedNext};
 ghost use Rattle.nq_check.specs.Tables.{AreTables};
 ghost use Rattle.nq_check.specs.declared.links.Kind.TheVariants.{Delays};
 
-use crate::latest::{Latests, note};
-use crate::links::{Heads, Kind, Links, file_key, link_entry, set_head};
+use crate::links::{Heads, Kind, Links, call_key, file_key, link_entry, set_head};
 use crate::sought::call_along;
 use crate::tables::Tables;
 use nq_base::{Entry, NoMemory, Said, Told};
@@ -17,22 +16,23 @@ use std::collections::HashMap;
 #[derive(Drop)]
 pub(crate) struct Trail {
     pub(crate) delays: Links,
-    pub(crate) latests: Latests,
-    pub(crate) oks: Oks,
+    pub(crate) hints: Hints,
 }
 
-/// The last ok of each incarnation on a file.
+/// The places of the last entries of some kinds: whoever takes one looks at the entry.
 #[derive(Drop)]
-pub(crate) struct Oks {
-    /// To a `sync`.
+pub(crate) struct Hints {
+    /// The last W of each incarnation.
+    pub(crate) written: Heads,
+    /// The last ok to a `sync` of each incarnation on a file.
     pub(crate) synced: Heads,
-    /// To a `resize` or `remove`.
+    /// The last ok to a `resize` or `remove` of it.
     pub(crate) resized: Heads,
 }
 
-/// Keeps the place of an ok.
-fn keep_ok(
-    oks: &mut Oks,
+/// Keeps the place of a W, or of an ok.
+fn keep(
+    hints: &mut Hints,
     tables: &Tables,
     whole: &[Entry],
     place: usize,
@@ -40,21 +40,24 @@ fn keep_ok(
 ) -> Result<(), NoMemory>
     requires tables { AreTables whole.now tables.now }
 {
-    let Entry::A {
-        who,
-        q,
-        said: Said::Ok,
-    } = entry
-    else {
-        return Ok(());
-    };
-    let Some(told) = call_along(&tables.calls, whole, who, *q) else {
-        return Ok(());
-    };
-    match told {
-        Told::Sync { file } => set_head(&mut oks.synced, file_key(who, file), place),
-        Told::Resize { file, .. } => set_head(&mut oks.resized, file_key(who, file), place),
-        Told::Remove { file } => set_head(&mut oks.resized, file_key(who, file), place),
+    match entry {
+        Entry::W { who, .. } => set_head(&mut hints.written, call_key(who, 0), place),
+        Entry::A {
+            who,
+            q,
+            said: Said::Ok,
+        } => {
+            let Some(told) = call_along(&tables.calls, whole, who, *q) else {
+                return Ok(());
+            };
+            match told {
+                Told::Sync { file } => set_head(&mut hints.synced, file_key(who, file), place),
+                Told::Resize { file, .. } | Told::Remove { file } => {
+                    set_head(&mut hints.resized, file_key(who, file), place)
+                }
+                _ => Ok(()),
+            }
+        }
         _ => Ok(()),
     }
 }
@@ -73,8 +76,7 @@ pub(crate) fn take_in(
         trail.old.delays.earlier.items trail.new.delays.earlier.items) }
 {
     link_entry(&mut trail.delays, Kind::Delays, place, entry)?;
-    note(&mut trail.latests, place, entry)?;
-    keep_ok(&mut trail.oks, tables, whole, place, entry)
+    keep(&mut trail.hints, tables, whole, place, entry)
 }
 
 /// What is kept before the first entry.
@@ -86,8 +88,8 @@ pub(crate) fn no_trail(alloc: Global) -> Trail
             heads: HashMap::new(alloc),
             earlier: Vec::new(alloc),
         },
-        latests: HashMap::new(alloc),
-        oks: Oks {
+        hints: Hints {
+            written: HashMap::new(alloc),
             synced: HashMap::new(alloc),
             resized: HashMap::new(alloc),
         },

@@ -5,10 +5,10 @@ use Rattle.std.specs.List.{flat_map}
 use Rattle.std.specs.Option.{option_or}
 use Rattle.std.specs.Prelude.{codes}
 use Rattle.nq_base.specs.declared.Entry.{Entry}
-use Rattle.nq_rules.specs.Rules.{first_rule}
-use Rattle.nq_rules.specs.Verdict.{Fault, IsVerdict, fault_at, least_fault, verdict}
-use Rattle.nq_rules.specs.declared.Judged.{Judged}
-use Rattle.nq_rules.specs.declared.Rule.{Rule}
+use Rattle.nq_check.specs.Rules.{first_rule}
+use Rattle.nq_check.specs.Verdict.{Fault, IsVerdict, fault_at, least_fault, verdict}
+use Rattle.nq_check.specs.declared.Judged.{Judged}
+use Rattle.nq_check.specs.declared.Rule.{Rule}
 use Rattle.nq_base.specs.declared.ending.ending.Ending.{Ending}
 use Rattle.nq_io.specs.Faults.{Rose}
 use Rattle.nq_io.specs.Sink.{AppendsFront}

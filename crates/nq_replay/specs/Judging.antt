@@ -3,10 +3,10 @@
 use Rattle.std.specs.Fmt.{decimal}
 use Rattle.std.specs.Prelude.{◌≡◌, ◌⊎◌, ℕ, ◌+◌, List, ◌++◌, Option, Some, None, reverse, codes}
 use Rattle.nq_base.specs.declared.Entry.{Entry}
-use Rattle.nq_rules.specs.Verdict.{Fault, verdict}
-use Rattle.nq_rules.specs.Words.{word_of}
-use Rattle.nq_rules.specs.declared.Judged.{Judged}
-use Rattle.nq_rules.specs.declared.Rule.{Rule}
+use Rattle.nq_check.specs.Verdict.{Fault, verdict}
+use Rattle.nq_check.specs.Words.{word_of}
+use Rattle.nq_check.specs.declared.Judged.{Judged}
+use Rattle.nq_check.specs.declared.Rule.{Rule}
 use Rattle.nq_base.specs.declared.ending.ending.Ending.{Ending}
 use Rattle.nq_io.specs.Faults.{Rose}
 use Rattle.nq_io.specs.Sink.{AppendsFront}

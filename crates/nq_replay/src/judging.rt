@@ -1,7 +1,7 @@
 //! Judging a journal.
 
 ghost use Rattle.std.specs.Prelude.{◌≡◌, ◌<◌, ◌≤◌, ◌^◌, ◌+◌, ℕ, List, IfOk, Some, length, string_bytes};
-ghost use Rattle.nq_rules.specs.Verdict.{Fault, IsVerdict};
+ghost use Rattle.nq_check.specs.Verdict.{Fault, IsVerdict};
 ghost use Rattle.nq_journal.specs.Fault.{IsFaultyAt, IsJournal};
 ghost use Rattle.nq_base.specs.declared.ending.ending.Ending.{Ending};
 ghost use Rattle.nq_replay.specs.Ending.{IsUnlessFault};

@@ -2,8 +2,8 @@
 use Rattle.std.proofs.Common.{◌≡◌, ℕ, List, [], Option, None, reverse, refl, subst}
 use Rattle.std.proofs.lemmas.List.{reverse-reverse}
 use Rattle.nq_base.specs.declared.Event.{Event}
-use Rattle.nq_rules.proofs.Sounds.{faultless_where_sound}
-use Rattle.nq_rules.specs.Verdict.{verdict}
+use Rattle.nq_check.proofs.Sounds.{faultless_where_sound}
+use Rattle.nq_check.specs.Verdict.{verdict}
 use Rattle.nq_laws.proofs.HeadlineParts.{at-every-moment}
 use Rattle.nq_model.specs.Kept.{Kept}
 use Rattle.nq_model.specs.Skew.{IsWithinSkew}

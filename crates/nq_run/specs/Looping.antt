@@ -3,7 +3,7 @@
 -- counts of faults before and after, and `k` and `k'` the keeper's; `kept` is what is kept after, where the keeper tells it.
 use Rattle.std.specs.Prelude.{◌≡◌, ◌⊎◌, ℕ, List, Option, Some, None}
 use Rattle.nq_base.specs.declared.Event.{Event}
-use Rattle.nq_rules.specs.Verdict.{verdict}
+use Rattle.nq_check.specs.Verdict.{verdict}
 use Rattle.nq_base.specs.Status.{status_of}
 use Rattle.nq_base.specs.declared.ending.ending.Ending.{Ending}
 use Rattle.nq_io.specs.Faults.{Rose}

@@ -12,7 +12,7 @@ use Rattle.nq_replay.specs.Playing.{beginning}
 use Rattle.nq_replay.specs.Ending.{IsUnlessFault}
 use Rattle.nq_replay.specs.Replay.{OfInput}
 use Rattle.nq_replay.specs.declared.Bound.{Bound}
-use Rattle.nq_rules.specs.Verdict.{verdict}
+use Rattle.nq_check.specs.Verdict.{verdict}
 use Rattle.nq_run.specs.Promised.{HoldsThroughout}
 use Rattle.nq_script.specs.declared.heads.Head.{Head}
 use Rattle.nq_staged.specs.Running.{EndsStaged, FaultyStaged, IsPrinted, PassesStaged, RunsStaged, StopsStaged, end_of}

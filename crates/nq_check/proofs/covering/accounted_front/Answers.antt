@@ -2,9 +2,9 @@ use Rattle.std.proofs.Common.{rules, ◌≡◌, true, length, reverse, refl, sym
 use Rattle.std.proofs.lemmas.Option.{slice_get_read}
 use Rattle.nq_model.specs.Journal.{Each}
 use Rattle.nq_check.specs.Covered.{IsCoveredTo}
-use Rattle.nq_rules.specs.declared.Rule.TheVariants.{Accounted}
+use Rattle.nq_check.specs.declared.rules.Rule.TheVariants.{Accounted}
 use Rattle.nq_check.proofs.MovesOn.{one_more}
-use Rattle.nq_rules.proofs.Places.{taken_here}
+use Rattle.nq_check.proofs.Places.{taken_here}
 use Rattle.nq_check.proofs.covering.accounted_front.Goals as goal
 
 pub loop-place-preserved : goal.loop-place-preserved

@@ -1,7 +1,7 @@
 use Rattle.std.proofs.Common.{reverse, take}
 use Rattle.nq_check.specs.Covered.{IsCoveredTo}
 use Rattle.nq_check.specs.Fronts.{KeepsBelow}
-use Rattle.nq_rules.specs.declared.Rule.TheVariants.{Accounted}
+use Rattle.nq_check.specs.declared.rules.Rule.TheVariants.{Accounted}
 use Rattle.nq_model.specs.Journal.{Each}
 use Rattle.nq_check.proofs.covering.accounted_front.Given as goal
 

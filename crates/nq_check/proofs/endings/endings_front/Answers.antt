@@ -6,10 +6,15 @@ use Rattle.nq_check.proofs.endings.endings_front.Goals as goal
 
 pub is_ended_at-requires-clause-linked : goal.is_ended_at-requires-clause-linked
 is_ended_at-requires-clause-linked c = record {
-  leases = c.in_ok-leases.ensures;
+  tables = c.requires;
   rises = λ early late x y a b there_x there_y. c.rising_front-rising.ensures early late x y a (omega arith) there_x there_y;
   within = c.loop-place-test.true;
 }
+
+pub is_ended_at-requires-clause-there : goal.is_ended_at-requires-clause-there
+is_ended_at-requires-clause-there c =
+    slice_get_read c.args.whole.now (length c.args.whole.now) c.loop-place.place c.index-whole-place.result refl c.loop-place-test.true
+    c.index-whole-place.is
 
 pub loop-place-preserved : goal.loop-place-preserved
 loop-place-preserved c =

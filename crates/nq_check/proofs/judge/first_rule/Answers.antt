@@ -1,4 +1,4 @@
-use Rattle.nq_rules.specs.declared.Rule.TheVariants.{Legal}
+use Rattle.nq_check.specs.declared.rules.Rule.TheVariants.{Legal}
 use Rattle.nq_check.proofs.MovesOn.{none_below}
 use Rattle.nq_check.proofs.judge.first_rule.Goals as goal
 

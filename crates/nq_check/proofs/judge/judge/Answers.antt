@@ -3,6 +3,13 @@ use Rattle.std.proofs.lemmas.Option.{slice_get_read}
 use Rattle.nq_check.proofs.Verdicts.{found_here, none_here}
 use Rattle.nq_check.proofs.judge.judge.Goals as goal
 
+pub first_rule-requires-clause-there : goal.first_rule-requires-clause-there
+first_rule-requires-clause-there c = (
+  c.loop-place-test.true,
+  slice_get_read c.args.whole.now (length c.args.whole.now) c.loop-place.place c.index-whole-place.result refl c.loop-place-test.true
+      c.index-whole-place.is,
+)
+
 pub returns-in-Some : goal.returns-in-Some
 returns-in-Some c =
     let here = slice_get_read c.args.whole.now (length c.args.whole.now) c.loop-place.place c.index-whole-place.result refl c.loop-place-test.true

@@ -1,7 +1,7 @@
 use Rattle.std.proofs.Common.{rules, ◌≡◌, ◌+◌, true, length, refl, sym, ◌∙◌, arith}
 use Rattle.std.proofs.lemmas.Option.{slice_get_read}
 use Rattle.nq_check.specs.declared.links.Kind.TheVariants.{Delays}
-use Rattle.nq_rules.specs.declared.Rule.TheVariants.{Ordered, Synchronized}
+use Rattle.nq_check.specs.declared.rules.Rule.TheVariants.{Ordered, Synchronized}
 use Rattle.nq_check.proofs.Linking.{linked_next, none_linked}
 use Rattle.nq_check.proofs.MovesOn.{none_below, one_more}
 use Rattle.nq_check.proofs.OwnWrite.{keeps_less}
@@ -24,6 +24,11 @@ is_kept_at-requires-clause-ready c = record {
   kept = c.loop-place.invariant.0;
   linked = c.loop-place.invariant.1;
 }
+
+pub is_kept_at-requires-clause-there : goal.is_kept_at-requires-clause-there
+is_kept_at-requires-clause-there c =
+    slice_get_read c.args.whole.now (length c.args.whole.now) c.loop-place.place c.index-whole-place.result refl c.loop-place-test.true
+    c.index-whole-place.is
 
 pub loop-place-preserved : goal.loop-place-preserved
 loop-place-preserved c =

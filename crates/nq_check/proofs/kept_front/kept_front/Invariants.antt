@@ -1,7 +1,7 @@
 use Rattle.nq_check.specs.Fronts.{KeepsBelow}
 use Rattle.nq_check.specs.Links.{IsLinked}
 use Rattle.nq_check.specs.declared.links.Kind.TheVariants.{Delays}
-use Rattle.nq_rules.specs.declared.Rule.TheVariants.{Synchronized}
+use Rattle.nq_check.specs.declared.rules.Rule.TheVariants.{Synchronized}
 use Rattle.nq_check.proofs.kept_front.kept_front.Given as goal
 
 abbrev pub invariant-loop-place : goal.invariant-loop-place

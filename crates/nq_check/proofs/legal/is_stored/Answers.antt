@@ -13,6 +13,6 @@ pub returns-then-is_lost_at : goal.returns-then-is_lost_at
 returns-then-is_lost_at c =
     let whole = c.args.whole.now in
     let yes : IsTrue c.is_lost_at.result = search rules in
-    let long : length whole ≤ c.args.hints.now.accounted = omega arith in
-    lost_not_stored whole c.args.hints.now.accounted c.args.at c.args.write.now long c.requires.accounted c.requires.there
+    let long : length whole ≤ c.args.fates.now.accounted = omega arith in
+    lost_not_stored whole c.args.fates.now.accounted c.args.at c.args.write.now long c.requires.accounted c.requires.there
     (slice_get_within whole c.args.at c.args.write.now c.requires.there) (c.is_lost_at.ensures yes)

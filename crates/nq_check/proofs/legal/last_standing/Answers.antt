@@ -1,7 +1,7 @@
 use Rattle.std.proofs.Common.{length, refl, reverse, take, sym, ◌∙◌, ◌<◌, ◌≤◌, ◌-◌, arith}
 use Rattle.std.proofs.lemmas.Option.{slice_get_read}
 use Rattle.nq_check.specs.declared.links.Kind.TheVariants.{Writes}
-use Rattle.nq_check.proofs.Standing.{none_more, stands_linked}
+use Rattle.nq_check.proofs.Standing.{none_more, passes_there, stands_linked}
 use Rattle.nq_model.specs.StandsTest.{stands}
 use Rattle.nq_check.proofs.legal.last_standing.Goals as goal
 
@@ -13,6 +13,19 @@ stands-requires-clause-there c =
     let within : c.args.place < length whole = c.requires.within in
     let below : at ≤ c.args.place = c.loop-at.invariant.0 in
     slice_get_read whole (length whole) (at - 1) c.index-whole-at.result refl (omega arith) c.index-whole-at.is
+
+pub returns-then-stands-clause-there : goal.returns-then-stands-clause-there
+returns-then-stands-clause-there c =
+    let whole = c.args.whole.now in
+    let read = c.args.read.now in
+    let at = c.loop-at.at in
+    let up : 0 < at = c.loop-at-test.true in
+    let within : c.args.place < length whole = c.requires.within in
+    let below : at ≤ c.args.place = c.loop-at.invariant.0 in
+    let x = c.index-whole-at.result in
+    let there = slice_get_read whole (length whole) (at - 1) x refl (omega arith) c.index-whole-at.is in
+    λ some write e. passes_there (stands (reverse whole) (reverse (take c.args.place whole)) read.who.now read.file read.block) whole (at - 1) x write there e
+    (sym c.stands.ensures ∙ c.if-stands.true)
 
 pub loop-at-preserved : goal.loop-at-preserved
 loop-at-preserved c =

@@ -1,10 +1,17 @@
 use Rattle.std.proofs.Common.{rules, ◌≡◌, true, length, refl, reverse, sym, subst, take}
 use Rattle.std.proofs.lemmas.Option.{slice_get_read}
 use Rattle.nq_check.specs.InOrder.{AreLines}
-use Rattle.nq_rules.specs.declared.Rule.TheVariants.{Ordered}
+use Rattle.nq_check.specs.declared.rules.Rule.TheVariants.{Ordered}
 use Rattle.nq_check.proofs.MovesOn.{one_more}
-use Rattle.nq_rules.proofs.Places.{taken_here}
+use Rattle.nq_check.proofs.Places.{taken_here}
 use Rattle.nq_check.proofs.ordering.ordered_front.Goals as goal
+
+pub stands-requires-clause-there : goal.stands-requires-clause-there
+stands-requires-clause-there c = (
+  c.loop-place-test.true,
+  slice_get_read c.args.whole.now (length c.args.whole.now) c.loop-place.place c.index-whole-place.result refl c.loop-place-test.true
+      c.index-whole-place.is,
+)
 
 pub loop-place-preserved : goal.loop-place-preserved
 loop-place-preserved c =

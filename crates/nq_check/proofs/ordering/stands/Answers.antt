@@ -1,8 +1,9 @@
-use Rattle.std.proofs.Common.{rules, ◌≡◌, ◌+◌, true, drop, reverse, sym, ◌∙◌, subst}
+use Rattle.std.proofs.Common.{rules, ◌≡◌, ◌+◌, true, false, drop, reverse, sym, ◌∙◌, subst}
 use Rattle.std.specs.Prelude.{IsTrue}
 use Rattle.nq_base.specs.declared.Entry.{Entry}
+use Rattle.nq_base.specs.declared.Entry.TheVariants.{R}
+use Rattle.nq_model.specs.JournalTest.{is_counted}
 use Rattle.nq_check.specs.InOrder.{StandsInOrder}
-use Rattle.nq_check.proofs.Answering.{not_counted}
 use Rattle.nq_check.proofs.Lining.{else_stands, uncounted_stands}
 use Rattle.nq_check.proofs.NextLines.{answer_next, call_next, read_next, resize_next, write_next}
 use Rattle.nq_check.proofs.ordering.stands.Goals as goal
@@ -35,19 +36,19 @@ returns-in-A c =
     c.line_at-in-A.result c.after_answer-next.result c.args.lines.now.entries c.set_next-in-A.new.lines.entries s.is c.line_at-in-A.ensures
     c.after_answer-next.ensures c.set_next-in-A.ensures
 
-pub returns-then-not-may_count : goal.returns-then-not-may_count
-returns-then-not-may_count c =
+pub returns-then-not-is_counted : goal.returns-then-not-is_counted
+returns-then-not-is_counted c =
     let whole = reverse c.args.whole.now in
     let after = drop (c.args.place + 1) c.args.whole.now in
     let lines = c.args.lines.now.entries in
     let s = c.in-R in
-    let uncounted = not_counted whole c.args.replies.now.entries s.who s.q s.file s.block s.value s.served c.requires.told
-    (sym c.may_count.ensures ∙ c.if-not-may_count.true) in
+    let uncounted : is_counted whole (R s.who s.q s.file s.block s.value s.served) ≡ false = subst (λ (e : Entry). is_counted whole e ≡ false) s.is
+    (sym c.is_counted.ensures ∙ c.if-not-is_counted.true) in
     λ t. subst (λ (e : Entry). StandsInOrder whole after e lines lines) (sym s.is)
     (uncounted_stands whole after s.who s.q s.file s.block s.value s.served lines uncounted)
 
-pub returns-else-not-may_count : goal.returns-else-not-may_count
-returns-else-not-may_count c =
+pub returns-else-not-is_counted : goal.returns-else-not-is_counted
+returns-else-not-is_counted c =
     let s = c.in-R in
     read_next c.set_next-in-R.result (reverse c.args.whole.now) (drop (c.args.place + 1) c.args.whole.now) c.args.entry.now s.who s.q s.file s.block
     s.value s.served c.line_at-in-R.result c.after_read-next.result c.args.lines.now.entries c.set_next-in-R.new.lines.entries s.is

@@ -4,7 +4,7 @@ use Rattle.nq_check.proofs.reported_front.reported_front.Goals as goal
 
 pub returns : goal.returns
 returns c =
-    let named = c.in_ok-names.names.front in
+    let named = c.args.names.now.front in
     let told = c.in_ok-reported.reported in
     let ended = c.in_ok-ended.ended in
     let front = c.lower-2.result in
@@ -12,5 +12,5 @@ returns c =
     let b : c.lower.result ≤ ended = c.lower.ensures.1 in
     let d : front ≤ named = c.lower-2.ensures.0 in
     let e : front ≤ c.lower.result = c.lower-2.ensures.1 in
-    all_below c.args.whole.now named told told ended front c.in_ok-names.ensures c.in_ok-reported.ensures.told c.in_ok-reported.ensures.over
-    c.in_ok-ended.ensures (omega arith) (omega arith) (omega arith) (omega arith)
+    all_below c.args.whole.now named told ended front c.requires.names c.in_ok-reported.ensures c.in_ok-ended.ensures (omega arith) (omega arith)
+    (omega arith)

@@ -8,12 +8,12 @@ pub loop-at-init : goal.loop-at-init
 loop-at-init c =
     let whole = c.args.whole.now in
     let place = c.args.these.now.place in
-    let from = c.last_delayed-at.result in
+    let from = c.back_from-at.result in
     let within : place < length whole = c.requires.within in (
-      c.last_delayed-at.ensures.low,
+      c.back_from-at.ensures.low,
       walk_begun (reverse whole) (reverse c.args.stores.now) (reverse (take place whole)) c.args.these.now.who.now c.args.these.now.file
           c.file_key-key.result whole from place
-          c.file_key-key.ensures c.last_delayed-at.ensures.low (omega arith) c.last_delayed-at.ensures.free,
+          c.file_key-key.ensures c.back_from-at.ensures.low (omega arith) c.back_from-at.ensures.free,
     )
 
 pub loop-at-preserved : goal.loop-at-preserved
@@ -24,14 +24,14 @@ loop-at-preserved c =
     let above : c.args.known < at = c.loop-at-test.true in
     let below : at ≤ place = c.loop-at.invariant.0 in
     let within : place < length whole = c.requires.within in
-    let next = c.delayed_before-at.result in
-    let low : next ≤ at - 1 = c.delayed_before-at.ensures.low in
+    let next = c.back_from-at-in-loop-at.result in
+    let low : next ≤ at - 1 = c.back_from-at-in-loop-at.ensures.low in
     let there = slice_get_read whole (length whole) (at - 1) c.index-whole-at.result refl (omega arith) c.index-whole-at.is in
     let yes : IsTrue c.is_settled.result = search rules in (
       omega arith,
       λ h. c.loop-at.invariant.1 (walked_past (reverse whole) (reverse c.args.stores.now) (reverse (take place whole)) c.args.these.now.who.now
           c.args.these.now.file c.file_key-key.result whole next at c.index-whole-at.result
-          c.file_key-key.ensures (omega arith) (omega arith) low there (c.is_settled.ensures yes) c.delayed_before-at.ensures.free h),
+          c.file_key-key.ensures (omega arith) (omega arith) low there (c.is_settled.ensures yes) c.back_from-at-in-loop-at.ensures.free h),
     )
 
 pub returns : goal.returns

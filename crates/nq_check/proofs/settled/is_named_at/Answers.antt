@@ -1,9 +1,9 @@
-use Rattle.std.proofs.Common.{reverse, sym, ◌∙◌}
+use Rattle.std.proofs.Common.{◌-◌, reverse, sym, ◌∙◌}
 use Rattle.nq_model.specs.ReportedTest.{names}
 use Rattle.nq_check.proofs.Once.{exists_there}
 use Rattle.nq_check.proofs.settled.is_named_at.Goals as goal
 
 pub returns-in-Some : goal.returns-in-Some
 returns-in-Some c =
-    λ t. exists_there (names (reverse c.args.whole.now) c.args.by.now c.args.loss.now) c.args.answered.now c.args.at c.in-Some.entry.now
+    λ t. exists_there (names (reverse c.args.whole.now) c.args.by.now c.args.loss.now) c.args.answered.now (c.head_at-at.result - 1) c.in-Some.entry.now
     c.in-Some.ensures (sym c.names.ensures ∙ t)
