@@ -15,7 +15,7 @@ use Rattle.nq_name_server.specs.Outside.{outside_run}
 use Rattle.nq_name_server.proofs.Inner.{runs-inside}
 use Rattle.nq_world.specs.Answering.{told as answer_of}
 use Rattle.nq_world.specs.declared.Stepped.{Stepped}
-use Rattle.nq_names.proofs.Bounded.{few-run, runs-fine}
+use Rattle.nq_name_server.proofs.Bounded.{few-run, runs-fine}
 use Rattle.nq_names.specs.Playing.{IsLeft, IsTested, stepped_outside, tested_outside}
 
 -- ---- tests

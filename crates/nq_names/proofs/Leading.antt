@@ -13,8 +13,8 @@ use Rattle.nq_name_server.specs.Outside.{delivers, inner, lists, outside_run, ou
 use Rattle.nq_world.specs.Answering.{IsOfTests}
 use Rattle.nq_world.specs.Playing.{Plays}
 use Rattle.nq_world.specs.declared.Stepped.{Stepped}
-use Rattle.nq_names.proofs.Sending.{there}
-use Rattle.nq_names.specs.Around.{once_sent, over}
+use Rattle.nq_name_server.proofs.GoingOut.{there}
+use Rattle.nq_name_server.specs.Around.{once_sent, over}
 use Rattle.nq_names.proofs.Agreeing.{NoDelivery, deliver-agrees, deliver-done, deliver-there, inner-agrees, list-done}
 use Rattle.nq_names.proofs.Hearing.{client-there}
 use Rattle.nq_names.proofs.Reaching.{inner-leads, reached-over, reached-ran, reaches-beside, reaches-same}

@@ -15,7 +15,7 @@ use Rattle.nq_world.proofs.Going.{runs-are-lawful}
 use Rattle.nq_world.specs.Moving.{clients_in}
 use Rattle.nq_world.specs.Playing.{Plays, WorldOver, seen_of}
 use Rattle.nq_world.specs.declared.Stepped.{Stepped}
-use Rattle.nq_names.specs.Around.{AroundOver}
+use Rattle.nq_name_server.specs.Around.{AroundOver}
 use Rattle.nq_names.specs.Playing.{NamesOver, RunsInner, RunsTo, renewed_around}
 use Rattle.walk_steps.proofs.ServerMoves.{tick-keeps}
 use Rattle.walk_steps.proofs.ServerTables.{BootsFit, BootsFitOf}

@@ -18,9 +18,9 @@ use Rattle.nq_server.specs.State.{Beside}
 use Rattle.nq_world.proofs.Refused.{still-plays}
 use Rattle.nq_world.specs.Playing.{CountsFaults, GoesOn, HasSettings, IsAsBefore, Plays, WorldOver}
 use Rattle.nq_world.specs.declared.Stepped.{Stepped}
-use Rattle.nq_names.proofs.Sending.{none-due}
-use Rattle.nq_names.proofs.AroundTaking.{served_shows}
-use Rattle.nq_names.specs.Around.{AroundOver, IsHeldUp, once_sent, over, served_by}
+use Rattle.nq_name_server.proofs.GoingOut.{none-due}
+use Rattle.nq_name_server.proofs.Showing.{served_shows}
+use Rattle.nq_name_server.specs.Around.{AroundOver, IsHeldUp, once_sent, over, served_by}
 use Rattle.nq_names.specs.Playing.{NamesOver, RunsInner}
 use Rattle.nq_names.specs.Taking.{HoldsUp, IsAsBeforeOutside, IsHeldFor, ReadsKept, TakesBeside, TakesIn, outside_of, stepped_of}
 
