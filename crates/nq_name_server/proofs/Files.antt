@@ -12,10 +12,9 @@ use Rattle.nq_model.proofs.Finding.{decided, number-other}
 use Rattle.nq_model.specs.Change.{AreApart, IsFileWithin, IsWithinBounds, file_after, row_of, row_of_found}
 use Rattle.nq_model.specs.Kept.{File, Kept, find_file}
 use Rattle.nq_model.specs.Profile.{same_bytes}
-use Rattle.nq_name_server.specs.Outside.{Changes, changes_of, own_changes}
-use Rattle.nq_name_server.specs.Pages.{IsNext, changed_by}
+use Rattle.nq_name_server.specs.Outside.{Changes, changes_of}
+use Rattle.nq_name_server.specs.Pages.{IsNext}
 use Rattle.nq_name_server.specs.Served.{leaf_behind, name_of, names_behind}
-use Rattle.nq_name_server.specs.declared.change.MayChange.{MayChange}
 
 -- ---- the rows that are read
 
@@ -257,20 +256,3 @@ removes-own who file prefix kept r named within next same =
     let id : f.0.id ≡ file = sym (ap (λ (x : FileRow). x.id) f.1.1) ∙ same in
     ap (changing who) (named ∙ ap (λ (x : FileRow). directory x.name) f.1.1)
     ∙ sym (ap (changes_of who) (found-behind file kept within ∙ ap (of-id file) f.1.0 ∙ of-same file f.0 id))
-
--- ---- a change counts where it is of the host that sent it
-
-pub own-directory : (b : Bool) (kept : Kept) (c : Changes) → changed_by kept (if b then MayChange.Directory c else MayChange.Nothing) ≡ (if b then Some c else None)
-own-directory true kept c = refl
-own-directory false kept c = refl
-
-pub own-removal : (host : ℕ) (who : Who) (kept : Kept) (m : MayChange) (f : Option File) → changed_by kept m ≡ changes_of who f
-    → changed_by kept (if who.host == host then m else MayChange.Nothing) ≡ own_changes host (changes_of who f)
-own-removal host who kept m f is = by (who.host == host) f refl is
-  where
-    by : (b : Bool) (g : Option File) → (who.host == host) ≡ b → changed_by kept m ≡ changes_of who g
-        → changed_by kept (if b then m else MayChange.Nothing) ≡ own_changes host (changes_of who g)
-    by true None e same = same
-    by true (Some x) e same = same ∙ sym (rw e refl)
-    by false None e same = refl
-    by false (Some x) e same = sym (rw e refl)
