@@ -26,7 +26,7 @@ use Rattle.nq_names.specs.Taking.{HoldsUp, IsAsBeforeOutside, IsHeldFor, TakesBe
 still : {K : Type 0} (head : Head) (old new : NamesOver K) (told tells : Option Kept) → Plays head (reverse old.ran) old.inner told → IsAsBeforeOutside old new → tells ≡ told → Plays head (reverse old.ran) new.inner tells
 still head old new told tells plays before same = still-plays head (reverse old.ran) old.inner new.inner told tells plays before.inner same
 
--- ---- nothing was done
+-- ---- something was done beside the inner world
 
 -- something that stands around changed
 pub beside-made : {K : Type 0} (head : Head) (w new : NamesOver K) (told : Option Kept) (to : Outside) → Plays head (reverse w.ran) w.inner told → new.inner ≡ w.inner → new.ran ≡ w.ran → new.around.gone ≡ w.around.gone
@@ -37,8 +37,6 @@ beside-made head w new told to plays inner ran gone leads = record {
   gone = gone;
   leads = leads;
 }
-
--- ---- how it goes on
 
 -- ---- READDIRLOOK
 
