@@ -30,10 +30,6 @@ module _ {X : Type 0} (p : X → Bool) where
       step true h rest = (x, filter p xs, refl)
       step false h rest = rest h
 
--- a directory without a number is read by nobody
-pub unknown_free : (s : Served) (who : Who) (prefix : List ℕ) → number_of prefix s.directories ≡ None → holds_up s who prefix ≡ None
-unknown_free s who prefix none = ap (holds_as s who prefix) none
-
 -- one that no other host reads
 pub unread_free : (s : Served) (who : Who) (prefix : List ℕ) (number : ℕ) → number_of prefix s.directories ≡ Some number
     → is_some (find (conflicts number who.host Access.Write) s.table.rows) ≡ false → holds_up s who prefix ≡ None

@@ -1,5 +1,12 @@
+pub mod Bounded
+pub mod Files
+pub mod GoingOut
+pub mod Growing
 pub mod Holding
 pub mod Inner
 pub mod Replying
 pub mod Running
+pub mod Showing
 pub mod Telling
+pub mod Timing
+pub mod Together

@@ -1,5 +1,5 @@
 -- What a server makes of a READDIRLOOK, in the order of the code.
-use Rattle.std.proofs.Common.{◌≡◌, ◌<◌, ◌+◌, ◌%◌, ◌==◌, ℕ, suc, Bool, true, false, not, ◌&&◌, List, [], ◌∷◌, ◌++◌, Option, Some, None, if◌then◌else◌, length, refl, sym, ap, subst, ◌∙◌, arith, append_assoc}
+use Rattle.std.proofs.Common.{◌≡◌, ◌+◌, ◌%◌, ◌==◌, ℕ, suc, Bool, true, false, not, ◌&&◌, List, [], ◌∷◌, ◌++◌, Option, Some, None, if◌then◌else◌, length, refl, sym, ap, subst, ◌∙◌, arith, append_assoc}
 use Rattle.std.specs.Prelude.{nat_lt}
 use Rattle.std.proofs.lemmas.Bool.{eq-eqb}
 use Rattle.std.proofs.lemmas.Bool.Decides.{nat_tests}
@@ -51,23 +51,6 @@ numbered s r leaf number is = step (number_of r.prefix s.directories) refl is
         sym (ap (λ ds. reads_numbered (record s { directories = ds }) r leaf n) (old n known))
         ∙ ap (λ m. reads_numbered (record s { directories = entered m r.prefix s.directories }) r leaf m) same
     step None known e = next (nat_lt (length s.directories) most_directories) e
-
--- a number that is new is one of those that there may be
-pub next_is_left : (s : Served) (prefix : List ℕ) (number : ℕ) → number_for s prefix ≡ Some number → number ≡ length s.directories
-    → number < most_directories
-next_is_left s prefix number is new = step (number_of prefix s.directories) refl is
-  where
-    next : (b : Bool) → nat_lt (length s.directories) most_directories ≡ b → (if b then Some (length s.directories) else None) ≡ Some number
-        → number < most_directories
-    next true less e = grind (arith, nat_tests)
-    next false less e = absurd (cc)
-
-    step : (found : Option ℕ) → number_of prefix s.directories ≡ found → number_or_next s found ≡ Some number → number < most_directories
-    step (Some n) known e =
-        let same : n ≡ number = cc in
-        let below = (position-Some (λ d. same_bytes d prefix) s.directories n [] known).0 in
-        absurd (omega arith)
-    step None known e = next (nat_lt (length s.directories) most_directories) refl e
 
 -- where all numbers are taken, a page comes without a lease
 pub none_is_left : (s : Served) (r : ReadDir) (leaf : Leaf) → number_for s r.prefix ≡ None → reads_dir s r leaf ≡ answers s r s.table leaf None

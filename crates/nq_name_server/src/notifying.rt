@@ -46,7 +46,7 @@ impl NameServer {
     /// # Errors
     ///
     /// `NoMemory` where memory is wanting; then nothing is changed.
-    pub fn hold_up(
+    pub(crate) fn hold_up(
         &mut self,
         alloc: Global,
         who: Who,

@@ -37,7 +37,7 @@ impl NameServer {
     /// # Errors
     ///
     /// `NoMemory` where memory is wanting; then nothing is changed.
-    pub fn read_dir(
+    pub(crate) fn read_dir(
         &mut self,
         alloc: Global,
         request: &ReadDir,

@@ -17,6 +17,15 @@ use std::marker::Model;
 /// The most directories on which a boot grants leases.
 pub(crate) const MOST_DIRECTORIES: usize = 256;
 
+/// One more than the last time that a clock shows, and than the last number of a lease.
+pub(crate) const NUMBERS_END: u64 = 1 << 62;
+
+/// The least longest term of a boot, in ticks.
+const SHORTEST_TERM: u32 = 5;
+
+/// The greatest one.
+const LONGEST_TERM: u32 = 600;
+
 /// The number of the first DIREVICTED of a boot.
 const FIRST_NOTICE: u32 = 1 << 31;
 
@@ -48,17 +57,17 @@ impl Model for NameServer {
 }
 
 impl NameServer {
-    /// What a boot keeps at first: nothing. Its longest term is 5 to 600 ticks, and its time is below 2^62.
+    /// What a boot keeps at first: nothing.
     ///
     /// # Errors
     ///
-    /// Only want of memory.
+    /// Want of memory. There is no boot with a longest term beyond 5 to 600 ticks, or at a time from 2^62 on, which no clock shows.
     pub fn new(alloc: Global, boot: u32, longest: u32, time: Ticks) -> Result<NameServer, NoMemory>
-        requires long { 5 ≤ longest }
-        requires short { longest ≤ 600 }
-        requires early { time < 2 ^ 62 }
         ensures { IfOk result (λ s. s ≡ new_served boot longest time) }
     {
+        if longest < SHORTEST_TERM || longest > LONGEST_TERM || time.0 >= NUMBERS_END {
+            return Err(NoMemory::Memory);
+        }
         let table = Table::new(alloc, boot)?;
         let directories = Vec::with_capacity(alloc, MOST_DIRECTORIES)?;
         Ok(NameServer {
@@ -72,7 +81,7 @@ impl NameServer {
 
     /// The server's clock shows this time, which is not below the last one, and below 2^62: reading leases that are over end. It takes
     /// no memory.
-    pub fn tick(&mut self, time: Ticks)
+    pub(crate) fn tick(&mut self, time: Ticks)
         requires later { self.old.time ≤ time }
         requires early { time < 2 ^ 62 }
         ensures { self.new ≡ ticks self.old time }
@@ -82,7 +91,7 @@ impl NameServer {
     }
 
     /// A host gives a list up: the row goes where the incarnation and the latest tag are its own. It takes no memory.
-    pub fn vacated(&mut self, said: &DirTag)
+    pub(crate) fn vacated(&mut self, said: &DirTag)
         ensures { self.new ≡ vacates self.old said.now }
     {
         if let Some(number) = self.number_of(&said.prefix) {
@@ -104,7 +113,7 @@ impl NameServer {
     }
 
     /// The lease table, in which the number of a directory stands for a file.
-    pub fn table(&self) -> &Table
+    pub(crate) fn table(&self) -> &Table
         ensures { result.now ≡ self.now.table }
     {
         &self.table

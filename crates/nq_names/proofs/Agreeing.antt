@@ -15,7 +15,7 @@ use Rattle.nq_name_server.specs.Outside.{outside_run}
 use Rattle.nq_name_server.proofs.Inner.{runs-inside}
 use Rattle.nq_world.specs.Answering.{told as answer_of}
 use Rattle.nq_world.specs.declared.Stepped.{Stepped}
-use Rattle.nq_names.proofs.Bounded.{few-run, runs-fine}
+use Rattle.nq_name_server.proofs.Bounded.{few-run, runs-fine}
 use Rattle.nq_names.specs.Playing.{IsLeft, IsTested, stepped_outside, tested_outside}
 
 -- ---- tests
@@ -124,16 +124,6 @@ deliver-agrees head events n k p there stands left =
 
 -- ---- the tests of the code
 
-pub events-tested : (head : Head) (events : List NameEvent) (event : NameEvent) (n : ℕ) → n ≡ length events → most_events ≤ n → stepped_outside head events event ≡ too_many_events
-events-tested head events event n is many =
-    let over : nat_lt (length events) most_events ≡ false = grind (arith, nat_tests) in
-    ap (λ t. if t then tested_outside head (outside_run head events) event else too_many_events) over
-
-pub few-tested : (head : Head) (events : List NameEvent) (event : NameEvent) (n : ℕ) → n ≡ length events → n < most_events → stepped_outside head events event ≡ tested_outside head (outside_run head events) event
-few-tested head events event n is few =
-    let under : nat_lt (length events) most_events ≡ true = grind (arith, nat_tests) in
-    ap (λ t. if t then tested_outside head (outside_run head events) event else too_many_events) under
-
 tested-as : (answer : Answer) → ((b : SkewBroken) → answer ≡ out_of_skew b → ⊥) → IsTested (answer_of answer) answer
 tested-as done free = tt
 tested-as no_packet free = refl
@@ -151,10 +141,6 @@ room-no-skew false b is = cc
 pub no-skew-room : (sent : ℕ) (b : SkewBroken) → tested_room sent ≡ out_of_skew b → ⊥
 no-skew-room sent b is = room-no-skew (nat_lt most_sent sent) b is
 
-pub no-skew-packet : (there : Bool) (sent : ℕ) (b : SkewBroken) → (if there then tested_room sent else no_packet) ≡ out_of_skew b → ⊥
-no-skew-packet true sent b is = no-skew-room sent b is
-no-skew-packet false sent b is = cc
-
 -- a tick that keeps the rule, and one that breaks it
 pub tick-lawful : (hosts longest sent : ℕ) (earlier : List Event) (said : Stepped) → IsWithinSkew hosts longest earlier → IsWithinSkew hosts longest (Event.ServerTick ∷ earlier) → said ≡ answer_of (tested_room sent) → IsTested said (tested_skew sent (skew_broken hosts longest earlier))
 tick-lawful hosts longest sent earlier said within next is =
@@ -167,13 +153,3 @@ tick-left sent (Some b) free = tt
 
 pub tick-unlawful : (hosts longest sent : ℕ) (earlier : List Event) → IsWithinSkew hosts longest earlier → (IsWithinSkew hosts longest (Event.ServerTick ∷ earlier) → ⊥) → IsTested Stepped.Done (tested_skew sent (skew_broken hosts longest earlier))
 tick-unlawful hosts longest sent earlier within not = tick-left sent (skew_broken hosts longest earlier) (λ none. not ((each-tick-is-judged hosts longest earlier within).within none))
-
--- what is left to be delivered travels
-pub deliver-there : (head : Head) (events : List NameEvent) (n : ℕ) → IsLeft (stepped_outside head events (NameEvent.Plain (Event.Deliver n))) → n < length (outside_run head events).sent
-deliver-there head events n left =
-    let o = outside_run head events in
-    let there = nat_lt n (length o.sent) in
-    let first = left-first (nat_lt (length events) most_events) (if there then tested_room (length o.sent) else no_packet) left in
-    let second = sent-left there (length o.sent) first.1 in
-    let is : nat_lt n (length o.sent) ≡ true = second.0 in
-    grind (arith, nat_tests)

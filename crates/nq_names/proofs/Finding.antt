@@ -9,7 +9,7 @@ use Rattle.nq_name_cache.specs.declared.Found.{Found}
 use Rattle.nq_name_server.specs.declared.run.event.NameEvent.{NameEvent}
 use Rattle.nq_name_server.specs.Outside.{found, found_by, outside_run}
 use Rattle.nq_name_server.specs.Theorem.{kept_as}
-use Rattle.nq_names.proofs.Sending.{there}
+use Rattle.nq_name_server.proofs.GoingOut.{there}
 use Rattle.nq_names.proofs.Hearing.{client-there}
 use Rattle.nq_names.proofs.Reaching.{reached-sides, reached-world}
 use Rattle.nq_names.specs.Playing.{NamesOver, Reaches}

@@ -16,8 +16,8 @@ use Rattle.nq_name_server.specs.Outer.{Outside}
 use Rattle.nq_name_server.specs.Outside.{heard_by, is_change, is_changing}
 use Rattle.nq_world.specs.Moving.{clients_in}
 use Rattle.nq_world.specs.Playing.{Plays, WorldOver}
-use Rattle.nq_names.proofs.Sending.{none-due, there}
-use Rattle.nq_names.specs.Around.{AroundOver, once_sent, over}
+use Rattle.nq_name_server.proofs.GoingOut.{none-due, there}
+use Rattle.nq_name_server.specs.Around.{AroundOver, once_sent, over}
 
 -- a client of a world that plays a run is the run's
 pub client-there : {K : Type 0} (head : Head) (ran : List Event) (w : WorldOver K) (told : Option Kept) → Plays head ran w told → (host : ℕ) (c : Counted)

@@ -1,12 +1,9 @@
 -- Reading what is kept, call by call.
-use Rattle.std.proofs.Common.{◌≡◌, ℕ, Option, refl, subst, ◌∙◌}
-use Rattle.std.specs.Prelude.{Err}
-use Rattle.nq_keeper.specs.Keeping.{Reads}
-use Rattle.nq_keeper.specs.declared.keeper.KeepFault.{KeepFault}
+use Rattle.std.proofs.Common.{◌≡◌, ℕ, Option, refl, ◌∙◌}
 use Rattle.nq_model.specs.Kept.{Kept}
 use Rattle.nq_world.specs.Playing.{IsAsBefore, WorldOver}
 use Rattle.nq_names.specs.Playing.{NamesOver}
-use Rattle.nq_names.specs.Taking.{IsAsBeforeOutside, ReadsKept}
+use Rattle.nq_names.specs.Taking.{IsAsBeforeOutside}
 
 -- a keeper was read and did not fail
 pub record StillReads {K : Type 0} (content : K → Option Kept) (faults : K → ℕ) (follows : K → K → Type 0) (old new : NamesOver K) : Type 0 where
@@ -55,20 +52,3 @@ reads-on content faults follows old mid new on still said = record {
   count = said.1.1 ∙ still.count;
   goes = on _ _ _ still.goes said.2;
 }
-
-pub reads-said : {K : Type 0} (content : K → Option Kept) (faults : K → ℕ) (follows : K → K → Type 0) (old new : NamesOver K) → StillReads content faults follows old new → SaysRead content faults follows old new
-reads-said content faults follows old new still = (still.before, (still.tells, still.count), still.goes)
-
--- a fault is the same one in an answer of another kind
-same-fault : (A B : Type 0) (fault : KeepFault) (told tells : Option Kept) (before now : ℕ) → Reads {X = A} (Err fault) told tells before now → Reads {X = B} (Err fault) told tells before now
-same-fault A B KeepFault.Failed told tells before now r = r
-same-fault A B KeepFault.Memory told tells before now r = r
-
-pub reads-failed : {K : Type 0} (A B : Type 0) (content : K → Option Kept) (faults : K → ℕ) (follows : K → K → Type 0) (old mid new : NamesOver K) (fault : KeepFault) → ((a b c : K) → follows a b → follows b c → follows a c)
-    → StillReads content faults follows old mid → ReadsKept {A = A} content faults follows (Err fault) mid new → ReadsKept {A = B} content faults follows (Err fault) old new
-reads-failed A B content faults follows old mid new fault on still said =
-    let now = faults new.inner.server.keeper in
-    let tells = content new.inner.server.keeper in
-    let one = subst (λ t. Reads {X = A} (Err fault) t tells (faults mid.inner.server.keeper) now) still.tells said.1 in
-    let two = subst (λ n. Reads {X = A} (Err fault) (content old.inner.server.keeper) tells n now) still.count one in
-    (outside-on old mid new still.before said.0, same-fault A B fault (content old.inner.server.keeper) tells (faults old.inner.server.keeper) now two, on _ _ _ still.goes said.2)

@@ -13,9 +13,9 @@ use Rattle.nq_name_server.specs.Outside.{delivers, inner, lists, outside_run, ou
 use Rattle.nq_world.specs.Answering.{IsOfTests}
 use Rattle.nq_world.specs.Playing.{Plays}
 use Rattle.nq_world.specs.declared.Stepped.{Stepped}
-use Rattle.nq_names.proofs.Sending.{there}
-use Rattle.nq_names.specs.Around.{once_sent, over}
-use Rattle.nq_names.proofs.Agreeing.{NoDelivery, deliver-agrees, deliver-done, deliver-there, inner-agrees, list-done}
+use Rattle.nq_name_server.proofs.GoingOut.{there}
+use Rattle.nq_name_server.specs.Around.{once_sent, over}
+use Rattle.nq_names.proofs.Agreeing.{NoDelivery, deliver-agrees, deliver-done, inner-agrees, list-done}
 use Rattle.nq_names.proofs.Hearing.{client-there}
 use Rattle.nq_names.proofs.Reaching.{inner-leads, reached-over, reached-ran, reaches-beside, reaches-same}
 use Rattle.nq_names.specs.Playing.{IsLeft, IsReady, IsTested, Leads, NamesOver, Reaches, RunsInner, stepped_outside}
@@ -42,10 +42,6 @@ plain-leads head events event said old new told tells free ready r left runs =
     inner-leads head events (NameEvent.Plain event) event said old new told tells ready r agree (plain-step (over (run head rn) rn old.around) event free) tt left (runs r.inner)
 
 -- ---- a delivery
-
-pub travels-there : {K : Type 0} (head : Head) (events : List NameEvent) (n : ℕ) (w : NamesOver K) (told : Option Kept) → IsReady w → Reaches head events w told → IsLeft (stepped_outside head events (NameEvent.Plain (Event.Deliver n))) → n < length w.around.sent
-travels-there head events n w told ready r left =
-    subst (λ (o : Outside). n < length o.sent) (reached-over head events w told ready r) (deliver-there head events n left)
 
 delivers-some : (o : Outside) (n : ℕ) (p : Outer) → slice_get o.sent n ≡ Some p → outside_step o (NameEvent.Plain (Event.Deliver n)) ≡ takes o p p.to
 delivers-some o n p is = ap (delivers o) is

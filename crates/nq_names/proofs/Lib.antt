@@ -1,15 +1,8 @@
 pub mod Agreeing
-pub mod AroundTaking
-pub mod Bounded
-pub mod Files
 pub mod Finding
-pub mod Growing
 pub mod Hearing
 pub mod Keeping
 pub mod Leading
 pub mod Reaching
 pub mod Renewing
-pub mod Sending
 pub mod Taking
-pub mod Timing
-pub mod Together

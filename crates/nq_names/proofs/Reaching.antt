@@ -3,7 +3,7 @@ use Rattle.std.proofs.Common.{◌≡◌, ◌≤◌, ◌<◌, ℕ, ◌+◌, true,
 use Rattle.std.proofs.lemmas.List.{drop_all, length-map, map_more, reverse-append, take_all}
 use Rattle.std.proofs.lemmas.Bool.Decides.{nat_tests}
 use Rattle.std.proofs.lemmas.Option.{get_or_from_slice_get}
-use Rattle.std.specs.Prelude.{IfSome, nat_lt, slice_get}
+use Rattle.std.specs.Prelude.{Result, Ok, Err, IfSome, OnOk, nat_lt, slice_get}
 use Rattle.nq_base.specs.declared.Event.{Event}
 use Rattle.nq_base.specs.declared.Party.{Party}
 use Rattle.nq_client.specs.Counted.{Counted}
@@ -32,10 +32,10 @@ use Rattle.nq_world.specs.Answering.{told as answer_of}
 use Rattle.nq_world.specs.Playing.{Plays, WorldOver, seen_of}
 use Rattle.nq_world.specs.Shown.{datagram}
 use Rattle.nq_world.specs.declared.Stepped.{Stepped}
-use Rattle.nq_names.proofs.Sending.{none-due, there}
-use Rattle.nq_names.specs.Around.{AroundOver, new_around, once_sent, over, shown, with_due}
+use Rattle.nq_name_server.proofs.GoingOut.{none-due, there}
+use Rattle.nq_name_server.specs.Around.{AroundOver, new_around, once_sent, over, shown, with_due}
 use Rattle.nq_names.proofs.Agreeing.{left-first}
-use Rattle.nq_names.proofs.Growing.{grows}
+use Rattle.nq_name_server.proofs.Growing.{grows}
 use Rattle.nq_names.specs.Playing.{IsKept, IsLeft, IsReady, IsSettled, Leads, NamesOver, PlaysOutside, Reaches, RunsInner, renewed_around, stepped_outside, tested_outside}
 
 -- there are as many datagrams as packets
@@ -267,8 +267,9 @@ settled-plays head events w a told same gone p =
       counted = p.counted;
     }
 
-pub settled-ready : (n : ℕ) (a : AroundOver) → a.due ≡ [] → n ≤ a.gone → a.gone ≤ n → IsSettled n a
-settled-ready n a none all gone = record { none_due = none; all_gone = omega arith }
+pub settled-on : {A E : Type 0} (r : Result A E) (n : ℕ) (packets : ℕ) (a : AroundOver) → packets ≡ n → OnOk r (a.due ≡ []) → OnOk r (packets ≤ a.gone) → a.gone ≤ n → OnOk r (IsSettled n a)
+settled-on (Ok x) n packets a same none all gone = record { none_due = none; all_gone = omega arith }
+settled-on (Err e) n packets a same none all gone = tt
 
 -- ---- the beginning
 

@@ -1,5 +1,5 @@
 -- What running an event of the inner world changes around it.
-use Rattle.std.proofs.Common.{◌≡◌, ◌≢◌, ℕ, ◌+◌, List, ◌∷◌, reverse, Option, refl, sym, ap, subst, ◌∙◌}
+use Rattle.std.proofs.Common.{◌≡◌, ℕ, ◌+◌, List, ◌∷◌, reverse, Option, refl, sym, ap, subst, ◌∙◌}
 use Rattle.nq_base.specs.declared.Event.{Event}
 use Rattle.nq_model.specs.Kept.{Kept}
 use Rattle.nq_model.specs.Server.{Phase, serving, recovering, Server, ServerStep}
@@ -12,11 +12,10 @@ use Rattle.nq_name_server.specs.Serving.{ticks}
 use Rattle.nq_name_server.specs.Outer.{of_boot}
 use Rattle.nq_server.specs.State.{Beside}
 use Rattle.nq_world.proofs.Going.{runs-are-lawful}
-use Rattle.nq_world.specs.Moving.{clients_in}
 use Rattle.nq_world.specs.Playing.{Plays, WorldOver, seen_of}
 use Rattle.nq_world.specs.declared.Stepped.{Stepped}
-use Rattle.nq_names.specs.Around.{AroundOver}
-use Rattle.nq_names.specs.Playing.{NamesOver, RunsInner, RunsTo, renewed_around}
+use Rattle.nq_name_server.specs.Around.{AroundOver}
+use Rattle.nq_names.specs.Playing.{NamesOver, RunsInner, RunsTo}
 use Rattle.walk_steps.proofs.ServerMoves.{tick-keeps}
 use Rattle.walk_steps.proofs.ServerTables.{BootsFit, BootsFitOf}
 
@@ -61,28 +60,6 @@ crash-leases head events w told longest plays =
     ∙ ap (λ (x : Server). new_served x.table.boot x.longest x.now) (sym of)
 
 -- ---- what stands around
-
--- where the event was not taken in, it does not matter what would stand around then
-pub runs-refused : {K : Type 0} (head : Head) (e : Event) (said : Stepped) (old new : NamesOver K) (told tells : Option Kept) (a b : AroundOver) → said ≢ Stepped.Done
-    → RunsTo head e said old new told tells a → RunsTo head e said old new told tells b
-runs-refused head e Stepped.Done old new told tells a b other r = absurd (other refl)
-runs-refused head e Stepped.Fault old new told tells a b other r = r
-runs-refused head e Stepped.Memory old new told tells a b other r = r
-runs-refused head e Stepped.NoPacket old new told tells a b other r = r
-runs-refused head e (Stepped.SkewBroken broken) old new told tells a b other r = r
-runs-refused head e (Stepped.Limit limit) old new told tells a b other r = r
-
-pub runs-renewed : {K : Type 0} (head : Head) (e : Event) (old mid new : NamesOver K) (told tells : Option Kept) → RunsTo head e Stepped.Done old mid told tells old.around
-    → mid.around ≡ old.around
-    → ((w : World) → w.clients ≡ clients_in mid.inner.clients → new.around ≡ renewed_around e w mid.around) → new.inner ≡ mid.inner → new.ran ≡ mid.ran
-    → RunsInner head e Stepped.Done old new told tells
-runs-renewed head e old mid new told tells r same renewed inner ran =
-    let v = step (run head (reverse old.ran)) e in (
-      r.0,
-      subst (λ i. Plays head (e ∷ reverse old.ran) i tells) (sym inner) r.1,
-      ran ∙ r.2,
-      renewed v (sym r.1.shown.shows.clients) ∙ ap (renewed_around e v) same,
-    )
 
 -- a tick of the server's clock
 pub runs-ticked : {K : Type 0} (head : Head) (time : ℕ) (old mid new : NamesOver K) (told tells : Option Kept) → Plays head (reverse old.ran) old.inner told

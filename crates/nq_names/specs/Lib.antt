@@ -1,4 +1,2 @@
-pub mod Around
-pub mod Pages
 pub mod Playing
 pub mod Taking

@@ -16,7 +16,7 @@ use Rattle.nq_name_server.specs.Theorem.{FindsWhatIsKept, IsNamesSchedule}
 use Rattle.nq_world.specs.Answering.{told as answer_of}
 use Rattle.nq_world.specs.Playing.{WorldOver, Plays, CanCome}
 use Rattle.nq_world.specs.declared.Stepped.{Stepped}
-use Rattle.nq_names.specs.Around.{AroundOver, shown}
+use Rattle.nq_name_server.specs.Around.{AroundOver, shown}
 
 -- a world with leased directories: the inner world, what stands around it, the inner events with the oldest first, and how many events
 -- were taken in

@@ -11,7 +11,7 @@ use Rattle.nq_name_server.specs.Serving.{holds_up}
 use Rattle.nq_name_server.specs.Outside.{Changes, inner, passes}
 use Rattle.nq_world.specs.Playing.{IsAsBefore, Plays}
 use Rattle.nq_world.specs.declared.Stepped.{Stepped}
-use Rattle.nq_names.specs.Around.{IsHeldUp, once_sent, over}
+use Rattle.nq_name_server.specs.Around.{IsHeldUp, once_sent, over}
 use Rattle.nq_names.specs.Playing.{NamesOver, RunsInner}
 
 -- what a fault of the keeper means for an event

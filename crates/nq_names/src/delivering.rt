@@ -1,28 +1,25 @@
 //! Lists that are asked for, and packets that are taken in.
 
-ghost use Rattle.std.specs.Prelude.{◌≡◌, ◌<◌, ◌^◌, ◌&&◌, not, [], List, Option, Some, length, reverse, slice_get, IfOk, OnOk, OnErr};
+ghost use Rattle.std.specs.Prelude.{◌≡◌, ◌<◌, ◌&&◌, not, [], List, Option, Some, length, reverse, slice_get, OnOk, OnErr};
 ghost use Rattle.nq_base.specs.declared.Event.{Event};
 ghost use Rattle.nq_client.specs.Counted.{Counted};
 ghost use Rattle.nq_datagrams.specs.Incoming.{datagram_in};
 ghost use Rattle.nq_model.specs.Kept.{Kept};
 ghost use Rattle.nq_model.specs.World.{Head, World as Model, run};
-ghost use Rattle.nq_name_cache.specs.Asking.{lists_dir};
-ghost use Rattle.nq_name_cache.specs.Names.{Names};
 ghost use Rattle.nq_names.specs.Playing.{IsLeft, IsReady, Leads, Reaches, stepped_outside};
 ghost use Rattle.nq_names.specs.Taking.{IsOfLists, TakesIn, outside_of, stepped_of};
-ghost use Rattle.nq_names.specs.Around.{once_sent, over};
+ghost use Rattle.nq_name_server.specs.Around.{once_sent, over};
 ghost use Rattle.nq_name_server.specs.declared.run.event.NameEvent.{NameEvent};
-ghost use Rattle.nq_name_server.specs.Outside.{asks_as, changes_as, heard_by, is_change, is_changing, lists, passes, serves, takes, to_host, to_server};
+ghost use Rattle.nq_name_server.specs.Outside.{changes_as, heard_by, is_change, is_changing, lists, passes, serves, takes, to_host, to_server};
 ghost use Rattle.nq_directory.specs.Prefix.{IsPrefix};
 ghost use Rattle.nq_world.specs.Moving.{clients_in};
 ghost use Rattle.nq_world.specs.Playing.{GoesOn, Plays};
 
-use crate::around::Travelling;
-use crate::running::TIMES_END;
 use crate::world::NameWorld;
 use nq_base::{Call, Event, Host, NoMemory, Party, Ticks};
 use nq_directory::Prefix;
 use nq_keeper::{KeepFault, Keeper};
+use nq_name_server::around::Travelling;
 use nq_world::Stepped;
 
 /// What a fault of the keeper means for an event.
@@ -81,8 +78,10 @@ impl<K: Keeper> NameWorld<K> {
         ensures ran { self.new.ran ≡ self.old.ran }
         ensures count { self.new.events ≡ self.old.events }
     {
-        if self.may_list(host) && self.around.is_there(host) {
-            self.ask_for(host, prefix)
+        if self.may_list(host) {
+            let now = self.time_of(host);
+            let term = self.term_of(host);
+            self.around.ask_for(host, prefix, term, now)
         } else {
             Ok(())
         }
@@ -108,36 +107,12 @@ impl<K: Keeper> NameWorld<K> {
         }
     }
 
-    /// A host that is there asks for the list of a directory.
-    fn ask_for(&mut self, host: Host, prefix: &Prefix) -> Result<(), NoMemory>
-        requires settled { self.old.around.due ≡ [] }
-        requires there { host < length self.old.inner.clients }
-        requires side { host < length self.old.around.sides }
-        ensures asks { OnOk result ((w : Model) (ran : List Event) (c : Counted) (n : Names) → slice_get self.old.inner.clients host ≡ Some c → slice_get self.old.around.sides host ≡ Some n
-            → once_sent w ran self.new.around ≡ asks_as (over w ran self.old.around) host (lists_dir n prefix.now c.client.term c.client.now)) }
-        ensures gone { self.new.around.gone ≡ self.old.around.gone }
-        ensures refused { OnErr result (self.new.around ≡ self.old.around) }
-        ensures inner { self.new.inner ≡ self.old.inner }
-        ensures ran { self.new.ran ≡ self.old.ran }
-        ensures count { self.new.events ≡ self.old.events }
-    {
-        let now = self.time_of(host)?;
-        let term = self.term_of(host);
-        self.around.ask_for(host, prefix, term, now)
-    }
-
-    /// The time of a host's clock, which shows no time from 2^62 on.
-    fn time_of(&self, host: Host) -> Result<Ticks, NoMemory>
+    /// The time of a host's clock.
+    fn time_of(&self, host: Host) -> Ticks
         requires { host < length self.now.inner.clients }
-        ensures time { IfOk result (λ time. (c : Counted) → slice_get self.now.inner.clients host ≡ Some c → c.client.now ≡ time) }
-        ensures early { IfOk result (λ time. time < 2 ^ 62) }
+        ensures { (c : Counted) → slice_get self.now.inner.clients host ≡ Some c → c.client.now ≡ result }
     {
-        let time = self.world.client(host).time();
-        if time.0 < TIMES_END {
-            Ok(time)
-        } else {
-            Err(NoMemory::Memory)
-        }
+        self.world.client(host).time()
     }
 
     /// The term that a host wants.
@@ -275,7 +250,7 @@ impl<K: Keeper> NameWorld<K> {
         ensures ran { self.new.ran ≡ self.old.ran }
         ensures count { self.new.events ≡ self.old.events }
     {
-        let now = self.time_of(host)?;
+        let now = self.time_of(host);
         let term = self.term_of(host);
         self.around.hear(host, datagram, term, now)
     }

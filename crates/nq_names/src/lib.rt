@@ -5,7 +5,6 @@
 //! lists, and that a host which knows of a name knows what the server keeps under it.
 #![tactic(auto)]
 
-pub mod around;
 mod copying;
 mod delivering;
 mod reading;

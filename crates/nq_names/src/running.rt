@@ -15,32 +15,6 @@ use nq_base::{Event, NoMemory, Ticks};
 use nq_keeper::Keeper;
 use nq_name_server::NameServer;
 use nq_world::Stepped;
-use std::alloc::Global;
-
-/// One more than the last time that a clock shows.
-pub(crate) const TIMES_END: u64 = 1 << 62;
-
-/// The least longest term of a boot, in ticks.
-const SHORTEST_TERM: u32 = 5;
-
-/// The greatest one.
-const LONGEST_TERM: u32 = 600;
-
-/// The leases on directories of a boot at first: none. There is no boot with a longest term beyond 5 to 600 ticks, or at a time that no
-/// clock shows.
-pub(crate) fn no_leases(
-    alloc: Global,
-    boot: u32,
-    longest: u32,
-    time: Ticks,
-) -> Result<NameServer, NoMemory>
-    ensures { IfOk result (λ s. s ≡ new_served boot longest time) }
-{
-    if longest < SHORTEST_TERM || longest > LONGEST_TERM || time.0 >= TIMES_END {
-        return Err(NoMemory::Memory);
-    }
-    NameServer::new(alloc, boot, longest, time)
-}
 
 impl<K: Keeper> NameWorld<K> {
     /// Runs an event of the inner world that leaves the leases on directories.
@@ -178,6 +152,6 @@ impl<K: Keeper> NameWorld<K> {
         let Some(boot) = self.world.boot().checked_add(1) else {
             return Err(NoMemory::Memory);
         };
-        no_leases(self.alloc, boot, longest, time)
+        NameServer::new(self.alloc, boot, longest, time)
     }
 }

@@ -1,22 +1,21 @@
 //! READDIRLOOK, DIRVACATED, and requests that change a directory, as the server's side takes them in.
 
-ghost use Rattle.std.specs.Prelude.{◌≡◌, ◌≤◌, [], List, Ok, length, reverse, OnOk, OnErr, IfOk};
+ghost use Rattle.std.specs.Prelude.{◌≡◌, [], List, Ok, reverse, OnOk, OnErr, IfOk};
 ghost use Rattle.nq_base.specs.declared.Event.{Event};
 ghost use Rattle.nq_datagrams.specs.Incoming.{datagram_in};
-ghost use Rattle.nq_listing.specs.Messages.{most_names};
 ghost use Rattle.nq_listing.specs.Reading.{dir_vacated_in, read_dir_in};
 ghost use Rattle.nq_model.specs.World.{Head, World as Model, run};
 ghost use Rattle.nq_name_server.specs.Serving.{reads_dir};
 ghost use Rattle.nq_names.specs.Taking.{HoldsUp, IsHeldFor, TakesBeside, outside_of, stepped_of};
-ghost use Rattle.nq_names.specs.Around.{once_sent, over, served_by};
+ghost use Rattle.nq_name_server.specs.Around.{once_sent, over, served_by};
 ghost use Rattle.nq_name_server.specs.Outside.{changes_as, reads, reads_in, served_read, served_vacated};
 ghost use Rattle.nq_world.specs.Playing.{GoesOn, Plays};
 
-use crate::reading::{DirChange, Leaf};
 use crate::world::NameWorld;
 use nq_base::{Host, NoMemory};
 use nq_keeper::{KeepFault, Keeper};
-use nq_listing::{ReadDir, read_dir_vacated, read_read_dir};
+use nq_listing::{ReadDir, read_read_dir};
+use nq_name_server::{BegunLeaf, DirChange};
 
 impl<K: Keeper> NameWorld<K> {
     /// The server's side takes in a host's packet that is none of the inner world.
@@ -46,11 +45,7 @@ impl<K: Keeper> NameWorld<K> {
         ensures ran { self.new.ran ≡ self.old.ran }
         ensures count { self.new.events ≡ self.old.events }
     {
-        if let Some(vacated) = read_dir_vacated(datagram) {
-            if vacated.who.host == host {
-                self.around.vacated(&vacated);
-            }
-        }
+        self.around.give_up(host, datagram);
     }
 
     /// A READDIRLOOK: one of another host or of an incarnation that is not attached is dropped.
@@ -93,17 +88,12 @@ impl<K: Keeper> NameWorld<K> {
     }
 
     /// Gives a page, with a lease on the directory, if one is granted.
-    fn give_page(&mut self, request: &ReadDir, leaf: &Leaf) -> Result<(), NoMemory>
-        requires few { length leaf.now.names ≤ most_names }
-        requires settled { self.old.around.due ≡ [] }
-        ensures gives { OnOk result (self.new ≡ record self.old { around = served_by self.old.around (reads_dir self.old.around.served request.now leaf.now) }) }
+    fn give_page(&mut self, request: &ReadDir, leaf: &BegunLeaf) -> Result<(), NoMemory>
+        requires { self.old.around.due ≡ [] }
+        ensures gives { OnOk result (self.new ≡ record self.old { around = served_by self.old.around (reads_dir self.old.around.served request.now leaf.now.leaf) }) }
         ensures refused { OnErr result (self.new ≡ self.old) }
     {
-        if self.around.may_lease() {
-            self.around.read_dir(request, &leaf.names, leaf.more)
-        } else {
-            Err(NoMemory::Memory)
-        }
+        self.around.read_dir(request, leaf)
     }
 
     /// Whether a host's packet of the inner world is a request that changes a directory which another host reads: then it goes no
@@ -125,16 +115,11 @@ impl<K: Keeper> NameWorld<K> {
     fn hold_up_for(&mut self, change: &DirChange) -> Result<bool, NoMemory>
         requires { self.old.around.due ≡ [] }
         ensures held { IfOk result (λ held. IsHeldFor held change.now self.old self.new) }
-        ensures gone { self.new.around.gone ≡ self.old.around.gone }
         ensures refused { OnErr result (self.new ≡ self.old) }
         ensures inner { self.new.inner ≡ self.old.inner }
         ensures ran { self.new.ran ≡ self.old.ran }
         ensures count { self.new.events ≡ self.old.events }
     {
-        if self.around.may_lease() {
-            self.around.hold_up(change.who, &change.prefix)
-        } else {
-            Err(NoMemory::Memory)
-        }
+        self.around.hold_up(change)
     }
 }

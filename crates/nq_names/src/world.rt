@@ -8,18 +8,18 @@ ghost use Rattle.nq_name_cache.specs.Names.{new_names};
 ghost use Rattle.nq_name_cache.specs.declared.Found.{Found};
 ghost use Rattle.nq_name_server.specs.Served.{new_served};
 ghost use Rattle.nq_names.specs.Playing.{CanComeOutside, IsReady, PlaysOutside, StepsOutside};
-ghost use Rattle.nq_names.specs.Around.{datagram_of, new_around};
+ghost use Rattle.nq_name_server.specs.Around.{datagram_of, new_around};
 ghost use Rattle.nq_name_server.specs.declared.run.event.NameEvent.{NameEvent};
 ghost use Rattle.nq_name_server.specs.Outside.{found, outside_run};
 ghost use Rattle.nq_name_server.specs.Theorem.{kept_as};
 ghost use Rattle.nq_world.specs.Playing.{CountsFaults, HasSettings, Plays};
 ghost use Rattle.nq_world.specs.declared.NewFault.{NewFault};
 
-use crate::around::Around;
-use crate::running::no_leases;
 use nq_base::{Host, Journal, Name, NoMemory, Party};
 use nq_keeper::Keeper;
 use nq_name_cache::{Found, NameCache};
+use nq_name_server::NameServer;
+use nq_name_server::around::Around;
 use nq_name_server::run::NameEvent;
 use nq_net::Packets;
 use nq_script::Schedule;
@@ -90,7 +90,7 @@ fn around<K: Keeper>(alloc: Global, world: &World<K>, hosts: u32) -> Result<Arou
 {
     let sides = sides_of(alloc, world, hosts)?;
     let time = world.server_time();
-    let server = no_leases(alloc, world.boot(), world.longest(), time)?;
+    let server = NameServer::new(alloc, world.boot(), world.longest(), time)?;
     Around::new(alloc, server, time, sides)
 }
 

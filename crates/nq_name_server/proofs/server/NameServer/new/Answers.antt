@@ -8,9 +8,9 @@ pub invariant_of-result : goal.invariant_of-result
 unfolding empty_table
 invariant_of-result c = (
   record {
-    early = c.requires.early;
-    long = c.requires.long;
-    short = c.requires.short;
+    early = omega arith;
+    long = omega arith;
+    short = omega arith;
     run = subst (λ t. RowsRun c.args.time t.rows) (sym c.in_ok-table.ensures) tt;
     few = subst (λ l. length l ≤ most_directories) (sym c.in_ok-directories.ensures.items) (omega arith);
   },

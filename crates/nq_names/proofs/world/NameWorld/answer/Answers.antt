@@ -12,7 +12,7 @@ returns-in_ok-give_page-clause-takes g c = λ head plays.
     let phase : c.args.self.now.inner.server.beside.phase ≡ serving = ap (λ (w : NamesOver _). w.inner.server.beside.phase) (sym c.self.view_is) ∙ c.serving.ensures.0 c.if-serving.true in
     answered-page head c.args.self.now c.leaf.new.self c.give_page.new.self (g.K.Keeper.content c.args.self.now.inner.server.keeper) (g.K.Keeper.content c.give_page.new.self.inner.server.keeper) c.args.request.now _ plays phase reads.0
     (ap (λ (w : NamesOver _). g.K.Keeper.content w.inner.server.keeper) gives ∙ reads.1.0)
-    (λ kept is. let view = c.leaf-then-serving.view_is in let told = c.in_ok-leaf.ensures.told kept is in cc) gives
+    c.in_ok-leaf.ensures.told gives
 
 pub returns-in_ok-put_off-clause-takes : goal.returns-in_ok-put_off-clause-takes
 returns-in_ok-put_off-clause-takes g c = λ head plays.

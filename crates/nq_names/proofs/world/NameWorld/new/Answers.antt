@@ -1,7 +1,7 @@
 use Rattle.std.proofs.Common.{[], subst, sym}
 use Rattle.nq_names.proofs.Reaching.{begins-plays, first-leases, first-sides}
 use Rattle.nq_names.specs.Playing.{PlaysOutside}
-use Rattle.nq_names.specs.Around.{new_around}
+use Rattle.nq_name_server.specs.Around.{new_around}
 use Rattle.nq_names.proofs.world.NameWorld.new.Goals as goal
 
 pub returns-in-Ok-clause-plays : goal.returns-in-Ok-clause-plays

@@ -1,6 +1,6 @@
 use Rattle.std.proofs.Common.{◌∙◌, ap, map, sym}
 use Rattle.nq_names.proofs.Reaching.{reached-over}
-use Rattle.nq_names.specs.Around.{datagram_of}
+use Rattle.nq_name_server.specs.Around.{datagram_of}
 use Rattle.nq_names.specs.Playing.{NamesOver}
 use Rattle.nq_name_server.specs.Outer.{Outside}
 use Rattle.nq_names.proofs.world.NameWorld.packets.Goals as goal
