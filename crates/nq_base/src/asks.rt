@@ -6,7 +6,7 @@ use crate::numbers::{BlockNo, FileId, Number, Rev, Ticks};
 use crate::tags::{Grant, Want, Who};
 
 /// What a host is about to do with a file.
-#[derive(Clone, Copy, PartialEq, Eq)]
+#[derive(Clone, Copy)]
 pub enum Access {
     /// To read it.
     Read,

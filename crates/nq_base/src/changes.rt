@@ -5,7 +5,7 @@ use crate::kept::{FileRow, HostRow};
 use crate::numbers::{BlockNo, FileId, Host};
 
 /// The numbers that a server keeps over its boots.
-#[derive(Clone, Copy, PartialEq, Eq)]
+#[derive(Clone, Copy)]
 pub struct Heads {
     /// The number of the last boot; 0 before the first.
     pub boot: u32,
@@ -18,7 +18,7 @@ pub struct Heads {
 }
 
 /// How much is kept.
-#[derive(Clone, Copy, PartialEq, Eq)]
+#[derive(Clone, Copy)]
 pub struct Space {
     /// How many files there are, at most 256.
     pub files: u32,
@@ -38,7 +38,7 @@ pub struct BlockChange {
 }
 
 /// A host that gets another row.
-#[derive(Clone, Copy, PartialEq, Eq)]
+#[derive(Clone, Copy)]
 pub struct HostChange {
     /// The host, below 64.
     pub host: Host,

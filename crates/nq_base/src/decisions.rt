@@ -5,7 +5,7 @@ use crate::kept::{FileRow, Verdict};
 use crate::numbers::FileId;
 
 /// What a server knows beside its kept state when it decides a request.
-#[derive(Clone, Copy, PartialEq, Eq)]
+#[derive(Clone, Copy)]
 pub enum Gate {
     /// It recovers, and the boot `opened` served last.
     Recovering {
@@ -23,7 +23,7 @@ pub enum Gate {
 }
 
 /// How a request was decided.
-#[derive(Clone, Copy, PartialEq, Eq)]
+#[derive(Clone, Copy)]
 pub enum Decided {
     /// It is decided now. The value is a file id or a revision where it was done, else 0.
     Fresh { verdict: Verdict, value: u64 },

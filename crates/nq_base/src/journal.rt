@@ -1,6 +1,6 @@
 //! The journal of a run.
 
-ghost use Rattle.std.specs.Prelude.{◌≡◌, ◌≤◌, ◌+◌, [], ◌∷◌, ◌++◌, length, slice_get, Some, IsOk, IfOk, OnOk, OnErr, IfSome, IsNone, IsTrue, ◌↔◌};
+ghost use Rattle.std.specs.Prelude.{◌≡◌, ◌≤◌, ◌+◌, [], ◌∷◌, ◌++◌, length, IsOk, IfOk, OnOk, OnErr};
 
 use crate::entries::Entry;
 use nq_memory::NoMemory;
@@ -62,21 +62,6 @@ impl Journal {
         ensures { result ≡ length self.now.entries }
     {
         self.entries.len()
-    }
-
-    /// Whether there are none.
-    pub fn is_empty(&self) -> bool
-        ensures { IsTrue result ↔ (self.now.entries ≡ []) }
-    {
-        self.entries.is_empty()
-    }
-
-    /// The entry at a place, counted from 0; None where the place is not below the length.
-    pub fn entry(&self, place: usize) -> Option<&Entry>
-        ensures none { IsNone result ↔ (length self.now.entries ≤ place) }
-        ensures some { IfSome result (λ entry. slice_get self.now.entries place ≡ Some entry.now) }
-    {
-        self.entries.get(place)
     }
 
     /// All entries, the oldest first.

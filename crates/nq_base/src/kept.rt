@@ -18,7 +18,7 @@ pub struct FileRow {
 }
 
 /// How a request that is decided once was decided.
-#[derive(Clone, Copy, PartialEq, Eq)]
+#[derive(Clone, Copy)]
 pub enum Verdict {
     /// It was done.
     Done,
@@ -37,7 +37,7 @@ pub enum Verdict {
 }
 
 /// The row of a host: which request was decided last, and how.
-#[derive(Clone, Copy, PartialEq, Eq)]
+#[derive(Clone, Copy)]
 pub struct HostRow {
     /// The incarnation that is attached.
     pub inc: Inc,
@@ -50,7 +50,7 @@ pub struct HostRow {
 }
 
 /// A lease as the server's table has it (Gray and Cheriton 1989).
-#[derive(Clone, Copy, PartialEq, Eq)]
+#[derive(Clone, Copy)]
 pub struct Row {
     /// The file.
     pub file: FileId,

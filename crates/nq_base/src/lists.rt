@@ -9,7 +9,7 @@ use std::alloc::Global;
 use std::marker::Model;
 
 /// Delayed writes of a block that were lost: those of the client with numbers from `first` to `last`.
-#[derive(Clone, Copy, PartialEq, Eq)]
+#[derive(Clone, Copy)]
 pub struct Loss {
     /// The file.
     pub file: FileId,
@@ -22,7 +22,7 @@ pub struct Loss {
 }
 
 /// A loss as a journal names it: the file is that of the call.
-#[derive(Clone, Copy, PartialEq, Eq)]
+#[derive(Clone, Copy)]
 pub struct Span {
     /// The block.
     pub block: BlockNo,
@@ -159,13 +159,6 @@ impl Spans {
         self.spans.len()
     }
 
-    /// Whether there are none.
-    pub fn is_empty(&self) -> bool
-        ensures { IsTrue result ↔ (self.now.items ≡ []) }
-    {
-        self.spans.is_empty()
-    }
-
     /// The one at a place; None where the place is not below the length.
     pub fn get(&self, place: usize) -> Option<Span>
         ensures { result ≡ slice_get self.now.items place }
@@ -213,13 +206,6 @@ impl FileList {
         ensures { result ≡ length self.now }
     {
         self.files.len()
-    }
-
-    /// Whether there are none.
-    pub fn is_empty(&self) -> bool
-        ensures { IsTrue result ↔ (self.now ≡ []) }
-    {
-        self.files.is_empty()
     }
 
     /// The one at a place; None where the place is not below the length.

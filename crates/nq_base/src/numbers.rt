@@ -17,7 +17,7 @@ impl Model for Host {
 }
 
 /// An incarnation of a host: it rises with each restart.
-#[derive(Clone, Copy, PartialEq, Eq, PartialOrd, Ord)]
+#[derive(Clone, Copy, PartialEq, Eq, PartialOrd)]
 pub struct Inc(pub u32);
 
 impl Model for Inc {
@@ -45,7 +45,7 @@ impl Model for FileId {
 }
 
 /// The number of a block within its file, from 0.
-#[derive(Clone, Copy, PartialEq, Eq, PartialOrd, Ord, Hash)]
+#[derive(Clone, Copy, PartialEq, Eq, Hash)]
 pub struct BlockNo(pub u32);
 
 impl Model for BlockNo {
@@ -59,7 +59,7 @@ impl Model for BlockNo {
 }
 
 /// The sequence of a request that is decided once, from 1 in each incarnation.
-#[derive(Clone, Copy, PartialEq, Eq, PartialOrd, Ord)]
+#[derive(Clone, Copy, PartialEq, Eq, PartialOrd)]
 pub struct Seq(pub u64);
 
 impl Model for Seq {
@@ -73,7 +73,7 @@ impl Model for Seq {
 }
 
 /// A file's modify revision (Macklem 1994): it rises with each change of the file.
-#[derive(Clone, Copy, PartialEq, Eq, PartialOrd, Ord)]
+#[derive(Clone, Copy, PartialEq, Eq)]
 pub struct Rev(pub u64);
 
 impl Model for Rev {
@@ -101,7 +101,7 @@ impl Model for Ticks {
 }
 
 /// The number of a write, from 1 in each incarnation.
-#[derive(Clone, Copy, PartialEq, Eq, PartialOrd, Ord)]
+#[derive(Clone, Copy, PartialEq, Eq, PartialOrd)]
 pub struct Number(pub u64);
 
 impl Model for Number {

@@ -6,7 +6,7 @@ use crate::numbers::{BlockNo, FileId, Inc, Number, Rev, Seq};
 use crate::tags::{Grant, Tag, Want, Who};
 
 /// What a delayed write rests on: it is stored only over this revision in this boot.
-#[derive(Clone, Copy, PartialEq, Eq)]
+#[derive(Clone, Copy)]
 pub struct PushBase {
     /// The boot of the lease under which the write was delayed.
     pub boot: u32,
@@ -96,7 +96,7 @@ pub enum Request {
 }
 
 /// A status other than OK. The first five are RFC 1813's, the others this project's.
-#[derive(Clone, Copy, PartialEq, Eq)]
+#[derive(Clone, Copy)]
 pub enum Refusal {
     /// 2, NFS3ERR_NOENT: no file has the name.
     NoEnt,

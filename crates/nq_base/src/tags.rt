@@ -41,7 +41,7 @@ pub struct Who {
 }
 
 /// A wish for a lease. The server moves a term that it does not grant to the nearest one that it does.
-#[derive(Clone, Copy, PartialEq, Eq)]
+#[derive(Clone, Copy)]
 pub struct Want {
     /// Reading or writing.
     pub mode: Mode,
@@ -50,7 +50,7 @@ pub struct Want {
 }
 
 /// A lease as it is granted. The term counts from the moment at which the client first asked (Gray and Cheriton 1989).
-#[derive(Clone, Copy, PartialEq, Eq)]
+#[derive(Clone, Copy)]
 pub struct Grant {
     /// The kind of lease.
     pub mode: Mode,

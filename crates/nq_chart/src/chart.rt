@@ -57,7 +57,7 @@ pub struct Note {
 }
 
 /// Of what a note tells, which gives it its colour.
-#[derive(Clone, Copy, PartialEq, Eq)]
+#[derive(Clone, Copy)]
 pub enum Sign {
     /// A packet that arrives.
     Packet,
@@ -104,7 +104,7 @@ pub struct Bar {
 }
 
 /// What a bar is, which gives it its colour.
-#[derive(Clone, Copy, PartialEq, Eq)]
+#[derive(Clone, Copy)]
 pub enum Tint {
     /// A lease under which nothing is cached.
     NonCaching,

@@ -11,16 +11,13 @@ use crate::read_entries::entry_of;
 use nq_base::{Journal, NoMemory};
 use nq_words::{cut, is};
 use std::alloc::Global;
-use thiserror::Error;
 
 /// Why a text was not parsed.
-#[derive(Clone, Copy, Debug, PartialEq, Eq, Error)]
+#[derive(Clone, Copy)]
 pub enum JournalFault {
     /// This line, counted from 1, is the first outside the grammar. The number stands still at `u32::MAX`.
-    #[error("line {0} is no line of a journal")]
     Line(u32),
     /// Memory is wanting.
-    #[error("out of memory")]
     Memory,
 }
 

@@ -15,7 +15,7 @@ use std::alloc::Global;
 const PIECE: usize = 16_384;
 
 /// What printing answers.
-#[derive(Clone, Copy, Debug, PartialEq, Eq)]
+#[derive(Clone, Copy)]
 pub enum Printed {
     /// The whole text was appended.
     All,

@@ -34,7 +34,7 @@ pub enum View {
 }
 
 /// Whether there was something to show.
-#[derive(Clone, Copy, PartialEq, Eq)]
+#[derive(Clone, Copy)]
 pub enum Shown {
     /// What was asked for.
     All,

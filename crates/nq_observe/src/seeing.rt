@@ -176,7 +176,7 @@ fn moment(
 /// Writes down the entries that were made.
 fn see_entries(memory: &mut Memory, entries: &mut Vec<Noted>, journal: &Journal) {
     for place in entries.len()..journal.len() {
-        if let Some(entry) = journal.entry(place) {
+        if let Some(entry) = journal.entries().get(place) {
             let words = entry_words(memory.alloc, entry);
             memory.add(entries, words);
         }

@@ -5,7 +5,7 @@ ghost use Rattle.std.specs.Prelude.{◌≡◌};
 use std::marker::Model;
 
 /// The arguments of a call or the results of a reply, which contracts see as a list.
-#[derive(Debug, Drop)]
+#[derive(Drop)]
 pub struct Bytes {
     bytes: Vec<u8>,
 }
@@ -30,13 +30,5 @@ impl Bytes {
         ensures { result.now ≡ self.now }
     {
         &self.bytes
-    }
-
-    /// Gives the bytes back, and takes no memory.
-    pub fn into_vec(self) -> Vec<u8>
-        ensures { result.items ≡ self }
-    {
-        let Bytes { bytes } = self;
-        bytes
     }
 }

@@ -5,25 +5,19 @@ ghost use Rattle.nq_rpc.specs.declared.fault.RpcFault.TheVariants.{Memory};
 
 use nq_xdr::XdrFault;
 use std::alloc::AllocError;
-use thiserror::Error;
 
 /// Why bytes were not read as a message: the first fault in their order.
-#[derive(Clone, Copy, Debug, PartialEq, Eq, Error)]
+#[derive(Clone, Copy, Debug, PartialEq, Eq)]
 pub enum RpcFault {
     /// The bytes end inside an item.
-    #[error("the message ends inside an item")]
     Short = 1,
     /// A message type, a reply_stat, an accept_stat or a reject_stat is none of RFC 1057's.
-    #[error("the message is of no known kind")]
     BadKind = 2,
     /// The body of a credential or of a verifier has more than 400 bytes.
-    #[error("a credential or a verifier is too long")]
     BadAuth = 3,
     /// A residual byte is not zero, or bytes stand behind an error reply.
-    #[error("the message is not in the form of XDR")]
     Xdr = 4,
     /// The bytes are a message, and memory for its arguments or results was refused.
-    #[error("out of memory")]
     Memory,
 }
 

@@ -3,14 +3,14 @@
 use crate::Head;
 
 /// A message as it stands in a datagram, which lends its arguments or results (RFC 1057 section 8).
-#[derive(Clone, Copy, Debug)]
+#[derive(Clone, Copy)]
 pub enum LentMessage<'a> {
     Call(LentCall<'a>),
     Reply(LentReply<'a>),
 }
 
 /// A call, without its credential and its verifier.
-#[derive(Clone, Copy, Debug)]
+#[derive(Clone, Copy)]
 pub struct LentCall<'a> {
     pub head: Head,
     /// The version of RPC, which is 2 in a call that can be served.
@@ -20,7 +20,7 @@ pub struct LentCall<'a> {
 }
 
 /// A reply, without its verifier.
-#[derive(Clone, Copy, Debug)]
+#[derive(Clone, Copy)]
 pub struct LentReply<'a> {
     /// That of the call.
     pub xid: u32,
@@ -28,7 +28,7 @@ pub struct LentReply<'a> {
 }
 
 /// What became of a call, as an `Outcome` tells it.
-#[derive(Clone, Copy, Debug)]
+#[derive(Clone, Copy)]
 pub enum LentOutcome<'a> {
     /// The call was executed, with these results.
     Success(&'a [u8]),

@@ -3,7 +3,7 @@
 use crate::Bytes;
 
 /// What a call asks for, and the number by which its reply is known (RFC 1057 section 8).
-#[derive(Clone, Copy, Debug, PartialEq, Eq)]
+#[derive(Clone, Copy)]
 pub struct Head {
     /// The transaction identifier, which the reply repeats.
     pub xid: u32,
@@ -13,14 +13,14 @@ pub struct Head {
 }
 
 /// An RPC message (RFC 1057 section 8).
-#[derive(Debug, Drop)]
+#[derive(Drop)]
 pub enum Message {
     Call(CallMessage),
     Reply(ReplyMessage),
 }
 
 /// A call, without its credential and its verifier.
-#[derive(Debug, Drop)]
+#[derive(Drop)]
 pub struct CallMessage {
     pub head: Head,
     /// The version of RPC, which is 2 in a call that can be served.
@@ -30,7 +30,7 @@ pub struct CallMessage {
 }
 
 /// A reply, without its verifier.
-#[derive(Debug, Drop)]
+#[derive(Drop)]
 pub struct ReplyMessage {
     /// That of the call.
     pub xid: u32,
@@ -38,7 +38,7 @@ pub struct ReplyMessage {
 }
 
 /// What became of a call: the first five are accepted replies, the last two denied ones.
-#[derive(Debug, Drop)]
+#[derive(Drop)]
 pub enum Outcome {
     /// The call was executed, with these results.
     Success(Bytes),

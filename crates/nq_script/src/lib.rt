@@ -21,6 +21,6 @@ pub use faults::ScriptFault;
 pub use heads::{Head, HeadOut, parse_head};
 pub use laws::{each_text, lines_are_short, one_fault, one_reading, printed_again};
 pub use lines::Line;
-pub use print::{print_event, print_head};
+pub use print::print_head;
 pub use schedules::Schedule;
 pub use scripts::{Lines, Script, parse};

@@ -5,7 +5,7 @@ ghost use Rattle.std.specs.Fmt.{decimal};
 ghost use Rattle.nq_script.specs.Calls.{FitsCall, call_words};
 ghost use Rattle.nq_script.specs.Heads.{FitsHead, file_line, head_lines, longest_lines};
 ghost use Rattle.nq_script.specs.Lines.{HasEvent, FitsEvent, SpellsEvent, event_words, longest_words};
-ghost use Rattle.nq_script.specs.Text.{IsVersion, spaced, text_of};
+ghost use Rattle.nq_script.specs.Text.{spaced, text_of};
 
 use crate::heads::Head;
 use nq_base::{Call, Event, FileList, Name, NoMemory};
@@ -67,18 +67,6 @@ pub(crate) fn append_event_line(
 {
     append_event(text, event, version)?;
     push_bytes(text, b"\n")
-}
-
-/// The line of an event, without its line feed, in a version that can tell it: a block that it writes is one that
-/// `Block::fill` gives; version 2 alone has resizes and removals; and a crash has in version 1 the longest term 60, in
-/// version 2 one of 5 ticks or more.
-pub fn print_event(alloc: Global, event: &Event, version: u32) -> Result<Vec<u8>, NoMemory>
-    requires { HasEvent version event.now }
-    ensures { IfOk result (λ text. SpellsEvent version event.now text.items) }
-{
-    let mut text = Vec::new(alloc);
-    append_event(&mut text, event, version)?;
-    Ok(text)
 }
 
 /// The text of a head, from its first line to `begin` with its line feed. The head fits: it has 1 to 64 hosts, in version 1

@@ -70,13 +70,6 @@ impl Schedule {
         self.events.len()
     }
 
-    /// Whether there are none.
-    pub fn is_empty(&self) -> bool
-        ensures { IsTrue result ↔ (self.now ≡ []) }
-    {
-        self.events.is_empty()
-    }
-
     /// The one at a place; None exactly where the place is not below the length.
     pub fn get(&self, place: usize) -> Option<&Event>
         ensures none { IsNone result ↔ (length self.now ≤ place) }

@@ -65,13 +65,6 @@ impl Lines {
         self.told.len()
     }
 
-    /// Whether there are none.
-    pub fn is_empty(&self) -> bool
-        ensures { IsTrue result ↔ (self.now ≡ []) }
-    {
-        self.told.is_empty()
-    }
-
     /// The one at a place; None where the place is not below the length.
     pub fn get(&self, place: usize) -> Option<Line>
         ensures { result ≡ slice_get self.now place }

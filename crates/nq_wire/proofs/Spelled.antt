@@ -31,7 +31,7 @@ use Rattle.nq_wire.specs.Procedure.{number_of}
 use Rattle.nq_wire.specs.Status.{status_number}
 use Rattle.nq_wire.specs.Request.{procedure_of, arguments, IsRequest, HasSpelling, IsOneWrite, IsArguments}
 use Rattle.nq_wire.specs.Reply.{ok, results, IsReply, IsRefusable, Answers, IsResults}
-use Rattle.nq_wire.specs.Reading.{item, head_at, tag_at, wanted_mode, want_at, granted_mode, grant_at, base_at, some_of, optional_at, name_of, name_at, body_at, attach_at, lookup_at, create_at, get_attr_at, read_at, span_at, write_at, get_lease_at, vacated_at, evicted_at, resize_at, remove_at, request_at, found_at, created_at, attributes_at, block_at, written_at, lease_at, resized_at, results_at, refusal_of, answer_at, reply_at}
+use Rattle.nq_wire.specs.Reading.{item, head_at, tag_at, wanted_mode, want_at, granted_mode, grant_at, base_at, some_of, optional_at, name_of, name_at, body_at, lookup_at, create_at, get_attr_at, read_at, span_at, write_at, get_lease_at, vacated_at, evicted_at, resize_at, remove_at, arguments_at, asked_at, request_at, found_at, created_at, attributes_at, block_at, written_at, lease_at, resized_at, results_at, refusal_of, answer_at, reply_at}
 
 -- ---- steps
 
@@ -189,11 +189,6 @@ body_says bytes fits =
 abbrev Asks : Procedure → List ℕ → Request × List ℕ → Type 0
 Asks p bytes x = (procedure_of x.0 ≡ p) × IsRequest x.0 × HasSpelling x.0 × (bytes ≡ arguments x.0 ++ x.1)
 
-behind_who : {X : Type 0} (bytes : List ℕ) (f : Who × List ℕ → Result X Garbage) (P : X → Type 0)
-    → IsBytes bytes → ((who : Who) (rest : List ℕ) → IsWho who → bytes ≡ head who ++ rest → IsBytes rest → IfOk (f (who, rest)) P)
-    → IfOk (head_at bytes >>= f) P
-behind_who bytes f P fits goes_on = behind head IsWho bytes (head_at bytes) f P fits (head_says bytes fits) goes_on
-
 if_true : {A : Type 0} (b : Bool) (x : A) (P : A → Type 0) → (b ≡ true → P x) → IfOk (cond (not b) (Err garbage) (Ok x)) P
 if_true true x P says = says refl
 if_true false x P says = tt
@@ -221,50 +216,45 @@ span_says bytes fits =
     behind (optional base_bytes) (λ o. IfSome o IsPushBase) b (optional_at base_at b) _ P b-fits (optional_says base_bytes IsPushBase base_at b b-fits base_says) (λ push rest push-fits e2 _.
     one_write first last push rest P (λ one. ((first-fits, last-fits, push-fits, one), rw (e, e1, e2) (simp append_assoc))))))
 
-lookup_says : (bytes : List ℕ) → IsBytes bytes → IfOk (lookup_at bytes) (Asks Lookup bytes)
+lookup_says : (bytes : List ℕ) (who : Who) (a : List ℕ) → IsWho who → bytes ≡ head who ++ a → IsBytes a → IfOk (lookup_at who a) (Asks Lookup bytes)
 unfolding arguments lookup_at
-lookup_says bytes fits =
+lookup_says bytes who a who-fits e a-fits =
     let P : Request × List ℕ → Type 0 = Asks Lookup bytes in
-    behind_who bytes _ P fits (λ who a who-fits e a-fits.
-    behind opaque IsName a (name_at a) _ P a-fits (name_says a a-fits) (λ name rest name-fits e1 _. (refl, (who-fits, name-fits), tt, rw (e, e1) (simp append_assoc))))
+    behind opaque IsName a (name_at a) _ P a-fits (name_says a a-fits) (λ name rest name-fits e1 _. (refl, (who-fits, name-fits), tt, rw (e, e1) (simp append_assoc)))
 
-create_says : (bytes : List ℕ) → IsBytes bytes → IfOk (create_at bytes) (Asks Create bytes)
+create_says : (bytes : List ℕ) (who : Who) (a : List ℕ) → IsWho who → bytes ≡ head who ++ a → IsBytes a → IfOk (create_at who a) (Asks Create bytes)
 unfolding arguments create_at
-create_says bytes fits =
+create_says bytes who a who-fits e a-fits =
     let P : Request × List ℕ → Type 0 = Asks Create bytes in
-    behind_who bytes _ P fits (λ who a who-fits e a-fits.
     behind_hyper a _ P a-fits (λ seq b seq-fits e1 b-fits.
     behind opaque IsName b (name_at b) _ P b-fits (name_says b b-fits) (λ name c name-fits e2 c-fits.
-    behind_word c _ P c-fits (λ blocks rest blocks-fits e3 _. (refl, (who-fits, seq-fits, name-fits, blocks-fits), tt, rw (e, e1, e2, e3) (simp append_assoc))))))
+    behind_word c _ P c-fits (λ blocks rest blocks-fits e3 _. (refl, (who-fits, seq-fits, name-fits, blocks-fits), tt, rw (e, e1, e2, e3) (simp append_assoc)))))
 
-get_attr_says : (bytes : List ℕ) → IsBytes bytes → IfOk (get_attr_at bytes) (Asks GetAttr bytes)
+get_attr_says : (bytes : List ℕ) (who : Who) (a : List ℕ) → IsWho who → bytes ≡ head who ++ a → IsBytes a → IfOk (get_attr_at who a) (Asks GetAttr bytes)
 unfolding arguments get_attr_at
-get_attr_says bytes fits =
+get_attr_says bytes who a who-fits e a-fits =
     let P : Request × List ℕ → Type 0 = Asks GetAttr bytes in
-    behind_who bytes _ P fits (λ who a who-fits e a-fits.
-    behind_word a _ P a-fits (λ file rest file-fits e1 _. (refl, (who-fits, file-fits), tt, rw (e, e1) (simp append_assoc))))
+    behind_word a _ P a-fits (λ file rest file-fits e1 _. (refl, (who-fits, file-fits), tt, rw (e, e1) (simp append_assoc)))
 
 -- a want that is there has a spelling
 wants : (o : Option Want) → IfSome o IsSpelledWant → IfSome o IsWant × IfSome o (λ w. IsWanted w.mode)
 wants None fits = (tt, tt)
 wants (Some want) fits = fits
 
-read_says : (bytes : List ℕ) → IsBytes bytes → IfOk (read_at bytes) (Asks Read bytes)
+read_says : (bytes : List ℕ) (who : Who) (a : List ℕ) → IsWho who → bytes ≡ head who ++ a → IsBytes a → IfOk (read_at who a) (Asks Read bytes)
 unfolding arguments read_at
-read_says bytes fits =
+read_says bytes who a who-fits e a-fits =
     let P : Request × List ℕ → Type 0 = Asks Read bytes in
-    behind_who bytes _ P fits (λ who a who-fits e a-fits.
     behind_hyper a _ P a-fits (λ call b call-fits e1 b-fits.
     behind_word b _ P b-fits (λ file c file-fits e2 c-fits.
     behind_word c _ P c-fits (λ block d block-fits e3 d-fits.
     behind (optional want_bytes) (λ o. IfSome o IsSpelledWant) d (optional_at want_at d) _ P d-fits (optional_says want_bytes IsSpelledWant want_at d d-fits want_says) (λ want rest want-fits e4 _.
-    let w = wants want want-fits in (refl, (who-fits, call-fits, file-fits, block-fits, w.0), w.1, rw (e, e1, e2, e3, e4) (simp append_assoc)))))))
+    let w = wants want want-fits in (refl, (who-fits, call-fits, file-fits, block-fits, w.0), w.1, rw (e, e1, e2, e3, e4) (simp append_assoc))))))
 
-write_says : (bytes : List ℕ) → IsBytes bytes → IfOk (write_at bytes) (Asks Write bytes)
+write_says : (bytes : List ℕ) (who : Who) (a : List ℕ) → IsWho who → bytes ≡ head who ++ a → IsBytes a → IfOk (write_at who a) (Asks Write bytes)
 unfolding arguments write_at
-write_says bytes fits =
+write_says bytes who a who-fits e a-fits =
     let P : Request × List ℕ → Type 0 = Asks Write bytes in
-    behind_who bytes _ P fits (λ who a who-fits e a-fits.
     behind_hyper a _ P a-fits (λ seq b seq-fits e1 b-fits.
     behind_word b _ P b-fits (λ file c file-fits e2 c-fits.
     behind_word c _ P c-fits (λ block d block-fits e3 d-fits.
@@ -274,67 +264,82 @@ write_says bytes fits =
       (who-fits, seq-fits, file-fits, block-fits, span-fits.0, span-fits.1, span-fits.2, size),
       span-fits.3,
       rw (e, e1, e2, e3, e4, e5) (simp append_assoc),
-    )))))))
+    ))))))
 
-get_lease_says : (bytes : List ℕ) → IsBytes bytes → IfOk (get_lease_at bytes) (Asks GetLease bytes)
+get_lease_says : (bytes : List ℕ) (who : Who) (a : List ℕ) → IsWho who → bytes ≡ head who ++ a → IsBytes a → IfOk (get_lease_at who a) (Asks GetLease bytes)
 unfolding arguments get_lease_at
-get_lease_says bytes fits =
+get_lease_says bytes who a who-fits e a-fits =
     let P : Request × List ℕ → Type 0 = Asks GetLease bytes in
-    behind_who bytes _ P fits (λ who a who-fits e a-fits.
     behind_word a _ P a-fits (λ file b file-fits e1 b-fits.
     behind want_bytes IsSpelledWant b (want_at b) _ P b-fits (want_says b b-fits) (λ want rest want-fits e2 _.
-    (refl, (who-fits, file-fits, want-fits.0), want-fits.1, rw (e, e1, e2) (simp append_assoc)))))
+    (refl, (who-fits, file-fits, want-fits.0), want-fits.1, rw (e, e1, e2) (simp append_assoc))))
 
-vacated_says : (bytes : List ℕ) → IsBytes bytes → IfOk (vacated_at bytes) (Asks Vacated bytes)
+vacated_says : (bytes : List ℕ) (who : Who) (a : List ℕ) → IsWho who → bytes ≡ head who ++ a → IsBytes a → IfOk (vacated_at who a) (Asks Vacated bytes)
 unfolding arguments vacated_at
-vacated_says bytes fits =
+vacated_says bytes who a who-fits e a-fits =
     let P : Request × List ℕ → Type 0 = Asks Vacated bytes in
-    behind_who bytes _ P fits (λ who a who-fits e a-fits.
     behind_word a _ P a-fits (λ file b file-fits e1 b-fits.
-    behind tag_bytes IsTag b (tag_at b) _ P b-fits (tag_says b b-fits) (λ tag rest tag-fits e2 _. (refl, (who-fits, file-fits, tag-fits), tt, rw (e, e1, e2) (simp append_assoc)))))
+    behind tag_bytes IsTag b (tag_at b) _ P b-fits (tag_says b b-fits) (λ tag rest tag-fits e2 _. (refl, (who-fits, file-fits, tag-fits), tt, rw (e, e1, e2) (simp append_assoc))))
 
-evicted_says : (bytes : List ℕ) → IsBytes bytes → IfOk (evicted_at bytes) (Asks Evicted bytes)
+evicted_says : (bytes : List ℕ) (who : Who) (a : List ℕ) → IsWho who → bytes ≡ head who ++ a → IsBytes a → IfOk (evicted_at who a) (Asks Evicted bytes)
 unfolding arguments evicted_at
-evicted_says bytes fits =
+evicted_says bytes who a who-fits e a-fits =
     let P : Request × List ℕ → Type 0 = Asks Evicted bytes in
-    behind_who bytes _ P fits (λ who a who-fits e a-fits.
     behind_word a _ P a-fits (λ file b file-fits e1 b-fits.
-    behind tag_bytes IsTag b (tag_at b) _ P b-fits (tag_says b b-fits) (λ tag rest tag-fits e2 _. (refl, (who-fits, file-fits, tag-fits), tt, rw (e, e1, e2) (simp append_assoc)))))
+    behind tag_bytes IsTag b (tag_at b) _ P b-fits (tag_says b b-fits) (λ tag rest tag-fits e2 _. (refl, (who-fits, file-fits, tag-fits), tt, rw (e, e1, e2) (simp append_assoc))))
 
-resize_says : (bytes : List ℕ) → IsBytes bytes → IfOk (resize_at bytes) (Asks Resize bytes)
+resize_says : (bytes : List ℕ) (who : Who) (a : List ℕ) → IsWho who → bytes ≡ head who ++ a → IsBytes a → IfOk (resize_at who a) (Asks Resize bytes)
 unfolding arguments resize_at
-resize_says bytes fits =
+resize_says bytes who a who-fits e a-fits =
     let P : Request × List ℕ → Type 0 = Asks Resize bytes in
-    behind_who bytes _ P fits (λ who a who-fits e a-fits.
     behind_hyper a _ P a-fits (λ seq b seq-fits e1 b-fits.
     behind_hyper b _ P b-fits (λ call c call-fits e2 c-fits.
     behind_word c _ P c-fits (λ file d file-fits e3 d-fits.
     behind_word d _ P d-fits (λ blocks rest blocks-fits e4 _.
-    (refl, (who-fits, seq-fits, call-fits, file-fits, blocks-fits), tt, rw (e, e1, e2, e3, e4) (simp append_assoc)))))))
+    (refl, (who-fits, seq-fits, call-fits, file-fits, blocks-fits), tt, rw (e, e1, e2, e3, e4) (simp append_assoc))))))
 
-remove_says : (bytes : List ℕ) → IsBytes bytes → IfOk (remove_at bytes) (Asks Remove bytes)
+remove_says : (bytes : List ℕ) (who : Who) (a : List ℕ) → IsWho who → bytes ≡ head who ++ a → IsBytes a → IfOk (remove_at who a) (Asks Remove bytes)
 unfolding arguments remove_at
-remove_says bytes fits =
+remove_says bytes who a who-fits e a-fits =
     let P : Request × List ℕ → Type 0 = Asks Remove bytes in
-    behind_who bytes _ P fits (λ who a who-fits e a-fits.
     behind_hyper a _ P a-fits (λ seq b seq-fits e1 b-fits.
     behind_hyper b _ P b-fits (λ call c call-fits e2 c-fits.
-    behind_word c _ P c-fits (λ file rest file-fits e3 _. (refl, (who-fits, seq-fits, call-fits, file-fits), tt, rw (e, e1, e2, e3) (simp append_assoc))))))
+    behind_word c _ P c-fits (λ file rest file-fits e3 _. (refl, (who-fits, seq-fits, call-fits, file-fits), tt, rw (e, e1, e2, e3) (simp append_assoc)))))
+
+-- what follows who asks
+arguments_say : (p : Procedure) (bytes : List ℕ) (who : Who) (a : List ℕ) → IsWho who → bytes ≡ head who ++ a → IsBytes a → IfOk (arguments_at p who a) (Asks p bytes)
+unfolding arguments
+arguments_say Null bytes who a who-fits e a-fits = tt
+arguments_say Attach bytes who a who-fits e a-fits = (refl, who-fits, tt, e)
+arguments_say Lookup bytes who a who-fits e a-fits = lookup_says bytes who a who-fits e a-fits
+arguments_say Create bytes who a who-fits e a-fits = create_says bytes who a who-fits e a-fits
+arguments_say GetAttr bytes who a who-fits e a-fits = get_attr_says bytes who a who-fits e a-fits
+arguments_say Read bytes who a who-fits e a-fits = read_says bytes who a who-fits e a-fits
+arguments_say Write bytes who a who-fits e a-fits = write_says bytes who a who-fits e a-fits
+arguments_say GetLease bytes who a who-fits e a-fits = get_lease_says bytes who a who-fits e a-fits
+arguments_say Vacated bytes who a who-fits e a-fits = vacated_says bytes who a who-fits e a-fits
+arguments_say Evicted bytes who a who-fits e a-fits = evicted_says bytes who a who-fits e a-fits
+arguments_say Resize bytes who a who-fits e a-fits = resize_says bytes who a who-fits e a-fits
+arguments_say Remove bytes who a who-fits e a-fits = remove_says bytes who a who-fits e a-fits
+
+asked_says : (p : Procedure) (bytes : List ℕ) → IsBytes bytes → IfOk (asked_at p bytes) (Asks p bytes)
+unfolding asked_at
+asked_says p bytes fits = behind head IsWho bytes (head_at bytes) _ (Asks p bytes) fits (head_says bytes fits) (λ who a who-fits e a-fits. arguments_say p bytes who a who-fits e a-fits)
 
 request_says : (p : Procedure) (bytes : List ℕ) → IsBytes bytes → IfOk (request_at p bytes) (Asks p bytes)
-unfolding arguments attach_at
+unfolding arguments
 request_says Null bytes fits = (refl, tt, tt, refl)
-request_says Attach bytes fits = behind_who bytes _ (Asks Attach bytes) fits (λ who rest who-fits e _. (refl, who-fits, tt, e))
-request_says Lookup bytes fits = lookup_says bytes fits
-request_says Create bytes fits = create_says bytes fits
-request_says GetAttr bytes fits = get_attr_says bytes fits
-request_says Read bytes fits = read_says bytes fits
-request_says Write bytes fits = write_says bytes fits
-request_says GetLease bytes fits = get_lease_says bytes fits
-request_says Vacated bytes fits = vacated_says bytes fits
-request_says Evicted bytes fits = evicted_says bytes fits
-request_says Resize bytes fits = resize_says bytes fits
-request_says Remove bytes fits = remove_says bytes fits
+request_says Attach bytes fits = asked_says Attach bytes fits
+request_says Lookup bytes fits = asked_says Lookup bytes fits
+request_says Create bytes fits = asked_says Create bytes fits
+request_says GetAttr bytes fits = asked_says GetAttr bytes fits
+request_says Read bytes fits = asked_says Read bytes fits
+request_says Write bytes fits = asked_says Write bytes fits
+request_says GetLease bytes fits = asked_says GetLease bytes fits
+request_says Vacated bytes fits = asked_says Vacated bytes fits
+request_says Evicted bytes fits = asked_says Evicted bytes fits
+request_says Resize bytes fits = asked_says Resize bytes fits
+request_says Remove bytes fits = asked_says Remove bytes fits
 
 pub arguments_read : (p : Procedure) (n : ℕ) (r : Request) (bytes start rest : List ℕ) → IsBytes bytes
     → number_of p ≡ n → start ≡ bytes → request_at p start ≡ Ok (r, rest) → rest ≡ [] → IsArguments n r bytes

@@ -1,4 +1,3 @@
-pub mod Fault
 pub mod Garbage
 pub mod Procedure
 pub mod Status

@@ -112,46 +112,36 @@ body_at bytes = do
   body ← item (opaque_at 4096 bytes)
   if length body.0 == 4096 then Ok (body.0, body.1) else Err garbage
 
--- ---- the arguments of each procedure
-
--- the arguments of ATTACH
-unfoldable pub attach_at : List ℕ → Result (Request × List ℕ) Garbage
-attach_at bytes = do
-  who ← head_at bytes
-  Ok (request.Attach who.0, who.1)
+-- ---- the arguments of each procedure, behind who asks
 
 -- the arguments of LOOKUP
-unfoldable pub lookup_at : List ℕ → Result (Request × List ℕ) Garbage
-lookup_at bytes = do
-  who ← head_at bytes
-  name ← name_at who.1
-  Ok (request.Lookup who.0 name.0, name.1)
+unfoldable pub lookup_at : Who → List ℕ → Result (Request × List ℕ) Garbage
+lookup_at who bytes = do
+  name ← name_at bytes
+  Ok (request.Lookup who name.0, name.1)
 
 -- the arguments of CREATE
-unfoldable pub create_at : List ℕ → Result (Request × List ℕ) Garbage
-create_at bytes = do
-  who ← head_at bytes
-  seq ← item (hyper_at who.1)
+unfoldable pub create_at : Who → List ℕ → Result (Request × List ℕ) Garbage
+create_at who bytes = do
+  seq ← item (hyper_at bytes)
   name ← name_at seq.1
   blocks ← item (word_at name.1)
-  Ok (request.Create who.0 seq.0 name.0 blocks.0, blocks.1)
+  Ok (request.Create who seq.0 name.0 blocks.0, blocks.1)
 
 -- the arguments of GETATTR
-unfoldable pub get_attr_at : List ℕ → Result (Request × List ℕ) Garbage
-get_attr_at bytes = do
-  who ← head_at bytes
-  file ← item (word_at who.1)
-  Ok (request.GetAttr who.0 file.0, file.1)
+unfoldable pub get_attr_at : Who → List ℕ → Result (Request × List ℕ) Garbage
+get_attr_at who bytes = do
+  file ← item (word_at bytes)
+  Ok (request.GetAttr who file.0, file.1)
 
 -- the arguments of READ
-unfoldable pub read_at : List ℕ → Result (Request × List ℕ) Garbage
-read_at bytes = do
-  who ← head_at bytes
-  call ← item (hyper_at who.1)
+unfoldable pub read_at : Who → List ℕ → Result (Request × List ℕ) Garbage
+read_at who bytes = do
+  call ← item (hyper_at bytes)
   file ← item (word_at call.1)
   block ← item (word_at file.1)
   want ← optional_at want_at block.1
-  Ok (request.Read who.0 call.0 file.0 block.0 want.0, want.1)
+  Ok (request.Read who call.0 file.0 block.0 want.0, want.1)
 
 -- the write numbers, and what they rest on where the WRITE is a push
 unfoldable pub span_at : List ℕ → Result ((ℕ × ℕ × Option PushBase) × List ℕ) Garbage
@@ -162,73 +152,78 @@ span_at bytes = do
   if is_none push.0 && not (first.0 == last.0) then Err garbage else Ok ((first.0, last.0, push.0), push.1)
 
 -- the arguments of WRITE
-unfoldable pub write_at : List ℕ → Result (Request × List ℕ) Garbage
-write_at bytes = do
-  who ← head_at bytes
-  seq ← item (hyper_at who.1)
+unfoldable pub write_at : Who → List ℕ → Result (Request × List ℕ) Garbage
+write_at who bytes = do
+  seq ← item (hyper_at bytes)
   file ← item (word_at seq.1)
   block ← item (word_at file.1)
   span ← span_at block.1
   body ← body_at span.1
-  Ok (request.Write who.0 seq.0 file.0 block.0 span.0.0 span.0.1 span.0.2 body.0, body.1)
+  Ok (request.Write who seq.0 file.0 block.0 span.0.0 span.0.1 span.0.2 body.0, body.1)
 
 -- the arguments of GETLEASE
-unfoldable pub get_lease_at : List ℕ → Result (Request × List ℕ) Garbage
-get_lease_at bytes = do
-  who ← head_at bytes
-  file ← item (word_at who.1)
+unfoldable pub get_lease_at : Who → List ℕ → Result (Request × List ℕ) Garbage
+get_lease_at who bytes = do
+  file ← item (word_at bytes)
   want ← want_at file.1
-  Ok (request.GetLease who.0 file.0 want.0, want.1)
+  Ok (request.GetLease who file.0 want.0, want.1)
 
 -- the arguments of VACATED
-unfoldable pub vacated_at : List ℕ → Result (Request × List ℕ) Garbage
-vacated_at bytes = do
-  who ← head_at bytes
-  file ← item (word_at who.1)
+unfoldable pub vacated_at : Who → List ℕ → Result (Request × List ℕ) Garbage
+vacated_at who bytes = do
+  file ← item (word_at bytes)
   tag ← tag_at file.1
-  Ok (request.Vacated who.0 file.0 tag.0, tag.1)
+  Ok (request.Vacated who file.0 tag.0, tag.1)
 
 -- the arguments of EVICTED
-unfoldable pub evicted_at : List ℕ → Result (Request × List ℕ) Garbage
-evicted_at bytes = do
-  who ← head_at bytes
-  file ← item (word_at who.1)
+unfoldable pub evicted_at : Who → List ℕ → Result (Request × List ℕ) Garbage
+evicted_at who bytes = do
+  file ← item (word_at bytes)
   tag ← tag_at file.1
-  Ok (request.Evicted who.0 file.0 tag.0, tag.1)
+  Ok (request.Evicted who file.0 tag.0, tag.1)
 
 -- the arguments of RESIZE
-unfoldable pub resize_at : List ℕ → Result (Request × List ℕ) Garbage
-resize_at bytes = do
-  who ← head_at bytes
-  seq ← item (hyper_at who.1)
+unfoldable pub resize_at : Who → List ℕ → Result (Request × List ℕ) Garbage
+resize_at who bytes = do
+  seq ← item (hyper_at bytes)
   call ← item (hyper_at seq.1)
   file ← item (word_at call.1)
   blocks ← item (word_at file.1)
-  Ok (request.Resize who.0 seq.0 call.0 file.0 blocks.0, blocks.1)
+  Ok (request.Resize who seq.0 call.0 file.0 blocks.0, blocks.1)
 
 -- the arguments of REMOVE
-unfoldable pub remove_at : List ℕ → Result (Request × List ℕ) Garbage
-remove_at bytes = do
-  who ← head_at bytes
-  seq ← item (hyper_at who.1)
+unfoldable pub remove_at : Who → List ℕ → Result (Request × List ℕ) Garbage
+remove_at who bytes = do
+  seq ← item (hyper_at bytes)
   call ← item (hyper_at seq.1)
   file ← item (word_at call.1)
-  Ok (request.Remove who.0 seq.0 call.0 file.0, file.1)
+  Ok (request.Remove who seq.0 call.0 file.0, file.1)
+
+-- the arguments of a procedure behind who asks; NULL tells nobody
+abbrev pub arguments_at : Procedure → Who → List ℕ → Result (Request × List ℕ) Garbage
+arguments_at procedure.Null who bytes = Err garbage
+arguments_at procedure.Attach who bytes = Ok (request.Attach who, bytes)
+arguments_at procedure.Lookup who bytes = lookup_at who bytes
+arguments_at procedure.Create who bytes = create_at who bytes
+arguments_at procedure.GetAttr who bytes = get_attr_at who bytes
+arguments_at procedure.Read who bytes = read_at who bytes
+arguments_at procedure.Write who bytes = write_at who bytes
+arguments_at procedure.GetLease who bytes = get_lease_at who bytes
+arguments_at procedure.Vacated who bytes = vacated_at who bytes
+arguments_at procedure.Evicted who bytes = evicted_at who bytes
+arguments_at procedure.Resize who bytes = resize_at who bytes
+arguments_at procedure.Remove who bytes = remove_at who bytes
+
+-- who asks, and what follows
+unfoldable pub asked_at : Procedure → List ℕ → Result (Request × List ℕ) Garbage
+asked_at p bytes = do
+  who ← head_at bytes
+  arguments_at p who.0 who.1
 
 -- the arguments of a procedure
 abbrev pub request_at : Procedure → List ℕ → Result (Request × List ℕ) Garbage
 request_at procedure.Null bytes = Ok (request.Null, bytes)
-request_at procedure.Attach bytes = attach_at bytes
-request_at procedure.Lookup bytes = lookup_at bytes
-request_at procedure.Create bytes = create_at bytes
-request_at procedure.GetAttr bytes = get_attr_at bytes
-request_at procedure.Read bytes = read_at bytes
-request_at procedure.Write bytes = write_at bytes
-request_at procedure.GetLease bytes = get_lease_at bytes
-request_at procedure.Vacated bytes = vacated_at bytes
-request_at procedure.Evicted bytes = evicted_at bytes
-request_at procedure.Resize bytes = resize_at bytes
-request_at procedure.Remove bytes = remove_at bytes
+request_at p bytes = asked_at p bytes
 
 -- ---- the results of each procedure, behind the incarnation and the status OK
 

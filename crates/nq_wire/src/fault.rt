@@ -5,32 +5,16 @@ ghost use Rattle.nq_wire.specs.declared.fault.WireFault.TheVariants as fault;
 ghost use Rattle.nq_wire.specs.Garbage.{garbage};
 
 use nq_xdr::XdrFault;
-use thiserror::Error;
 
 /// Why bytes were not read as a request or a reply.
-#[derive(Clone, Copy, Debug, Error)]
+#[derive(Clone, Copy, Debug)]
 pub enum WireFault {
     /// The program has no procedure of that number.
-    #[error("there is no procedure of that number")]
-    NoSuchProc = 1,
+    NoSuchProc,
     /// The bytes are not in the procedure's grammar.
-    #[error("the bytes are not in the grammar of the procedure")]
-    Garbage = 2,
+    Garbage,
     /// Memory was refused.
-    #[error("out of memory")]
     Memory,
-}
-
-impl WireFault {
-    ghost use Rattle.std.specs.Prelude.{◌≡◌};
-    ghost use Rattle.nq_wire.specs.Fault.{fault_number};
-
-    /// Its number.
-    pub fn number(self) -> u8
-        ensures { result ≡ fault_number self }
-    {
-        self as u8
-    }
 }
 
 /// The bytes are not in the grammar.

@@ -1,6 +1,6 @@
 //! Datagrams to be sent.
 
-ghost use Rattle.std.specs.Prelude.{◌≡◌, ◌+◌, ◌-◌, ◌≤◌, [], ◌∷◌, ◌++◌, length, take, min, slice_get, IsOk, IfOk, OnOk, OnErr, IsNone, IfSome, IsTrue, ◌↔◌};
+ghost use Rattle.std.specs.Prelude.{◌≡◌, ◌+◌, ◌-◌, ◌≤◌, [], ◌∷◌, ◌++◌, length, take, min, slice_get, IsOk, IfOk, OnOk, OnErr, IsNone, IfSome, ◌↔◌};
 
 use crate::{NoMemory, Party};
 use std::alloc::Global;
@@ -72,13 +72,6 @@ impl Outbox {
         ensures { result ≡ length self.now.datagrams }
     {
         self.datagrams.len()
-    }
-
-    /// Whether there are none.
-    pub fn is_empty(&self) -> bool
-        ensures { IsTrue result ↔ (self.now.datagrams ≡ []) }
-    {
-        self.datagrams.is_empty()
     }
 
     /// Keeps the first `len` datagrams.

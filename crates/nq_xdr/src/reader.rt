@@ -92,7 +92,7 @@ fn opaque(bytes: &[u8], max: u32) -> Result<(&[u8], &[u8]), XdrFault>
 
 /// Reads items from the left of bytes that it borrows. Contracts see it as the list of the bytes that
 /// are left.
-#[derive(Debug, Drop)]
+#[derive(Drop)]
 pub struct Reader<'a> {
     bytes: &'a [u8],
 }

@@ -15,7 +15,7 @@ use std::marker::Model;
 ///
 /// What is put needs room, and takes no memory. Other writes either append their item or leave the writer as it
 /// was, and are refused only where the item takes more than `spare` bytes.
-#[derive(Debug, Drop)]
+#[derive(Drop)]
 pub struct Writer {
     bytes: Vec<u8>,
 }

@@ -1,7 +1,7 @@
 //! Why turns stop.
 
 /// Why the turns of a server, or those of a client for one of its calls, stop before they bring what they were taken for.
-#[derive(Clone, Copy, PartialEq, Eq)]
+#[derive(Clone, Copy)]
 pub enum Halt {
     /// The link failed.
     Link,

@@ -11,7 +11,7 @@ use nq_keeper::{KeepFault, Keeper};
 use nq_store::Store;
 
 /// What a store keeps, in numbers.
-#[derive(Clone, Copy, PartialEq, Eq)]
+#[derive(Clone, Copy)]
 pub struct Survey {
     /// The numbers of the server.
     pub heads: Heads,

@@ -12,7 +12,7 @@ pub enum StagedEvent {
 }
 
 /// What a staged run counted.
-#[derive(Clone, Copy, PartialEq, Eq)]
+#[derive(Clone, Copy)]
 pub struct StagedCounts {
     /// STAGE packets that were taken in.
     pub staged: u32,

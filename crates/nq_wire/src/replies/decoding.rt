@@ -1,6 +1,6 @@
 //! Reading results.
 
-ghost use Rattle.std.specs.Prelude.{◌≡◌, ◌≢◌, true, ◌<◌, ◌≤◌, ◌↔◌, IfOk};
+ghost use Rattle.std.specs.Prelude.{◌≡◌, ◌≢◌, ◌<◌, ◌≤◌, ◌↔◌, IfOk};
 ghost use Rattle.nq_base.specs.declared.Reply.{Reply};
 ghost use Rattle.nq_xdr.specs.Reading.{Gives};
 ghost use Rattle.nq_wire.specs.Reply.{IsResults};
@@ -11,44 +11,44 @@ use crate::fault::Garbage;
 use crate::lent::LentReply;
 use crate::parts::decoding::{end, hyper, lent_body, optional_grant, word};
 use crate::{Procedure, Reply, WireFault, status};
-use nq_base::{FileId, Inc, Rev, Spare};
+use nq_base::{FileId, Inc, Rev};
 use nq_xdr::Reader;
 
 #[tactic(auto, unfolding(crate::specs::Reading::found_at))]
-fn found(inc: Inc, reader: &mut Reader) -> Result<Reply, Garbage>
-    ensures { Gives (λ r. (r, reader.new)) result (found_at inc reader.old) }
+fn found<'a>(inc: Inc, reader: &mut Reader<'a>) -> Result<LentReply<'a>, Garbage>
+    ensures { Gives (λ r. (r, reader.new)) (lent_in result) (found_at inc reader.old) }
 {
     let file = word(reader)?;
     let blocks = word(reader)?;
-    Ok(Reply::Lookup {
+    Ok(LentReply::Plain(Reply::Lookup {
         inc,
         file: FileId(file),
         blocks,
-    })
+    }))
 }
 
 #[tactic(auto, unfolding(crate::specs::Reading::created_at))]
-fn created(inc: Inc, reader: &mut Reader) -> Result<Reply, Garbage>
-    ensures { Gives (λ r. (r, reader.new)) result (created_at inc reader.old) }
+fn created<'a>(inc: Inc, reader: &mut Reader<'a>) -> Result<LentReply<'a>, Garbage>
+    ensures { Gives (λ r. (r, reader.new)) (lent_in result) (created_at inc reader.old) }
 {
     let file = word(reader)?;
-    Ok(Reply::Create {
+    Ok(LentReply::Plain(Reply::Create {
         inc,
         file: FileId(file),
-    })
+    }))
 }
 
 #[tactic(auto, unfolding(crate::specs::Reading::attributes_at))]
-fn attributes(inc: Inc, reader: &mut Reader) -> Result<Reply, Garbage>
-    ensures { Gives (λ r. (r, reader.new)) result (attributes_at inc reader.old) }
+fn attributes<'a>(inc: Inc, reader: &mut Reader<'a>) -> Result<LentReply<'a>, Garbage>
+    ensures { Gives (λ r. (r, reader.new)) (lent_in result) (attributes_at inc reader.old) }
 {
     let blocks = word(reader)?;
     let rev = hyper(reader)?;
-    Ok(Reply::GetAttr {
+    Ok(LentReply::Plain(Reply::GetAttr {
         inc,
         blocks,
         rev: Rev(rev),
-    })
+    }))
 }
 
 /// The results of READ, which lend the body.
@@ -68,48 +68,30 @@ fn block<'a>(inc: Inc, reader: &mut Reader<'a>) -> Result<LentReply<'a>, Garbage
 }
 
 #[tactic(auto, unfolding(crate::specs::Reading::written_at))]
-fn written(inc: Inc, reader: &mut Reader) -> Result<Reply, Garbage>
-    ensures { Gives (λ r. (r, reader.new)) result (written_at inc reader.old) }
+fn written<'a>(inc: Inc, reader: &mut Reader<'a>) -> Result<LentReply<'a>, Garbage>
+    ensures { Gives (λ r. (r, reader.new)) (lent_in result) (written_at inc reader.old) }
 {
     let rev = hyper(reader)?;
-    Ok(Reply::Write { inc, rev: Rev(rev) })
+    Ok(LentReply::Plain(Reply::Write { inc, rev: Rev(rev) }))
 }
 
 #[tactic(auto, unfolding(crate::specs::Reading::lease_at))]
-fn lease(inc: Inc, reader: &mut Reader) -> Result<Reply, Garbage>
-    ensures { Gives (λ r. (r, reader.new)) result (lease_at inc reader.old) }
+fn lease<'a>(inc: Inc, reader: &mut Reader<'a>) -> Result<LentReply<'a>, Garbage>
+    ensures { Gives (λ r. (r, reader.new)) (lent_in result) (lease_at inc reader.old) }
 {
     let grant = optional_grant(reader)?;
-    Ok(Reply::GetLease { inc, grant })
+    Ok(LentReply::Plain(Reply::GetLease { inc, grant }))
 }
 
 #[tactic(auto, unfolding(crate::specs::Reading::resized_at))]
-fn resized(inc: Inc, reader: &mut Reader) -> Result<Reply, Garbage>
-    ensures { Gives (λ r. (r, reader.new)) result (resized_at inc reader.old) }
+fn resized<'a>(inc: Inc, reader: &mut Reader<'a>) -> Result<LentReply<'a>, Garbage>
+    ensures { Gives (λ r. (r, reader.new)) (lent_in result) (resized_at inc reader.old) }
 {
     let rev = hyper(reader)?;
-    Ok(Reply::Resize { inc, rev: Rev(rev) })
+    Ok(LentReply::Plain(Reply::Resize { inc, rev: Rev(rev) }))
 }
 
-/// The results of a procedure but READ, behind the incarnation and the status OK.
-fn plain_results(procedure: Procedure, inc: Inc, reader: &mut Reader) -> Result<Reply, Garbage>
-    requires { procedure ≢ Procedure.Read }
-    ensures { Gives (λ r. (r, reader.new)) result (results_at procedure inc reader.old) }
-{
-    match procedure {
-        Procedure::Attach => Ok(Reply::Attach { inc }),
-        Procedure::Lookup => found(inc, reader),
-        Procedure::Create => created(inc, reader),
-        Procedure::GetAttr => attributes(inc, reader),
-        Procedure::Write => written(inc, reader),
-        Procedure::GetLease => lease(inc, reader),
-        Procedure::Resize => resized(inc, reader),
-        Procedure::Remove => Ok(Reply::Remove { inc }),
-        Procedure::Null | Procedure::Read | Procedure::Vacated | Procedure::Evicted => Err(Garbage),
-    }
-}
-
-/// The results behind the incarnation and the status OK.
+/// The results of a procedure, behind the incarnation and the status OK.
 fn results<'a>(
     procedure: Procedure,
     inc: Inc,
@@ -118,8 +100,16 @@ fn results<'a>(
     ensures { Gives (λ r. (r, reader.new)) (lent_in result) (results_at procedure inc reader.old) }
 {
     match procedure {
+        Procedure::Attach => Ok(LentReply::Plain(Reply::Attach { inc })),
+        Procedure::Lookup => found(inc, reader),
+        Procedure::Create => created(inc, reader),
+        Procedure::GetAttr => attributes(inc, reader),
         Procedure::Read => block(inc, reader),
-        _ => Ok(LentReply::Plain(plain_results(procedure, inc, reader)?)),
+        Procedure::Write => written(inc, reader),
+        Procedure::GetLease => lease(inc, reader),
+        Procedure::Resize => resized(inc, reader),
+        Procedure::Remove => Ok(LentReply::Plain(Reply::Remove { inc })),
+        Procedure::Null | Procedure::Vacated | Procedure::Evicted => Err(Garbage),
     }
 }
 
@@ -175,33 +165,4 @@ pub fn decode_reply_in_place(procedure: u32, bytes: &[u8]) -> Result<LentReply<'
     let reply = reply(called, &mut reader)?;
     end(reader)?;
     Ok(reply)
-}
-
-/// The reply whose results are all of the bytes, by the number of the procedure that was called. The body
-/// of a block goes into `room`, so no memory is wanted.
-///
-/// # Errors
-///
-/// `NoSuchProc` exactly where the number is above 11, else `Garbage` exactly where the bytes are not the
-/// procedure's results, as always of VACATED and EVICTED, which have no reply.
-pub fn decode_reply(procedure: u32, bytes: &[u8], room: &mut Spare) -> Result<Reply, WireFault>
-    requires { room.old ≡ true }
-
-    // What is read is spelled so, and what is spelled so is read.
-    ensures found { IfOk result (λ r. IsResults procedure r bytes.now) }
-    ensures only { (r : Reply) → IsResults procedure r bytes.now → result ≡ Ok r }
-
-    // When each error comes.
-    ensures no_procedure { (result ≡ Err WireFault.NoSuchProc) ↔ (11 < procedure) }
-    ensures garbage { (result ≡ Err WireFault.Garbage)
-        ↔ ((procedure ≤ 11) × ((r : Reply) → IsResults procedure r bytes.now → ⊥)) }
-    ensures memory { result ≢ Err WireFault.Memory }
-
-    // All of it, as reading from the left.
-    ensures step { result ≡ reply_in procedure bytes.now }
-{
-    match decode_reply_in_place(procedure, bytes) {
-        Ok(reply) => Ok(reply.kept(room)),
-        Err(fault) => Err(fault),
-    }
 }

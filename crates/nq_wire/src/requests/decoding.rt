@@ -4,38 +4,28 @@ ghost use Rattle.std.specs.Prelude.{◌≡◌, ◌≢◌, true, ◌<◌, ◌≤�
 ghost use Rattle.nq_base.specs.declared.Request.{Request};
 ghost use Rattle.nq_xdr.specs.Reading.{Gives};
 ghost use Rattle.nq_wire.specs.Request.{IsArguments};
-ghost use Rattle.nq_wire.specs.Reading.{attach_at, lookup_at, create_at, get_attr_at, read_at, span_at, write_at, get_lease_at, vacated_at, evicted_at, resize_at, remove_at, request_at, request_in};
+ghost use Rattle.nq_wire.specs.Reading.{lookup_at, create_at, get_attr_at, read_at, span_at, write_at, get_lease_at, vacated_at, evicted_at, resize_at, remove_at, asked_at, request_at, request_in};
 
 use crate::fault::Garbage;
 use crate::parts::decoding::{
     body, end, hyper, name, optional_push, optional_want, tag, want, who, word,
 };
 use crate::{Procedure, PushBase, Request, WireFault};
-use nq_base::{BlockNo, FileId, Number, Seq, Spare};
+use nq_base::{BlockNo, FileId, Number, Seq, Spare, Who};
 use nq_xdr::Reader;
 
-#[tactic(auto, unfolding(crate::specs::Reading::attach_at))]
-fn attach(reader: &mut Reader) -> Result<Request, Garbage>
-    ensures { Gives (λ r. (r, reader.new)) result (attach_at reader.old) }
-{
-    let who = who(reader)?;
-    Ok(Request::Attach { who })
-}
-
 #[tactic(auto, unfolding(crate::specs::Reading::lookup_at))]
-fn lookup(reader: &mut Reader) -> Result<Request, Garbage>
-    ensures { Gives (λ r. (r, reader.new)) result (lookup_at reader.old) }
+fn lookup(who: Who, reader: &mut Reader) -> Result<Request, Garbage>
+    ensures { Gives (λ r. (r, reader.new)) result (lookup_at who reader.old) }
 {
-    let who = who(reader)?;
     let name = name(reader)?;
     Ok(Request::Lookup { who, name })
 }
 
 #[tactic(auto, unfolding(crate::specs::Reading::create_at))]
-fn create(reader: &mut Reader) -> Result<Request, Garbage>
-    ensures { Gives (λ r. (r, reader.new)) result (create_at reader.old) }
+fn create(who: Who, reader: &mut Reader) -> Result<Request, Garbage>
+    ensures { Gives (λ r. (r, reader.new)) result (create_at who reader.old) }
 {
-    let who = who(reader)?;
     let seq = hyper(reader)?;
     let name = name(reader)?;
     let blocks = word(reader)?;
@@ -48,10 +38,9 @@ fn create(reader: &mut Reader) -> Result<Request, Garbage>
 }
 
 #[tactic(auto, unfolding(crate::specs::Reading::get_attr_at))]
-fn get_attr(reader: &mut Reader) -> Result<Request, Garbage>
-    ensures { Gives (λ r. (r, reader.new)) result (get_attr_at reader.old) }
+fn get_attr(who: Who, reader: &mut Reader) -> Result<Request, Garbage>
+    ensures { Gives (λ r. (r, reader.new)) result (get_attr_at who reader.old) }
 {
-    let who = who(reader)?;
     let file = word(reader)?;
     Ok(Request::GetAttr {
         who,
@@ -60,10 +49,9 @@ fn get_attr(reader: &mut Reader) -> Result<Request, Garbage>
 }
 
 #[tactic(auto, unfolding(crate::specs::Reading::read_at))]
-fn read(reader: &mut Reader) -> Result<Request, Garbage>
-    ensures { Gives (λ r. (r, reader.new)) result (read_at reader.old) }
+fn read(who: Who, reader: &mut Reader) -> Result<Request, Garbage>
+    ensures { Gives (λ r. (r, reader.new)) result (read_at who reader.old) }
 {
-    let who = who(reader)?;
     let call = hyper(reader)?;
     let file = word(reader)?;
     let block = word(reader)?;
@@ -92,11 +80,10 @@ fn span(reader: &mut Reader) -> Result<(u64, u64, Option<PushBase>), Garbage>
 }
 
 #[tactic(auto, unfolding(crate::specs::Reading::write_at))]
-fn write(reader: &mut Reader, room: &mut Spare) -> Result<Request, Garbage>
+fn write(who: Who, reader: &mut Reader, room: &mut Spare) -> Result<Request, Garbage>
     requires { room.old ≡ true }
-    ensures { Gives (λ r. (r, reader.new)) result (write_at reader.old) }
+    ensures { Gives (λ r. (r, reader.new)) result (write_at who reader.old) }
 {
-    let who = who(reader)?;
     let seq = hyper(reader)?;
     let file = word(reader)?;
     let block = word(reader)?;
@@ -115,10 +102,9 @@ fn write(reader: &mut Reader, room: &mut Spare) -> Result<Request, Garbage>
 }
 
 #[tactic(auto, unfolding(crate::specs::Reading::get_lease_at))]
-fn get_lease(reader: &mut Reader) -> Result<Request, Garbage>
-    ensures { Gives (λ r. (r, reader.new)) result (get_lease_at reader.old) }
+fn get_lease(who: Who, reader: &mut Reader) -> Result<Request, Garbage>
+    ensures { Gives (λ r. (r, reader.new)) result (get_lease_at who reader.old) }
 {
-    let who = who(reader)?;
     let file = word(reader)?;
     let want = want(reader)?;
     Ok(Request::GetLease {
@@ -129,10 +115,9 @@ fn get_lease(reader: &mut Reader) -> Result<Request, Garbage>
 }
 
 #[tactic(auto, unfolding(crate::specs::Reading::vacated_at))]
-fn vacated(reader: &mut Reader) -> Result<Request, Garbage>
-    ensures { Gives (λ r. (r, reader.new)) result (vacated_at reader.old) }
+fn vacated(who: Who, reader: &mut Reader) -> Result<Request, Garbage>
+    ensures { Gives (λ r. (r, reader.new)) result (vacated_at who reader.old) }
 {
-    let who = who(reader)?;
     let file = word(reader)?;
     let tag = tag(reader)?;
     Ok(Request::Vacated {
@@ -143,10 +128,9 @@ fn vacated(reader: &mut Reader) -> Result<Request, Garbage>
 }
 
 #[tactic(auto, unfolding(crate::specs::Reading::evicted_at))]
-fn evicted(reader: &mut Reader) -> Result<Request, Garbage>
-    ensures { Gives (λ r. (r, reader.new)) result (evicted_at reader.old) }
+fn evicted(who: Who, reader: &mut Reader) -> Result<Request, Garbage>
+    ensures { Gives (λ r. (r, reader.new)) result (evicted_at who reader.old) }
 {
-    let who = who(reader)?;
     let file = word(reader)?;
     let tag = tag(reader)?;
     Ok(Request::Evicted {
@@ -157,10 +141,9 @@ fn evicted(reader: &mut Reader) -> Result<Request, Garbage>
 }
 
 #[tactic(auto, unfolding(crate::specs::Reading::resize_at))]
-fn resize(reader: &mut Reader) -> Result<Request, Garbage>
-    ensures { Gives (λ r. (r, reader.new)) result (resize_at reader.old) }
+fn resize(who: Who, reader: &mut Reader) -> Result<Request, Garbage>
+    ensures { Gives (λ r. (r, reader.new)) result (resize_at who reader.old) }
 {
-    let who = who(reader)?;
     let seq = hyper(reader)?;
     let call = hyper(reader)?;
     let file = word(reader)?;
@@ -175,10 +158,9 @@ fn resize(reader: &mut Reader) -> Result<Request, Garbage>
 }
 
 #[tactic(auto, unfolding(crate::specs::Reading::remove_at))]
-fn remove(reader: &mut Reader) -> Result<Request, Garbage>
-    ensures { Gives (λ r. (r, reader.new)) result (remove_at reader.old) }
+fn remove(who: Who, reader: &mut Reader) -> Result<Request, Garbage>
+    ensures { Gives (λ r. (r, reader.new)) result (remove_at who reader.old) }
 {
-    let who = who(reader)?;
     let seq = hyper(reader)?;
     let call = hyper(reader)?;
     let file = word(reader)?;
@@ -190,24 +172,37 @@ fn remove(reader: &mut Reader) -> Result<Request, Garbage>
     })
 }
 
-/// The arguments of a procedure. A WRITE alone brings a body.
+/// Who asks, and the arguments behind it. A WRITE alone brings a body.
+#[tactic(auto, unfolding(crate::specs::Reading::asked_at))]
+fn asked(procedure: Procedure, reader: &mut Reader, room: &mut Spare) -> Result<Request, Garbage>
+    requires { procedure ≡ Procedure.Write → room.old ≡ true }
+    ensures { Gives (λ r. (r, reader.new)) result (asked_at procedure reader.old) }
+{
+    let who = who(reader)?;
+    match procedure {
+        Procedure::Null => Err(Garbage),
+        Procedure::Attach => Ok(Request::Attach { who }),
+        Procedure::Lookup => lookup(who, reader),
+        Procedure::Create => create(who, reader),
+        Procedure::GetAttr => get_attr(who, reader),
+        Procedure::Read => read(who, reader),
+        Procedure::Write => write(who, reader, room),
+        Procedure::GetLease => get_lease(who, reader),
+        Procedure::Vacated => vacated(who, reader),
+        Procedure::Evicted => evicted(who, reader),
+        Procedure::Resize => resize(who, reader),
+        Procedure::Remove => remove(who, reader),
+    }
+}
+
+/// The arguments of a procedure: NULL has none, and the others begin with who asks.
 fn request(procedure: Procedure, reader: &mut Reader, room: &mut Spare) -> Result<Request, Garbage>
     requires { procedure ≡ Procedure.Write → room.old ≡ true }
     ensures { Gives (λ r. (r, reader.new)) result (request_at procedure reader.old) }
 {
     match procedure {
         Procedure::Null => Ok(Request::Null),
-        Procedure::Attach => attach(reader),
-        Procedure::Lookup => lookup(reader),
-        Procedure::Create => create(reader),
-        Procedure::GetAttr => get_attr(reader),
-        Procedure::Read => read(reader),
-        Procedure::Write => write(reader, room),
-        Procedure::GetLease => get_lease(reader),
-        Procedure::Vacated => vacated(reader),
-        Procedure::Evicted => evicted(reader),
-        Procedure::Resize => resize(reader),
-        Procedure::Remove => remove(reader),
+        _ => asked(procedure, reader, room),
     }
 }
 
