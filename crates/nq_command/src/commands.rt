@@ -1,7 +1,7 @@
 //! What words say.
 
-ghost use Rattle.std.specs.Prelude.{◌≡◌, ◌≤◌, IfSome};
-ghost use Rattle.nq_command.specs.Commands.{IsRanged, IsTerm, alone_of, client_of, counted_of, kind_of, loop_of, numbered_of, paired_of, ranged_of, serve_of, storm_of};
+ghost use Rattle.std.specs.Prelude.{◌≡◌};
+ghost use Rattle.nq_command.specs.Commands.{alone_of, client_of, counted_of, kind_of, loop_of, numbered_of, paired_of, ranged_of, serve_of, storm_of};
 
 use nq_words::number;
 
@@ -61,8 +61,7 @@ const MOST_TURNS: u32 = 1_000_000;
 /// What a word alone says.
 #[tactic(auto, unfolding(crate::specs::Commands::alone_of))]
 pub(crate) fn alone(name: &[u8]) -> Option<Command>
-    ensures says { result ≡ alone_of name.now }
-    ensures ranged { IfSome result IsRanged }
+    ensures { result ≡ alone_of name.now }
 {
     if name == b"replay".as_slice() {
         Some(Command::Replay)
@@ -82,8 +81,7 @@ pub(crate) fn alone(name: &[u8]) -> Option<Command>
 /// What a name and a number say.
 #[tactic(auto, unfolding(crate::specs::Commands::counted_of))]
 pub(crate) fn counted(name: &[u8], turns: &[u8]) -> Option<Command>
-    ensures says { result ≡ counted_of name.now turns.now }
-    ensures ranged { IfSome result IsRanged }
+    ensures { result ≡ counted_of name.now turns.now }
 {
     if name == b"serve".as_slice() {
         serve(turns, Some(LONGEST))
@@ -95,8 +93,7 @@ pub(crate) fn counted(name: &[u8], turns: &[u8]) -> Option<Command>
 /// What a name and two numbers say.
 #[tactic(auto, unfolding(crate::specs::Commands::paired_of))]
 pub(crate) fn paired(name: &[u8], first: &[u8], second: &[u8]) -> Option<Command>
-    ensures says { result ≡ paired_of name.now first.now second.now }
-    ensures ranged { IfSome result IsRanged }
+    ensures { result ≡ paired_of name.now first.now second.now }
 {
     if name == b"serve".as_slice() {
         serve(first, ranged(second, 5, 600))
@@ -110,9 +107,7 @@ pub(crate) fn paired(name: &[u8], first: &[u8], second: &[u8]) -> Option<Command
 /// What the turns behind `serve` say, with a longest term.
 #[tactic(auto, unfolding(crate::specs::Commands::serve_of))]
 fn serve(turns: &[u8], longest: Option<u32>) -> Option<Command>
-    requires { IfSome longest IsTerm }
-    ensures says { result ≡ serve_of turns.now longest }
-    ensures ranged { IfSome result IsRanged }
+    ensures { result ≡ serve_of turns.now longest }
 {
     let turns = ranged(turns, 1, MOST_TURNS)?;
     let longest = longest?;
@@ -122,8 +117,7 @@ fn serve(turns: &[u8], longest: Option<u32>) -> Option<Command>
 /// What the words behind `loop` say.
 #[tactic(auto, unfolding(crate::specs::Commands::loop_of))]
 fn repeated(hosts: &[u8], turns: &[u8]) -> Option<Command>
-    ensures says { result ≡ loop_of hosts.now turns.now }
-    ensures ranged { IfSome result IsRanged }
+    ensures { result ≡ loop_of hosts.now turns.now }
 {
     let hosts = ranged(hosts, 1, 64)?;
     let turns = ranged(turns, 1, MOST_TURNS)?;
@@ -133,8 +127,7 @@ fn repeated(hosts: &[u8], turns: &[u8]) -> Option<Command>
 /// What a name and three words say.
 #[tactic(auto, unfolding(crate::specs::Commands::numbered_of))]
 pub(crate) fn numbered(name: &[u8], first: &[u8], second: &[u8], third: &[u8]) -> Option<Command>
-    ensures says { result ≡ numbered_of name.now first.now second.now third.now }
-    ensures ranged { IfSome result IsRanged }
+    ensures { result ≡ numbered_of name.now first.now second.now third.now }
 {
     if name == b"storm".as_slice() {
         storm(first, second, third)
@@ -148,8 +141,7 @@ pub(crate) fn numbered(name: &[u8], first: &[u8], second: &[u8], third: &[u8]) -
 /// What the words behind `storm` say.
 #[tactic(auto, unfolding(crate::specs::Commands::storm_of))]
 fn storm(kind: &[u8], start: &[u8], events: &[u8]) -> Option<Command>
-    ensures says { result ≡ storm_of kind.now start.now events.now }
-    ensures ranged { IfSome result IsRanged }
+    ensures { result ≡ storm_of kind.now start.now events.now }
 {
     let kind = kind_of(kind)?;
     let start = number(start, u64::MAX)?;
@@ -164,8 +156,7 @@ fn storm(kind: &[u8], start: &[u8], events: &[u8]) -> Option<Command>
 /// What the words behind `client` say.
 #[tactic(auto, unfolding(crate::specs::Commands::client_of))]
 fn client(host: &[u8], inc: &[u8], turns: &[u8]) -> Option<Command>
-    ensures says { result ≡ client_of host.now inc.now turns.now }
-    ensures ranged { IfSome result IsRanged }
+    ensures { result ≡ client_of host.now inc.now turns.now }
 {
     let host = ranged(host, 0, 63)?;
     let inc = ranged(inc, 1, u32::MAX)?;
@@ -194,8 +185,7 @@ fn kind_of(word: &[u8]) -> Option<u8>
 /// The number from `least` to `most` that a word writes.
 #[tactic(auto, unfolding(crate::specs::Commands::ranged_of))]
 fn ranged(word: &[u8], least: u32, most: u32) -> Option<u32>
-    ensures says { result ≡ ranged_of least most word.now }
-    ensures within { IfSome result (λ n. (least ≤ n) × (n ≤ most)) }
+    ensures { result ≡ ranged_of least most word.now }
 {
     let value = number(word, u64::from(most))? as u32;
     if value < least { None } else { Some(value) }

@@ -1,6 +1,6 @@
 //! The words that say what to run.
 
-ghost use Rattle.std.specs.Prelude.{◌≡◌, ◌++◌, ◌∷◌, [], IsOk, IfOk, IfSome, OnOk, OnErr};
+ghost use Rattle.std.specs.Prelude.{◌≡◌, ◌++◌, ◌∷◌, [], IsOk, IfOk, IfSome, OnOk, OnErr, map};
 ghost use Rattle.nq_command.specs.Commands.{IsRanged, command_of};
 
 use crate::commands::{Command, alone, counted, numbered, paired};
@@ -58,17 +58,24 @@ impl Words {
         ensures says { result ≡ command_of self.now }
         ensures ranged { IfSome result IsRanged }
     {
-        match self.words.as_slice() {
-            [name] => alone(name.as_slice()),
-            [name, first] => counted(name.as_slice(), first.as_slice()),
-            [name, first, second] => paired(name.as_slice(), first.as_slice(), second.as_slice()),
-            [name, first, second, third] => numbered(
-                name.as_slice(),
-                first.as_slice(),
-                second.as_slice(),
-                third.as_slice(),
-            ),
-            _ => None,
-        }
+        said(self.words.as_slice())
+    }
+}
+
+/// What words say, if they are those of a command.
+fn said(words: &[Vec<u8>]) -> Option<Command>
+    ensures { result ≡ command_of (map (λ word. word.items) words.now) }
+{
+    match words {
+        [name] => alone(name.as_slice()),
+        [name, first] => counted(name.as_slice(), first.as_slice()),
+        [name, first, second] => paired(name.as_slice(), first.as_slice(), second.as_slice()),
+        [name, first, second, third] => numbered(
+            name.as_slice(),
+            first.as_slice(),
+            second.as_slice(),
+            third.as_slice(),
+        ),
+        _ => None,
     }
 }
