@@ -8,7 +8,7 @@ use Rattle.std.proofs.Math.Seq.{take-append-add}
 use Rattle.nq_base.specs.Block.{filled, zeros}
 use Rattle.nq_base.specs.declared.BlockChange.{BlockChange}
 use Rattle.nq_base.specs.declared.FileRow.{FileRow}
-use Rattle.nq_keeper.proofs.Orderly.{made-id, made-blocks}
+use Rattle.nq_keeper.proofs.MadeFiles.{made-id, made-blocks}
 use Rattle.nq_keeper.proofs.Places.{replace-at, drop-at}
 use Rattle.nq_model.specs.Change.{AreApart, file_of, row_of, with_block, with_block_in, with_body, with_file, with_file_at}
 use Rattle.nq_model.specs.Kept.{File, blocks_of, blocks_in_all, find_file, replace_file, drop_file, resized}
@@ -77,10 +77,6 @@ follows-row files new place row apart found lt is =
     is f at
     ∙ sym (replace-at (file_of row f.bodies) f files place apart at (same ∙ sym (made-id row f.bodies)))
     ∙ sym (ap (with_file_at row files) (found ∙ at))
-
--- a new file at the end
-pub adds-row : (files new : List File) (row : FileRow) → find_file row.id files ≡ None → new ≡ files ++ file_of row [] ∷ [] → new ≡ with_file row files
-adds-row files new row none is = is ∙ sym (ap (with_file_at row files) none)
 
 -- a file taken out of its place
 pub drops-file : (files : List File) (place id : ℕ) → AreApart files → find_file id files ≡ slice_get files place → place < length files → remove files place ≡ drop_file id files
