@@ -1,7 +1,7 @@
 -- What the server and a client make of the bytes of a message.
-use Rattle.std.proofs.Common.{◌≡◌, ℕ, ◌<◌, ◌≤◌, Bool, true, false, List, length, Ok, refl, sym, ap, ◌∙◌, arith, Err, Result}
+use Rattle.std.proofs.Common.{◌≡◌, ℕ, ◌≤◌, Bool, true, false, List, length, Ok, refl, sym, ap, ◌∙◌, arith, Err, Result}
 use Rattle.std.specs.Prelude.{Option, Some, None, ◌==◌, ◌&&◌, if◌then◌else◌}
-use Rattle.std.proofs.lemmas.Bool.{and_left, and_right, cases_eq, eqb-true, ne_eqb, le-ltb, lt-ltb}
+use Rattle.std.proofs.lemmas.Bool.{and_left, and_right, cases_eq, eqb-true, ne_eqb, le-ltb}
 use Rattle.std.specs.Prelude.{◌⊎◌}
 use mathlib.Core.Logic.{inl, inr}
 use Rattle.nq_base.specs.declared.Reply.{Reply}
@@ -28,10 +28,6 @@ use Rattle.nq_datagrams.proofs.Written.{message-again, length-bytes_of, request-
 pub short-datagram : (bytes : List ℕ) → length bytes ≤ longest_datagram → datagram_in bytes ≡ read_as (message_at bytes)
 unfolding datagram_in
 short-datagram bytes short = ap (λ test. if test then too_long else read_as (message_at bytes)) (le-ltb longest_datagram (length bytes) short)
-
-pub long-datagram : (bytes : List ℕ) → longest_datagram < length bytes → datagram_in bytes ≡ too_long
-unfolding datagram_in
-long-datagram bytes long = ap (λ test. if test then too_long else read_as (message_at bytes)) (lt-ltb longest_datagram (length bytes) long)
 
 called-again : (xid : ℕ) (r : Request) → IsRequest r → HasSpelling r → read_as (Ok (call_message xid r)) ≡ datagram_of (call xid r)
 unfolding called_as

@@ -17,7 +17,7 @@ use std::alloc::Global;
 use std::marker::Model;
 
 /// The replies of RPC that bring no result (RFC 1057 section 8).
-#[derive(Clone, Copy, PartialEq, Eq)]
+#[derive(Clone, Copy)]
 pub enum ErrorReply {
     /// The call is of another version of RPC.
     RpcMismatch,

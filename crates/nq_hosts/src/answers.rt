@@ -5,7 +5,5 @@ mod lines;
 mod telling;
 
 pub use ending::Stop;
-pub use lines::answers_text;
-pub use nq_base::NoMemory;
 pub(crate) use telling::numbered;
 pub use telling::{tell_bytes, tell_end, tell_script};

@@ -2,8 +2,8 @@
 //! client that runs lines of calls, and counts of what went over a link.
 #![tactic(auto)]
 
-pub mod answers;
-pub mod calls;
+mod answers;
+mod calls;
 pub mod daemon;
 pub mod node;
 pub mod server;

@@ -8,5 +8,6 @@ mod turns;
 
 pub use attending::client_turn;
 pub use sending::send_all;
-pub use serving::serve_turn;
-pub use turns::{ClientTurn, Turn};
+pub(crate) use serving::serve_turn;
+pub use turns::ClientTurn;
+pub(crate) use turns::Turn;

@@ -26,17 +26,3 @@ other-name a b apart = by (same_bytes a b) refl
     by : (c : Bool) → same_bytes a b ≡ c → c ≡ false
     by true e = absurd (apart (same-name a b e))
     by false e = refl
-
--- a search that came to a place
-module _ (name : List ℕ) (files : List File) (i : ℕ) (x : File) (so_far : find_name name files ≡ find_name name (drop i files)) (lt : i < length files) (here : x ≡ get_or files i x) where
-  at-place : drop i files ≡ x ∷ drop (i + 1) files
-  at-place = drop-cons files i x lt ∙ ap (λ f. f ∷ drop (suc i) files) (sym here) ∙ ap (λ n. x ∷ drop n files) (next i)
-    where
-      next : (n : ℕ) → suc n ≡ n + 1
-      next n = omega arith
-
-  pub search-found : x.name ≡ name → find_name name files ≡ Some x
-  search-found own = so_far ∙ ap (find_name name) at-place ∙ ap (λ b. if b then Some x else find_name name (drop (i + 1) files)) (ap (λ n. same_bytes n name) own ∙ same-self name)
-
-  pub search-past : x.name ≢ name → find_name name files ≡ find_name name (drop (i + 1) files)
-  search-past other = so_far ∙ ap (find_name name) at-place ∙ ap (λ b. if b then Some x else find_name name (drop (i + 1) files)) (other-name x.name name other)

@@ -1,6 +1,6 @@
 -- What the edits of a vector of files, and of a vector of blocks, make of them.
-use Rattle.std.proofs.Common.{◌≡◌, ℕ, ◌+◌, ◌-◌, ◌≤◌, ◌<◌, ◌==◌, Bool, true, false, not, if◌then◌else◌, List, [], ◌∷◌, ◌++◌, Some, None, Result, Ok, Err, suc, zero, set, length, get_or, refl, sym, ap, ◌∙◌, append_assoc, arith}
-use Rattle.std.specs.Prelude.{OnOk, replicate, take, slice_get}
+use Rattle.std.proofs.Common.{◌≡◌, ℕ, ◌+◌, ◌-◌, ◌≤◌, ◌<◌, ◌==◌, Bool, true, false, not, if◌then◌else◌, List, [], ◌∷◌, ◌++◌, Some, None, Result, Ok, Err, suc, zero, set, length, get_or, refl, sym, subst, ap, ◌∙◌, append_assoc, arith}
+use Rattle.std.specs.Prelude.{IfOk, OnOk, replicate, take, slice_get}
 use Rattle.std.specs.List.{remove}
 use Rattle.std.specs.Option.{ForSome}
 use Rattle.std.proofs.lemmas.List.{replicate_more, take-replicate}
@@ -8,7 +8,7 @@ use Rattle.std.proofs.Math.Seq.{take-append-add}
 use Rattle.nq_base.specs.Block.{filled, zeros}
 use Rattle.nq_base.specs.declared.BlockChange.{BlockChange}
 use Rattle.nq_base.specs.declared.FileRow.{FileRow}
-use Rattle.nq_keeper.proofs.Orderly.{made-id, made-blocks}
+use Rattle.nq_keeper.proofs.MadeFiles.{made-id, made-blocks}
 use Rattle.nq_keeper.proofs.Places.{replace-at, drop-at}
 use Rattle.nq_model.specs.Change.{AreApart, file_of, row_of, with_block, with_block_in, with_body, with_file, with_file_at}
 use Rattle.nq_model.specs.Kept.{File, blocks_of, blocks_in_all, find_file, replace_file, drop_file, resized}
@@ -53,6 +53,19 @@ some-at [] place lt = absurd (omega arith)
 some-at (x ∷ xs) zero lt = (x, refl)
 some-at (x ∷ xs) (suc place) lt = some-at xs place (omega arith)
 
+-- an element that is there is the one at its place
+pub got-at : {X : Type 0} (xs : List X) (place : ℕ) (x : X) → place < length xs → x ≡ get_or xs place x → slice_get xs place ≡ Some x
+got-at xs place x lt is = let one = some-at xs place lt in one.1 ∙ ap Some (sym (is ∙ get-index xs place one.0 x one.1))
+
+-- the file that stands where its id was found
+pub found-there : (files seen : List File) (place id : ℕ) (f : File) → seen ≡ files → find_file id seen ≡ slice_get seen place → place < length seen → f ≡ get_or files place f → find_file id files ≡ Some f
+found-there files seen place id f same found lt is =
+    subst (λ xs. find_file id xs ≡ Some f) same (found ∙ got-at seen place f lt (subst (λ xs. f ≡ get_or xs place f) (sym same) is))
+
+pub if-ok : {X E : Type 0} (r : Result X E) (P Q : X → Type 0) → ((x : X) → P x → Q x) → IfOk r P → IfOk r Q
+if-ok (Ok x) P Q f p = f x p
+if-ok (Err e) P Q f p = tt
+
 body-id : (f : File) (block : ℕ) (body : List ℕ) → (with_body f block body).id ≡ f.id
 unfolding with_body
 body-id f block body = refl
@@ -77,10 +90,6 @@ follows-row files new place row apart found lt is =
     is f at
     ∙ sym (replace-at (file_of row f.bodies) f files place apart at (same ∙ sym (made-id row f.bodies)))
     ∙ sym (ap (with_file_at row files) (found ∙ at))
-
--- a new file at the end
-pub adds-row : (files new : List File) (row : FileRow) → find_file row.id files ≡ None → new ≡ files ++ file_of row [] ∷ [] → new ≡ with_file row files
-adds-row files new row none is = is ∙ sym (ap (with_file_at row files) none)
 
 -- a file taken out of its place
 pub drops-file : (files : List File) (place id : ℕ) → AreApart files → find_file id files ≡ slice_get files place → place < length files → remove files place ≡ drop_file id files

@@ -4,7 +4,7 @@ pub mod CappedRows
 pub mod Edits
 pub mod Fitting
 pub mod Leaving
+pub mod MadeFiles
 pub mod Naming
-pub mod Orderly
 pub mod Places
 pub mod Stored

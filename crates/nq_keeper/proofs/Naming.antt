@@ -12,7 +12,7 @@ use Rattle.nq_keeper.specs.InOrder.{IsRowAmong}
 use Rattle.nq_keeper.specs.Named.{AreNamed, StandsAt, id_found, id_of}
 use Rattle.nq_keeper.proofs.Called.{same-self, other-name}
 use Rattle.nq_keeper.proofs.Edits.{some-at}
-use Rattle.nq_keeper.proofs.Orderly.{made-id, made-name}
+use Rattle.nq_keeper.proofs.MadeFiles.{made-id, made-name}
 use Rattle.nq_model.specs.Change.{AreApart, HasBlock, file_of, with_block, with_block_in, with_body, with_file, with_file_at}
 use Rattle.nq_model.specs.Kept.{File, find_file, find_name, drop_file, replace_file}
 use Rattle.nq_model.specs.Profile.{same_bytes}
@@ -192,13 +192,6 @@ of-named names files name id apart named at = by (find_name name files) refl
         let e : Some f.id ≡ Some id = sym (ap id_found is) ∙ sym (named name) ∙ at in
         let same : f.id ≡ id = cc in
         subst (λ i. find_file i files ≡ Some f) same (found-named name files f apart is) ∙ sym is
-
-pub none-named : (names : List (Vec ℕ Global × ℕ)) (files : List File) (name : List ℕ) → AreNamed names files → id_of name names ≡ None → find_name name files ≡ None
-none-named names files name named at = by (find_name name files) refl
-  where
-    by : (found : Option File) → find_name name files ≡ found → find_name name files ≡ None
-    by None is = is
-    by (Some f) is = let bad : Some f.id ≡ None = sym (ap id_found is) ∙ sym (named name) ∙ at in absurd (cc)
 
 -- a file that follows its row in its place
 pub named-in-place : (names : List (Vec ℕ Global × ℕ)) (files new : List File) (place : ℕ) (row : FileRow) → AreApart files → AreNamed names files → IsRowAmong row files (find_file row.id files) → find_file row.id files ≡ slice_get files place → place < length files → new ≡ with_file row files → AreNamed names new

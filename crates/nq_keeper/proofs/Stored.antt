@@ -5,7 +5,7 @@ use Rattle.std.proofs.lemmas.List.{length-set}
 use Rattle.nq_base.specs.declared.BlockChange.{BlockChange}
 use Rattle.nq_base.specs.declared.FileRow.{FileRow}
 use Rattle.nq_keeper.specs.InOrder.{AreStored, FitsAmong, IsRowAmong}
-use Rattle.nq_keeper.proofs.Orderly.{made-id, made-name}
+use Rattle.nq_keeper.proofs.MadeFiles.{made-id, made-name}
 use Rattle.nq_model.specs.Change.{AreApart, HasBlock, file_of, with_block, with_block_in, with_body, with_file, with_file_at}
 use Rattle.nq_model.specs.Kept.{File, blocks_of, blocks_in_all, find_file, find_name, drop_file}
 use Rattle.nq_model.specs.Profile.{most_files, most_blocks}

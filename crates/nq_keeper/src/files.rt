@@ -8,7 +8,7 @@ ghost use Rattle.nq_keeper.specs.Keeping.{body_at};
 ghost use Rattle.nq_keeper.specs.Named.{AreNamed, StandsAt};
 ghost use Rattle.nq_model.specs.Change.{AreApart, HasBlock, blocks_with, file_after, file_of, files_with, files_without, row_of_found, with_block, with_body, with_file};
 ghost use Rattle.nq_model.specs.Kept.{blocks_of, blocks_in_all, find_file, find_name, drop_file};
-ghost use Rattle.nq_model.specs.Profile.{most_files, most_blocks, most_blocks_of_file};
+ghost use Rattle.nq_model.specs.Profile.{most_blocks_of_file};
 
 use crate::names::{self, Names};
 use crate::stored_file::StoredFile;

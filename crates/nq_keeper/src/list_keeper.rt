@@ -1,6 +1,6 @@
 //! A keeper in memory.
 
-ghost use Rattle.std.specs.Prelude.{◌≡◌, ◌<◌, ◌↔◌, Some, Err, IfOk, OnOk, OnErr, IsErr, IsTrue, length, slice_get, unwrap_or, vec_len};
+ghost use Rattle.std.specs.Prelude.{◌≡◌, ◌<◌, ◌↔◌, Some, Err, IfOk, IsErr, IsTrue, length, slice_get, unwrap_or, vec_len};
 ghost use Rattle.std.specs.Option.{ForSome};
 ghost use Rattle.nq_io.specs.Calls.{fresh, is_next_listed};
 ghost use Rattle.nq_io.specs.Faults.{Rose};
@@ -82,6 +82,18 @@ fn ask(calls: &mut Calls) -> Result<(), KeepFault>
     Ok(())
 }
 
+/// Answers a call that reads, which is counted, and fails where it is listed.
+fn answered<X: Copy>(calls: &mut Calls, found: X) -> Result<X, KeepFault>
+    ensures answer { result ≡ answer_of calls.old found }
+    ensures calls { calls.new ≡ asked calls.old }
+    ensures rose { IsErr result → Rose calls.old.faults calls.new.faults }
+{
+    match ask(calls) {
+        Ok(()) => Ok(found),
+        Err(fault) => Err(fault),
+    }
+}
+
 /// Writes the row of a host, if one is given.
 fn set_row(hosts: &mut Vec<HostRow>, change: &Option<HostChange>)
     requires { ForSome change.now (λ h. h.host < vec_len hosts.old) }
@@ -159,8 +171,8 @@ impl Keeper for ListKeeper {
         ensures answer { result ≡ answer_of self.old.calls (row_of_found (find_file id self.old.kept.files)) }
         ensures keeper { self.new ≡ after_reading self.old }
     {
-        ask(&mut self.calls)?;
-        Ok(self.files.row(id))
+        let found = self.files.row(id);
+        answered(&mut self.calls, found)
     }
 
     fn by_name(&mut self, name: &Name) -> Result<Option<FileRow>, KeepFault>
@@ -174,8 +186,8 @@ impl Keeper for ListKeeper {
         ensures answer { result ≡ answer_of self.old.calls (row_of_found (find_name name.now self.old.kept.files)) }
         ensures keeper { self.new ≡ after_reading self.old }
     {
-        ask(&mut self.calls)?;
-        Ok(self.files.row_of_name(name))
+        let found = self.files.row_of_name(name);
+        answered(&mut self.calls, found)
     }
 
     fn next_file(&mut self, after: FileId) -> Result<Option<FileRow>, KeepFault>
@@ -189,8 +201,8 @@ impl Keeper for ListKeeper {
         ensures answer { result ≡ answer_of self.old.calls (row_of_found (file_after after self.old.kept.files)) }
         ensures keeper { self.new ≡ after_reading self.old }
     {
-        ask(&mut self.calls)?;
-        Ok(self.files.row_after(after))
+        let found = self.files.row_after(after);
+        answered(&mut self.calls, found)
     }
 
     fn host(&mut self, host: Host) -> Result<HostRow, KeepFault>
@@ -206,8 +218,8 @@ impl Keeper for ListKeeper {
         ensures answer { result ≡ answer_of self.old.calls (host_row self.old.kept host) }
         ensures keeper { self.new ≡ after_reading self.old }
     {
-        ask(&mut self.calls)?;
-        Ok(row_of(self.hosts.as_slice(), host))
+        let found = row_of(self.hosts.as_slice(), host);
+        answered(&mut self.calls, found)
     }
 
     fn heads(&mut self) -> Result<Heads, KeepFault>
@@ -221,8 +233,7 @@ impl Keeper for ListKeeper {
         ensures answer { result ≡ answer_of self.old.calls (heads_of self.old.kept) }
         ensures keeper { self.new ≡ after_reading self.old }
     {
-        ask(&mut self.calls)?;
-        Ok(self.heads)
+        answered(&mut self.calls, self.heads)
     }
 
     fn space(&mut self) -> Result<Space, KeepFault>
@@ -236,8 +247,8 @@ impl Keeper for ListKeeper {
         ensures answer { result ≡ answer_of self.old.calls (space_of self.old.kept) }
         ensures keeper { self.new ≡ after_reading self.old }
     {
-        ask(&mut self.calls)?;
-        Ok(self.files.space())
+        let found = self.files.space();
+        answered(&mut self.calls, found)
     }
 
     fn block(&mut self, id: FileId, block: BlockNo) -> Result<Block, KeepFault>

@@ -1,6 +1,6 @@
 //! A kept file with its blocks.
 
-ghost use Rattle.std.specs.Prelude.{[], ◌≡◌, ◌+◌, ◌-◌, ◌<◌, ◌≤◌, ◌++◌, length, replicate, slice_set, slice_get, Some, IfOk, OnOk, OnErr, IsTrue, ◌↔◌, vec_len, vec_capacity};
+ghost use Rattle.std.specs.Prelude.{[], ◌≡◌, ◌+◌, ◌-◌, ◌<◌, ◌≤◌, ◌++◌, replicate, slice_set, slice_get, Some, IfOk, OnOk, OnErr, vec_len, vec_capacity};
 ghost use Rattle.nq_base.specs.Block.{zeros};
 ghost use Rattle.nq_model.specs.Change.{file_of, row_of, with_body};
 ghost use Rattle.nq_model.specs.Kept.{blocks_of, resized};
@@ -90,13 +90,6 @@ impl StoredFile {
         ensures { result ≡ self.now.id }
     {
         self.id
-    }
-
-    /// Whether it has this name.
-    pub(crate) fn has_name(&self, name: &Name) -> bool
-        ensures { IsTrue result ↔ (self.now.name ≡ name.now) }
-    {
-        self.name.is(name)
     }
 
     /// Its row.

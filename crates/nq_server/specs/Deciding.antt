@@ -106,6 +106,11 @@ rows_serving who (Write w seq file block first last (Some base) body) now rows =
 rows_serving who (Remove w seq q file) now rows = drop_rows_of file rows
 rows_serving who other now rows = rows
 
+-- an entry, if there is one
+abbrev pub entries_of : Option Entry → List Entry
+entries_of None = []
+entries_of (Some entry) = entry ∷ []
+
 -- its entries, where its file had this length
 abbrev pub entries_serving : Who → Request → (length now : ℕ) → List Entry
 entries_serving who (Write w seq file block first last None body) length now =

@@ -1,11 +1,10 @@
 //! What a request that is decided once does beside the kept state.
 
-ghost use Rattle.std.specs.Prelude.{◌≡◌, ◌<◌, ◌≤◌, ◌^◌, [], ◌∷◌, Some, length, true};
-ghost use Rattle.nq_base.specs.declared.Entry.{Entry as Line};
+ghost use Rattle.std.specs.Prelude.{◌≡◌, ◌<◌, ◌≤◌, ◌^◌, Some};
 ghost use Rattle.nq_model.specs.Decided.{done_aside, file_to_change as changed_file, later_aside};
 ghost use Rattle.nq_model.specs.Kept.{Kept};
 ghost use Rattle.nq_model.specs.Table.{find_row, with_rows};
-ghost use Rattle.nq_server.specs.Deciding.{DoesAside, DoesIfFresh, entries_recovering, entries_serving, file_to_tell as told_file, heard_rows, length_in, recovery_after, rows_serving};
+ghost use Rattle.nq_server.specs.Deciding.{DoesAside, DoesIfFresh, entries_of, entries_recovering, entries_serving, file_to_tell as told_file, heard_rows, length_in, recovery_after, rows_serving};
 ghost use Rattle.nq_server.specs.Sound.{IsSound, StaysSound};
 ghost use Rattle.nq_server.specs.State.{beside_of, phase_of, server_of};
 ghost use Rattle.nq_server.specs.Stepping.{Enters};
@@ -13,8 +12,7 @@ ghost use Rattle.nq_server.specs.Stepping.{Enters};
 use crate::gates::file_to_change;
 use crate::state::{Phase, State};
 use nq_base::{
-    Access, BlockNo, Decided, Entry, FileId, Host, Journal, Number, Request, Row, RowKey, Ticks,
-    Verdict, Who,
+    Access, Decided, Entry, FileId, Host, Journal, Request, Row, RowKey, Ticks, Verdict, Who,
 };
 use nq_boot::Recovering;
 use nq_lease::Table;
@@ -42,59 +40,93 @@ fn hear(table: &mut Table, file: FileId, host: Host, time: Ticks)
     }
 }
 
-/// Adds an entry, for which there is room.
-fn enter(log: &mut Journal, entry: Entry)
+/// Adds an entry, if there is one. There is room for it.
+fn enter(log: &mut Journal, entry: Option<Entry>)
     requires { 1 ≤ log.old.spare }
-    ensures { Enters (entry ∷ []) log.old log.new }
+    ensures { Enters (entries_of entry) log.old log.new }
 {
-    log.push(entry).unwrap();
-}
-
-/// What a journal tells of a write that went through.
-fn through(who: Who, file: FileId, block: BlockNo, number: Number, value: u32) -> Entry
-    ensures { result ≡ Line.W who file block number value true }
-{
-    Entry::W {
-        who,
-        file,
-        block,
-        number,
-        value,
-        through: true,
+    if let Some(entry) = entry {
+        log.push(entry).unwrap();
     }
 }
 
-/// What a journal tells of a push that was stored.
-fn stored(who: Who, file: FileId, block: BlockNo, first: Number, last: Number, now: Ticks) -> Entry
-    ensures { result ≡ Line.S who file block first last now }
+/// What a journal tells of a request that was done while serving; `length` is the length that its file had.
+fn told_serving(who: &Who, request: &Request, length: u32, now: Ticks) -> Option<Entry>
+    ensures { entries_of result ≡ entries_serving who.now request.now length now }
 {
-    Entry::S {
-        who,
-        file,
-        block,
-        first,
-        last,
-        now,
+    match request {
+        Request::Write {
+            file,
+            block,
+            first,
+            push: None,
+            body,
+            ..
+        } => Some(Entry::W {
+            who: *who,
+            file: *file,
+            block: *block,
+            number: *first,
+            value: body.value(),
+            through: true,
+        }),
+        Request::Write {
+            file,
+            block,
+            first,
+            last,
+            push: Some(_),
+            ..
+        } => Some(Entry::S {
+            who: *who,
+            file: *file,
+            block: *block,
+            first: *first,
+            last: *last,
+            now,
+        }),
+        Request::Resize {
+            call,
+            file,
+            blocks,
+            ..
+        } => Some(Entry::Z {
+            who: *who,
+            q: *call,
+            file: *file,
+            from: length,
+            to: *blocks,
+        }),
+        Request::Remove { call, file, .. } => Some(Entry::Z {
+            who: *who,
+            q: *call,
+            file: *file,
+            from: length,
+            to: 0,
+        }),
+        _ => None,
     }
 }
 
-/// Tells of a length that a file got.
-fn tell_length(log: &mut Journal, who: Who, call: u64, file: FileId, from: u32, to: u32)
-    requires { 1 ≤ log.old.spare }
-    ensures { Enters (Line.Z who call file from to ∷ []) log.old log.new }
+/// What a request that was done while serving does to the rows.
+#[tactic(auto, unfolding(nq_model::specs::Table::with_rows))]
+fn change_rows(table: &mut Table, who: &Who, request: &Request, now: Ticks)
+    ensures { table.new ≡ with_rows table.old (rows_serving who.now request.now now table.old.rows) }
 {
-    let entry = Entry::Z {
-        who,
-        q: call,
-        file,
-        from,
-        to,
-    };
-    enter(log, entry);
+    match request {
+        Request::Attach { .. } => table.drop_host(who.host),
+        Request::Write { push: None, .. } => {}
+        Request::Write {
+            file,
+            push: Some(_),
+            ..
+        } => hear(table, *file, who.host, now),
+        Request::Remove { file, .. } => table.drop_file(*file),
+        _ => {}
+    }
 }
 
 /// What is done beside the kept state where a request was done while serving; `length` is the length that its file had.
-#[tactic(auto, unfolding(nq_model::specs::Table::with_rows))]
 fn done_serving(
     table: &mut Table,
     who: Who,
@@ -107,39 +139,8 @@ fn done_serving(
     ensures table { table.new ≡ with_rows table.old (rows_serving who request.now now table.old.rows) }
     ensures entries { Enters (entries_serving who request.now length now) log.old log.new }
 {
-    match request {
-        Request::Attach { .. } => table.drop_host(who.host),
-        Request::Write {
-            file,
-            block,
-            first,
-            push: None,
-            body,
-            ..
-        } => enter(log, through(who, *file, *block, *first, body.value())),
-        Request::Write {
-            file,
-            block,
-            first,
-            last,
-            push: Some(_),
-            ..
-        } => {
-            hear(table, *file, who.host, now);
-            enter(log, stored(who, *file, *block, *first, *last, now));
-        }
-        Request::Resize {
-            call,
-            file,
-            blocks,
-            ..
-        } => tell_length(log, who, *call, *file, length, *blocks),
-        Request::Remove { call, file, .. } => {
-            table.drop_file(*file);
-            tell_length(log, who, *call, *file, length, 0);
-        }
-        _ => {}
-    }
+    change_rows(table, &who, request, now);
+    enter(log, told_serving(&who, request, length, now));
 }
 
 /// What is done beside the kept state where a request was done while the server recovers, which has no rows.
@@ -164,7 +165,15 @@ fn done_recovering(
             ..
         } => {
             recovery.wrote(now);
-            enter(log, stored(who, *file, *block, *first, *last, now));
+            let entry = Entry::S {
+                who,
+                file: *file,
+                block: *block,
+                first: *first,
+                last: *last,
+                now,
+            };
+            enter(log, Some(entry));
         }
         _ => {}
     }

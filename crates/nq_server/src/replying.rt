@@ -1,12 +1,12 @@
 //! Replies to hosts.
 
-ghost use Rattle.std.specs.Prelude.{◌≡◌, ◌≤◌, ◌+◌, ◌%◌, [], ◌∷◌, ◌++◌, length, map, OnOk, OnErr};
+ghost use Rattle.std.specs.Prelude.{◌≡◌, ◌≤◌, ◌+◌, ◌%◌, [], ◌∷◌, ◌++◌, length, IfOk, OnOk, OnErr};
 ghost use Rattle.nq_base.specs.declared.Refusal.{Refusal as Status};
 ghost use Rattle.nq_base.specs.declared.Reply.{Reply as Answer};
-ghost use Rattle.nq_datagrams.specs.Sent.{sent};
+ghost use Rattle.nq_datagrams.specs.Messages.{FitsMessage, bytes_of};
 ghost use Rattle.nq_datagrams.specs.Told.{told_error};
 ghost use Rattle.nq_lease.specs.Telling.{told_rows};
-ghost use Rattle.nq_model.specs.Message.{error as error_to, reply as reply_to};
+ghost use Rattle.nq_model.specs.Message.{Message, error as error_to, reply as reply_to};
 ghost use Rattle.nq_model.specs.Profile.{xid_end};
 ghost use Rattle.nq_model.specs.Server.{notices as notices_of, to_host};
 ghost use Rattle.nq_server.specs.Answering.{IsSilent};
@@ -31,19 +31,15 @@ pub(crate) struct Caller {
     pub(crate) xid: u32,
 }
 
-/// Adds a reply to a host. Where memory is wanting the datagrams are as before.
-fn reply(
-    alloc: Global,
-    host: Host,
-    xid: u32,
-    said: &Reply,
-    out: &mut Outbox,
-) -> Result<(), NoMemory>
-    ensures sends { OnOk result (Sends (to_host host (reply_to xid said.now) ∷ []) out.old out.new) }
+/// Adds a datagram to a host, if memory was there for it. Where memory is wanting the datagrams are as before.
+fn push(host: Host, made: Result<Vec<u8>, NoMemory>, out: &mut Outbox) -> Result<(), NoMemory>
+    ensures sends { (message : Message) → IfOk made (λ bytes. bytes.items ≡ bytes_of message) → OnOk made (FitsMessage message) → OnOk result (Sends (to_host host message ∷ []) out.old out.new) }
     ensures refused { OnErr result (IsSilent out.old out.new) }
 {
-    let bytes = reply_bytes(alloc, xid, said)?;
-    out.push(Party::Client(host), bytes)
+    match made {
+        Ok(bytes) => out.push(Party::Client(host), bytes),
+        Err(fault) => Err(fault),
+    }
 }
 
 /// Answers a request with a reply, and does nothing else.
@@ -56,7 +52,7 @@ pub(crate) fn answer(
 ) -> Result<Taken, KeepFault>
     ensures { Says (to_host host (reply_to xid said.now)) result out.old out.new }
 {
-    match reply(alloc, host, xid, said, out) {
+    match push(host, reply_bytes(alloc, xid, said), out) {
         Ok(()) => Ok(Taken::Done),
         Err(NoMemory::Memory) => Err(KeepFault::Memory),
     }
@@ -89,25 +85,10 @@ pub(crate) fn say_error(
 ) -> Result<Taken, KeepFault>
     ensures { Says (to_host host (error_to xid (told_error said))) result out.old out.new }
 {
-    match push_error(alloc, host, xid, said, out) {
+    match push(host, error_bytes(alloc, xid, said), out) {
         Ok(()) => Ok(Taken::Done),
         Err(NoMemory::Memory) => Err(KeepFault::Memory),
     }
-}
-
-/// Adds a reply that brings no result. Where memory is wanting the datagrams are as before.
-fn push_error(
-    alloc: Global,
-    host: Host,
-    xid: u32,
-    said: ErrorReply,
-    out: &mut Outbox,
-) -> Result<(), NoMemory>
-    ensures sends { OnOk result (Sends (to_host host (error_to xid (told_error said)) ∷ []) out.old out.new) }
-    ensures refused { OnErr result (IsSilent out.old out.new) }
-{
-    let bytes = error_bytes(alloc, xid, said)?;
-    out.push(Party::Client(host), bytes)
 }
 
 /// Ends a reply to a host, for which there is room. It takes no memory.
@@ -129,11 +110,11 @@ fn reply_later(alloc: Global, who: Who, xid: u32, out: &mut Outbox) -> Result<()
         inc: who.inc,
         status: Refusal::TryLater,
     };
-    reply(alloc, who.host, xid, &said, out)
+    push(who.host, reply_bytes(alloc, xid, &said), out)
 }
 
 /// Puts a request about a file off: notices to the holders of its rows, with numbers from `notice` on, and then the
-/// refusal. Where memory is wanting the datagrams and the number are as before.
+/// refusal. Where memory is wanting the datagrams are as before.
 pub(crate) fn put_off(
     alloc: Global,
     table: &Table,
@@ -146,16 +127,13 @@ pub(crate) fn put_off(
     ensures sends { OnOk result (Sends (notices_of notice.old (told_rows file to table.now.rows) ++ to_host caller.who.host (reply_to caller.xid (Answer.Refused caller.who.inc Status.TryLater)) ∷ []) out.old out.new) }
     ensures counted { OnOk result (notice.new ≡ (notice.old + length (told_rows file to table.now.rows)) % xid_end) }
     ensures silent { OnErr result (IsSilent out.old out.new) }
-    ensures number { OnErr result (notice.new ≡ notice.old) }
 {
-    let before = *notice;
     let len = out.len();
     notices(alloc, table, file, to, notice, out)?;
     match reply_later(alloc, caller.who, caller.xid, out) {
         Ok(()) => Ok(()),
         Err(fault) => {
             out.cut(len);
-            *notice = before;
             Err(fault)
         }
     }

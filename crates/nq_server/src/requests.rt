@@ -1,6 +1,6 @@
 //! Requests to a server.
 
-ghost use Rattle.std.specs.Prelude.{◌≡◌, ◌<◌, ◌^◌, ◌==◌, ◌&&◌, ℕ, false, nat_lt};
+ghost use Rattle.std.specs.Prelude.{◌≡◌, ◌<◌, ◌^◌, ◌==◌, ◌&&◌, false, nat_lt};
 ghost use Rattle.nq_base.specs.declared.HostRow.{HostRow as Line};
 ghost use Rattle.nq_base.specs.Entries.{EntryList};
 ghost use Rattle.nq_model.specs.Decided.{is_decided_once as decided_once};

@@ -3,7 +3,7 @@
 ghost use Rattle.std.specs.Prelude.{◌≡◌, ◌<◌, ◌^◌, length, Option, Ok};
 ghost use Rattle.nq_base.specs.declared.Answer.{Answer};
 ghost use Rattle.nq_base.specs.declared.Party.{Party};
-ghost use Rattle.nq_hosts.specs.ClientTurn.{AttendsTurn, GoesOn, Moment, Receives, SendsOut, Stages, Takes, first_of, given_by, goes_on, tick_due, turn_of};
+ghost use Rattle.nq_hosts.specs.ClientTurn.{AttendsTurn, GoesOn, Receives, SendsOut, Stages, Takes, first_of, given_by, goes_on, tick_due, turn_of};
 ghost use Rattle.nq_hosts.specs.Clocks.{clock_told};
 ghost use Rattle.nq_hosts.specs.Links.{link_told, most_bytes};
 

@@ -1,11 +1,11 @@
 //! Turns of a server.
 
-ghost use Rattle.std.specs.Prelude.{◌≡◌, ◌<◌, ◌≤◌, ◌^◌, ◌||◌, length, nat_lt, Ok};
+ghost use Rattle.std.specs.Prelude.{◌≡◌, ◌<◌, ◌^◌, ◌||◌, length, nat_lt, Ok};
 ghost use Rattle.nq_base.specs.declared.Party.{Party};
 ghost use Rattle.nq_hosts.specs.Clocks.{clock_told};
-ghost use Rattle.nq_hosts.specs.Links.{Letter, link_told, most_bytes};
+ghost use Rattle.nq_hosts.specs.Links.{link_told, most_bytes};
 ghost use Rattle.nq_hosts.specs.Leaving.{IsLeftAt, LeavesBehind, LeavesOnly, LeavesReceiving, LeavesStages, LeavesTurn};
-ghost use Rattle.nq_hosts.specs.ServerTurn.{Moment, SendsOut, Takes, given_by, goes_on, taken, tick_due, turn_of};
+ghost use Rattle.nq_hosts.specs.ServerTurn.{SendsOut, Takes, given_by, goes_on, taken, tick_due, turn_of};
 
 use crate::node::sending::send_all;
 use crate::node::turns::{Halt, MOST_BYTES, Turn};
@@ -28,7 +28,7 @@ use std::alloc::Global;
 /// `Link` only where the link counted a fault, `Keep` only where the keeper did, `Memory` where memory was refused, and `Spent`
 /// where the server was at the step that stopped the turn. What was done before stays done, the rest of the turn is left out,
 /// and the datagram of the step that was refused is gone.
-pub fn serve_turn<K: Keeper, L: Link, C: Clock>(
+pub(crate) fn serve_turn<K: Keeper, L: Link, C: Clock>(
     alloc: Global,
     server: &mut Server<K>,
     link: &mut L,

@@ -7,7 +7,7 @@ pub(crate) const MOST_BYTES: usize = 4401;
 
 /// What came of a turn of a server.
 #[derive(Clone, Copy)]
-pub enum Turn {
+pub(crate) enum Turn {
     /// The clock rose or a datagram came, and all was taken in and sent.
     Took,
     /// The clock did not rise and no datagram came.

@@ -1,8 +1,6 @@
 //! A link that counts.
 
 ghost use Rattle.std.specs.Prelude.{◌≡◌};
-ghost use Rattle.nq_io.specs.Faults.{count_up};
-ghost use Rattle.nq_link.specs.Link.{Comes, CountsReceive, CountsSend, Sends};
 
 use crate::traffic::classes::{class_heard, class_said};
 use crate::traffic::counts::Counts;

@@ -74,12 +74,31 @@ impl Told {
     }
 }
 
-/// A name and a number behind a space.
-fn push_count(alloc: Global, line: &mut String, name: &str, count: u64) -> Result<(), NoMemory> {
-    let Ok(words) = format!(in alloc; " {name} {count}") else {
+/// Words, a space and a number.
+fn push_count(alloc: Global, line: &mut String, words: &str, count: u64) -> Result<(), NoMemory> {
+    let Ok(counted) = format!(in alloc; "{words} {count}") else {
         return Err(NoMemory::Memory);
     };
-    line.push_str(words.as_str())?;
+    line.push_str(counted.as_str())?;
+    Ok(())
+}
+
+/// Words and numbers, one after the other.
+fn push_counts(alloc: Global, line: &mut String, counts: &[(&str, u64)]) -> Result<(), NoMemory> {
+    for (words, count) in counts {
+        push_count(alloc, line, words, *count)?;
+    }
+    Ok(())
+}
+
+/// The procedures of which calls came, each with how many.
+fn push_calls(alloc: Global, line: &mut String, calls: &[u64]) -> Result<(), NoMemory> {
+    for (name, count) in PROCEDURES.iter().zip(calls.iter()) {
+        if *count > 0 {
+            line.push_str(" ")?;
+            push_count(alloc, line, name, *count)?;
+        }
+    }
     Ok(())
 }
 
@@ -91,44 +110,30 @@ fn line_of(
     told: &Told,
 ) -> Result<String, NoMemory> {
     let mut line = String::new(alloc);
-    line.push_str("after")?;
-    push_count(alloc, &mut line, "seconds", standing.now.0)?;
+    push_count(alloc, &mut line, "after seconds", standing.now.0)?;
     line.push_str(": calls")?;
-    for (name, count) in PROCEDURES.iter().zip(counts.calls.iter()) {
-        if *count > 0 {
-            push_count(alloc, &mut line, name, *count)?;
-        }
-    }
-    push_answers(alloc, &mut line, counts)?;
-    push_told(alloc, &mut line, told)?;
-    push_count(alloc, &mut line, "rows", standing.rows as u64)?;
+    push_calls(alloc, &mut line, &counts.calls)?;
+    let rest = [
+        (" strange", counts.strange),
+        ("; replies ok", counts.done),
+        (" later", counts.later),
+        (" fenced", counts.fenced),
+        (" refused", counts.refused),
+        (" errors", counts.errors),
+        (" notices", counts.notices),
+        (" unsent", counts.unsent),
+        ("; told grants", told.grants),
+        (" fences", told.fences),
+        (" delayed-stored", told.stored),
+        (" through-stored", told.through),
+        (" rows", standing.rows as u64),
+    ];
+    push_counts(alloc, &mut line, &rest)?;
     if let Some(kilobytes) = standing.kilobytes {
-        push_count(alloc, &mut line, "kilobytes", kilobytes)?;
+        push_count(alloc, &mut line, " kilobytes", kilobytes)?;
     }
     line.push_str("\n")?;
     Ok(line)
-}
-
-/// What the journals told.
-fn push_told(alloc: Global, line: &mut String, told: &Told) -> Result<(), NoMemory> {
-    line.push_str("; told")?;
-    push_count(alloc, line, "grants", told.grants)?;
-    push_count(alloc, line, "fences", told.fences)?;
-    push_count(alloc, line, "delayed-stored", told.stored)?;
-    push_count(alloc, line, "through-stored", told.through)
-}
-
-/// The counts of what was sent.
-fn push_answers(alloc: Global, line: &mut String, counts: &Counts) -> Result<(), NoMemory> {
-    push_count(alloc, line, "strange", counts.strange)?;
-    line.push_str("; replies")?;
-    push_count(alloc, line, "ok", counts.done)?;
-    push_count(alloc, line, "later", counts.later)?;
-    push_count(alloc, line, "fenced", counts.fenced)?;
-    push_count(alloc, line, "refused", counts.refused)?;
-    push_count(alloc, line, "errors", counts.errors)?;
-    push_count(alloc, line, "notices", counts.notices)?;
-    push_count(alloc, line, "unsent", counts.unsent)
 }
 
 impl<L, S: Sink, G: Gauge> Watcher<CountedLink<L>> for Report<S, G> {

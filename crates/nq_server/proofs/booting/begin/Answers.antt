@@ -30,3 +30,9 @@ pub returns-clause-leaves : goal.returns-clause-leaves
 returns-clause-leaves g c =
     λ kept told found left.
     two-of found kept (booted kept c.args.longest) _ _ (g.met.K.Keeper.parts _ c.heads.new.self _ found c.heads.ensures.follows c.start.ensures.follows left) (c.heads.ensures.leaves kept told found) (c.start.ensures.leaves kept (c.in-Ok.ensures.reads.0 ∙ told) found)
+
+pub returns-in_err-started-clause-follows : goal.returns-in_err-started-clause-follows
+returns-in_err-started-clause-follows g c = g.met.K.Keeper.follows_on _ c.heads.new.self _ c.heads.ensures.follows c.start.ensures.follows
+
+pub returns-clause-follows : goal.returns-clause-follows
+returns-clause-follows g c = g.met.K.Keeper.follows_on _ c.heads.new.self _ c.heads.ensures.follows c.start.ensures.follows

@@ -1,4 +1,4 @@
-use Rattle.std.proofs.Common.{◌≡◌, refl, ap, ◌∙◌}
+use Rattle.std.proofs.Common.{◌≡◌, refl, ap, ◌∙◌, inl}
 use Rattle.nq_keeper.proofs.Leaving.{two-of}
 use Rattle.nq_model.specs.Change.{applied_if}
 use Rattle.nq_model.specs.Decided.{change_of, decided, decided_step, gate_in, gate_of}
@@ -50,3 +50,12 @@ returns-clause-leaves g c =
     (two-of found kept (applied_if kept (change_of kept c.gate-gate.result c.args.request)) _ _ (g.met.K.Keeper.parts _ c.read_before.new.keeper _ found c.read_before.ensures.follows c.decide.ensures.follows left)
     (c.read_before.ensures.leaves kept told found)
     (c.decide.ensures.leaves kept (c.in_ok-before.ensures.reads.0 ∙ told) found))
+
+pub returns-in_err-before-clause-leaves : goal.returns-in_err-before-clause-leaves
+returns-in_err-before-clause-leaves g c = λ kept told found left. inl (c.read_before.ensures.leaves kept told found left)
+
+pub returns-in-Err-clause-follows : goal.returns-in-Err-clause-follows
+returns-in-Err-clause-follows g c = g.met.K.Keeper.follows_on _ c.read_before.new.keeper _ c.read_before.ensures.follows c.decide.ensures.follows
+
+pub returns-clause-follows : goal.returns-clause-follows
+returns-clause-follows g c = g.met.K.Keeper.follows_on _ c.read_before.new.keeper _ c.read_before.ensures.follows c.decide.ensures.follows

@@ -15,3 +15,9 @@ returns-clause-leaves g c =
     one-of found kept _ _ (g.met.K.Keeper.parts _ c.heads.new.self _ found c.heads.ensures.follows c.length_of.ensures.follows left)
     (c.heads.ensures.leaves kept told found)
     (c.length_of.ensures.leaves kept (c.in_ok-heads.ensures.reads.0 ∙ told) found)
+
+pub returns-in_err-length-clause-follows : goal.returns-in_err-length-clause-follows
+returns-in_err-length-clause-follows g c = g.met.K.Keeper.follows_on _ c.heads.new.self _ c.heads.ensures.follows c.length_of.ensures.follows
+
+pub returns-clause-follows : goal.returns-clause-follows
+returns-clause-follows g c = g.met.K.Keeper.follows_on _ c.heads.new.self _ c.heads.ensures.follows c.length_of.ensures.follows

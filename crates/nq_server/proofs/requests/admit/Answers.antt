@@ -40,3 +40,6 @@ returns-clause-leaves g c =
     one-of found kept _ _ (g.met.K.Keeper.parts _ c.host.new.self _ found c.host.ensures.follows c.perform.ensures.follows left)
     (c.host.ensures.leaves kept told found)
     (c.perform.ensures.leaves kept (c.in_ok-line.ensures.reads.0 ∙ told) found)
+
+pub returns-clause-follows : goal.returns-clause-follows
+returns-clause-follows g c = g.met.K.Keeper.follows_on _ c.host.new.self _ c.host.ensures.follows c.perform.ensures.follows

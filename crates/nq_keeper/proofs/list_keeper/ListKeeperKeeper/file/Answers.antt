@@ -1,5 +1,4 @@
-use Rattle.std.proofs.Common.{◌≡◌}
-use Rattle.nq_keeper.proofs.Calling.{told-as}
+use Rattle.nq_keeper.proofs.Calling.{tells}
 use Rattle.nq_model.specs.Change.{kept_as, row_of_found}
 use Rattle.nq_model.specs.Kept.{find_file}
 use Rattle.nq_keeper.proofs.list_keeper.ListKeeperKeeper.file.Goals as goal
@@ -7,4 +6,4 @@ use Rattle.nq_keeper.proofs.list_keeper.ListKeeperKeeper.file.Goals as goal
 pub returns-clause-told : goal.returns-clause-told
 unfolding kept_as
 returns-clause-told c =
-    told-as c.args.self.now (kept_as c.self.inside.files c.self.inside.hosts.items c.self.inside.heads) c.self.inside.calls (λ kept. c.row.result ≡ row_of_found (find_file c.args.id kept.files)) c.self.view_is c.self.invariant c.row.ensures
+    tells c.args.self.now (kept_as c.self.inside.files c.self.inside.hosts.items c.self.inside.heads) c.self.inside.calls (λ kept. row_of_found (find_file c.args.id kept.files)) c.row-found.result c.answered.result c.self.view_is c.self.invariant c.row-found.ensures c.answered.ensures.answer

@@ -1,9 +1,8 @@
-use Rattle.std.proofs.Common.{◌≡◌}
-use Rattle.nq_keeper.proofs.Calling.{told-as}
+use Rattle.nq_keeper.proofs.Calling.{tells}
 use Rattle.nq_model.specs.Change.{file_after, kept_as, row_of_found}
 use Rattle.nq_keeper.proofs.list_keeper.ListKeeperKeeper.next_file.Goals as goal
 
 pub returns-clause-told : goal.returns-clause-told
 unfolding kept_as
 returns-clause-told c =
-    told-as c.args.self.now (kept_as c.self.inside.files c.self.inside.hosts.items c.self.inside.heads) c.self.inside.calls (λ kept. c.row_after.result ≡ row_of_found (file_after c.args.after kept.files)) c.self.view_is c.self.invariant c.row_after.ensures
+    tells c.args.self.now (kept_as c.self.inside.files c.self.inside.hosts.items c.self.inside.heads) c.self.inside.calls (λ kept. row_of_found (file_after c.args.after kept.files)) c.row_after-found.result c.answered.result c.self.view_is c.self.invariant c.row_after-found.ensures c.answered.ensures.answer
