@@ -22,5 +22,7 @@ pub use nq_base::{Party, PushBase, Refusal, Reply, Request};
 pub use nq_memory::NoMemory;
 pub use outbox::Outbox;
 pub use procedure::Procedure;
-pub use replies::{LONGEST_RESULTS, decode_reply_in_place, encode_reply_into};
-pub use requests::{LONGEST_ARGUMENTS, decode_request, encode_request_into};
+pub use replies::{
+    LONGEST_RESULTS, decode_reply, decode_reply_in_place, encode_reply, encode_reply_into,
+};
+pub use requests::{LONGEST_ARGUMENTS, decode_request, encode_request, encode_request_into};

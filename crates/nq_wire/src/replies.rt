@@ -3,5 +3,5 @@
 mod decoding;
 mod encoding;
 
-pub use decoding::decode_reply_in_place;
-pub use encoding::{LONGEST_RESULTS, encode_reply_into};
+pub use decoding::{decode_reply, decode_reply_in_place};
+pub use encoding::{LONGEST_RESULTS, encode_reply, encode_reply_into};

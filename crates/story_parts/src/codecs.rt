@@ -3,7 +3,7 @@
 use crate::page::{Page, bytes_of, cut, hex_of};
 use nq_base::Spare;
 use nq_rpc::{decode, encode};
-use nq_wire::{decode_reply_in_place, decode_request, encode_reply_into, encode_request_into};
+use nq_wire::{decode_reply, decode_request, encode_reply, encode_request};
 use nq_xdr::{Reader, Writer};
 use std::alloc::Global;
 use std::str;
@@ -83,11 +83,7 @@ fn request(alloc: Global, procedure: u32, bytes: &[u8], page: &mut Page) {
         return;
     };
     match decode_request(procedure, bytes, &mut room) {
-        Ok(request) => {
-            let mut writer = Writer::new(alloc).unwrap();
-            encode_request_into(&request, &mut writer).ok();
-            page.say(again(Some(writer.into_bytes()), bytes));
-        }
+        Ok(request) => page.say(again(encode_request(alloc, &request).ok(), bytes)),
         Err(fault) => page.debug(&fault),
     }
 }
@@ -98,12 +94,8 @@ fn reply(alloc: Global, procedure: u32, bytes: &[u8], page: &mut Page) {
     let Ok(()) = room.reserve(alloc) else {
         return;
     };
-    match decode_reply_in_place(procedure, bytes) {
-        Ok(reply) => {
-            let mut writer = Writer::new(alloc).unwrap();
-            encode_reply_into(&reply.kept(&mut room), &mut writer).ok();
-            page.say(again(Some(writer.into_bytes()), bytes));
-        }
+    match decode_reply(procedure, bytes, &mut room) {
+        Ok(reply) => page.say(again(encode_reply(alloc, &reply).ok(), bytes)),
         Err(fault) => page.debug(&fault),
     }
 }

@@ -1,6 +1,6 @@
 //! Reading results.
 
-ghost use Rattle.std.specs.Prelude.{◌≡◌, ◌≢◌, ◌<◌, ◌≤◌, ◌↔◌, IfOk};
+ghost use Rattle.std.specs.Prelude.{◌≡◌, ◌≢◌, true, ◌<◌, ◌≤◌, ◌↔◌, IfOk};
 ghost use Rattle.nq_base.specs.declared.Reply.{Reply};
 ghost use Rattle.nq_xdr.specs.Reading.{Gives};
 ghost use Rattle.nq_wire.specs.Reply.{IsResults};
@@ -11,7 +11,7 @@ use crate::fault::Garbage;
 use crate::lent::LentReply;
 use crate::parts::decoding::{end, hyper, lent_body, optional_grant, word};
 use crate::{Procedure, Reply, WireFault, status};
-use nq_base::{FileId, Inc, Rev};
+use nq_base::{FileId, Inc, Rev, Spare};
 use nq_xdr::Reader;
 
 #[tactic(auto, unfolding(crate::specs::Reading::found_at))]
@@ -165,4 +165,33 @@ pub fn decode_reply_in_place(procedure: u32, bytes: &[u8]) -> Result<LentReply<'
     let reply = reply(called, &mut reader)?;
     end(reader)?;
     Ok(reply)
+}
+
+/// The reply whose results are all of the bytes, by the number of the procedure that was called. The body
+/// of a block goes into `room`, so no memory is wanted.
+///
+/// # Errors
+///
+/// `NoSuchProc` exactly where the number is above 11, else `Garbage` exactly where the bytes are not the
+/// procedure's results, as always of VACATED and EVICTED, which have no reply.
+pub fn decode_reply(procedure: u32, bytes: &[u8], room: &mut Spare) -> Result<Reply, WireFault>
+    requires { room.old ≡ true }
+
+    // What is read is spelled so, and what is spelled so is read.
+    ensures found { IfOk result (λ r. IsResults procedure r bytes.now) }
+    ensures only { (r : Reply) → IsResults procedure r bytes.now → result ≡ Ok r }
+
+    // When each error comes.
+    ensures no_procedure { (result ≡ Err WireFault.NoSuchProc) ↔ (11 < procedure) }
+    ensures garbage { (result ≡ Err WireFault.Garbage)
+        ↔ ((procedure ≤ 11) × ((r : Reply) → IsResults procedure r bytes.now → ⊥)) }
+    ensures memory { result ≢ Err WireFault.Memory }
+
+    // All of it, as reading from the left.
+    ensures step { result ≡ reply_in procedure bytes.now }
+{
+    match decode_reply_in_place(procedure, bytes) {
+        Ok(reply) => Ok(reply.kept(room)),
+        Err(fault) => Err(fault),
+    }
 }

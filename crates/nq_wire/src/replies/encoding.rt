@@ -1,13 +1,16 @@
 //! Writing results.
 
-ghost use Rattle.std.specs.Prelude.{◌≡◌, ◌+◌, ◌≤◌, ◌^◌, ◌<◌, ◌++◌, length, OnOk, OnErr, IsOk};
+ghost use Rattle.std.specs.Prelude.{◌≡◌, ◌+◌, ◌≤◌, ◌^◌, ◌<◌, ◌++◌, length, IfOk, OnOk, OnErr, IsOk};
 ghost use Rattle.nq_xdr.specs.Item.{word};
-ghost use Rattle.nq_wire.specs.Reply.{ok, results, results_len, IsReply};
+ghost use Rattle.nq_wire.specs.declared.procedure.Procedure.{Procedure};
+ghost use Rattle.nq_wire.specs.Procedure.{number_of};
+ghost use Rattle.nq_wire.specs.Reply.{ok, results, results_len, IsReply, Answers, IsResults};
 
 use crate::parts::encoding::{put_body, put_optional_grant};
 use crate::{NoMemory, Reply, status};
 use nq_base::Inc;
 use nq_xdr::Writer;
+use std::alloc::Global;
 
 /// The most bytes that the results of a procedure take: those of a READ with a grant.
 pub const LONGEST_RESULTS: usize = 4164;
@@ -113,4 +116,14 @@ pub fn encode_reply_into(reply: &Reply, out: &mut Writer) -> Result<(), NoMemory
     out.reserve(results_len(reply))?;
     put(reply, out);
     Ok(())
+}
+
+/// The results of a reply, whichever procedure it answers.
+pub fn encode_reply(alloc: Global, reply: &Reply) -> Result<Vec<u8>, NoMemory>
+    ensures written { IfOk result (λ v. v.items ≡ results reply.now) }
+    ensures spelled { IfOk result (λ v. (p : Procedure) → Answers reply.now p → IsResults (number_of p) reply.now v.items) }
+{
+    let mut out = Writer::new(alloc)?;
+    encode_reply_into(reply, &mut out)?;
+    Ok(out.into_bytes())
 }

@@ -1,9 +1,10 @@
 //! Writing arguments.
 
-ghost use Rattle.std.specs.Prelude.{◌≡◌, ◌+◌, ◌≤◌, ◌++◌, length, IfSome, OnOk, OnErr, IsOk};
+ghost use Rattle.std.specs.Prelude.{◌≡◌, ◌+◌, ◌≤◌, ◌++◌, length, IfSome, IfOk, OnOk, OnErr, IsOk};
 ghost use Rattle.nq_xdr.specs.Item.{word, hyper};
 ghost use Rattle.nq_wire.specs.Parts.{head, base_bytes, optional, optional_len, IsWho, IsPushBase};
-ghost use Rattle.nq_wire.specs.Request.{arguments, arguments_len, IsRequest, HasSpelling};
+ghost use Rattle.nq_wire.specs.Procedure.{number_of};
+ghost use Rattle.nq_wire.specs.Request.{procedure_of, arguments, arguments_len, IsRequest, HasSpelling, IsArguments};
 
 use crate::parts::encoding::{
     name_len, put_body, put_name, put_optional_base, put_optional_want, put_tag, put_want, put_who,
@@ -11,6 +12,7 @@ use crate::parts::encoding::{
 use crate::{NoMemory, PushBase, Request};
 use nq_base::Who;
 use nq_xdr::Writer;
+use std::alloc::Global;
 
 /// The most bytes that the arguments of a procedure take: those of a WRITE that is a push.
 pub const LONGEST_ARGUMENTS: usize = 4156;
@@ -186,4 +188,14 @@ pub fn encode_request_into(request: &Request, out: &mut Writer) -> Result<(), No
     out.reserve(arguments_len(request))?;
     put(request, out);
     Ok(())
+}
+
+/// The arguments of a request.
+pub fn encode_request(alloc: Global, request: &Request) -> Result<Vec<u8>, NoMemory>
+    requires { HasSpelling request.now }
+    ensures { IfOk result (λ v. IsArguments (number_of (procedure_of request.now)) request.now v.items) }
+{
+    let mut out = Writer::new(alloc)?;
+    encode_request_into(request, &mut out)?;
+    Ok(out.into_bytes())
 }
