@@ -61,26 +61,16 @@ impl Step {
         self.answer = Some(answer);
     }
 
-    /// What the call under way needs no packet for.
+    /// What the call under way needs no packet for, unless the request under way is its own.
     pub(crate) fn settle(&mut self, room: &mut Spare)
         requires room { HasRoom self.old }
         requires block { room.old ≡ true }
         requires numbers { HasNumbers 1 self.old.state }
         ensures { step_of self.new ≡ settle (step_of self.old) }
     {
-        if self.state.call.is_some() && !is_for_call(&self.state.asked) {
-            self.settle_under_way(room);
+        if is_for_call(&self.state.asked) {
+            return;
         }
-    }
-
-    /// What the call under way needs no packet for, where the request under way is not its own.
-    fn settle_under_way(&mut self, room: &mut Spare)
-        requires room { HasRoom self.old }
-        requires block { room.old ≡ true }
-        requires numbers { HasNumbers 1 self.old.state }
-        requires free { ticket_is_for_call self.old.state.asked ≡ false }
-        ensures { step_of self.new ≡ settle (step_of self.old) }
-    {
         match &self.state.call {
             Some(u) => match &u.call {
                 Call::Read { file, block } | Call::Fetch { file, block } => {
@@ -117,7 +107,11 @@ impl Step {
         requires block { room.old ≡ true }
         ensures { step_of self.new ≡ settles_read (step_of self.old) q file block (lease_on file self.old.state.leases.items) }
     {
-        match self.state.leases.leave_to_read(self.state.time, file, block) {
+        match self
+            .state
+            .leases
+            .leave_to_read(self.state.time, file, block)
+        {
             Leave::None => {}
             Leave::PastEnd => self.ends_call(q, Answer::Range, Said::Range),
             Leave::Granted => self.settle_body(q, file, block, room),
@@ -198,7 +192,11 @@ impl Step {
         if through || self.state.notices.waits(file) {
             return;
         }
-        match self.state.leases.leave_to_write(self.state.time, file, block) {
+        match self
+            .state
+            .leases
+            .leave_to_write(self.state.time, file, block)
+        {
             Leave::None => {}
             Leave::PastEnd => self.ends_call(q, Answer::Range, Said::Range),
             Leave::Granted => self.writes(q, sync, file, block, room),
