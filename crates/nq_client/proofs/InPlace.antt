@@ -44,6 +44,14 @@ not-its-own : (b : Bool) (t s : ClientStep) → b ≡ false → s ≡ (if b then
 not-its-own true t s h = absurd cc
 not-its-own false t s h = refl
 
+-- a call whose own request is under way needs nothing
+pub settled-own : (t : ClientStep) → ticket_is_for_call t.client.ticket ≡ true → t ≡ settle t
+settled-own t h = by t.client.call
+  where
+    by : (o : Option UnderWay) → t ≡ settle_under_way t o
+    by None = refl
+    by (Some u) = rw h refl
+
 -- the block of the call under way, by what it is
 pub called-body : (t : ClientStep) (u : UnderWay) (k : Call) → t.client.call ≡ Some u → u.call ≡ k → called_body t.client.call ≡ body_of_call k
 called-body t u k e h = ap called_body e ∙ ap body_of_call h

@@ -1,4 +1,5 @@
 pub mod Between
+pub mod Brought
 pub mod Calls
 pub mod Counts
 pub mod Fitting
@@ -8,6 +9,7 @@ pub mod Needs
 pub mod Outcomes
 pub mod Received
 pub mod Replied
+pub mod Renewing
 pub mod Reported
 pub mod Requested
 pub mod Settled

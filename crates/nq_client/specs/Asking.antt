@@ -1,5 +1,5 @@
 -- What a client needs to send next, in the steps of the code.
-use Rattle.std.specs.Prelude.{ℕ, Bool, ◌||◌, List, Option, Some, None, nat_le, if◌then◌else◌}
+use Rattle.std.specs.Prelude.{ℕ, Bool, ◌||◌, ◌&&◌, List, Option, Some, None, nat_le, if◌then◌else◌}
 use Rattle.std.specs.Bool.{then_some}
 use Rattle.std.specs.Option.{option_or}
 use Rattle.nq_base.specs.declared.Call.{Call}
@@ -11,8 +11,8 @@ use Rattle.nq_base.specs.declared.Want.{Want}
 use Rattle.nq_base.specs.declared.Who.{Who}
 use Rattle.nq_client.specs.Settling.{called_body}
 use Rattle.nq_client.specs.declared.asking.Need.{Need}
-use Rattle.nq_model.specs.Client.{Client, ClientStep, UnderWay, for_call, is_clean_in, lease_on}
-use Rattle.nq_model.specs.Send.{after_seq, ending_file, gives_up, noticed_file, pushes, read_want, sends_request, sends_write, shares_live, then_renews, want_of}
+use Rattle.nq_model.specs.Client.{Client, ClientStep, Lease, UnderWay, for_call, is_clean_in, lease_on, renewing}
+use Rattle.nq_model.specs.Send.{after_seq, ending_file, gives_up, noticed_file, pushes, read_want, renewed_file, sends_request, sends_write, shares_live, then_renews, want_of}
 use Rattle.nq_wire.specs.Request.{HasSpelling}
 
 -- a file is pushed where it has delayed writes
@@ -71,6 +71,25 @@ next c =
     option_or
     (push_due c.dirty c.push (noticed_file c))
     (option_or (push_due c.dirty c.push (ending_file c)) (need_of c c.call))
+
+-- the renewal of a lease, in the kind that is held
+abbrev pub renewal_of : Client → Option Lease → Option Request
+renewal_of c None = None
+renewal_of c (Some lease) = Some (Request.GetLease c.who lease.file (want_of c lease.mode))
+
+-- the renewal of the lease on a file
+abbrev pub renewal_on : Client → Option ℕ → Option Request
+renewal_on c None = None
+renewal_on c (Some file) = renewal_of c (lease_on file c.leases)
+
+-- the renewal in a tick's step, unless the client pauses
+abbrev pub renewal : (in_tick : Bool) → Client → Option Request
+renewal in_tick c = if in_tick && nat_le c.pause c.now then renewal_on c (renewed_file c) else None
+
+-- a renewal is sent, if there is one
+abbrev pub renews_by : ClientStep → Option Request → ClientStep
+renews_by t None = t
+renews_by t (Some request) = sends_request t renewing request
 
 -- what is needed is sent
 abbrev pub meets : ClientStep → Need → ClientStep

@@ -2,6 +2,7 @@ pub mod Answering
 pub mod Asking
 pub mod Calling
 pub mod Counted
+pub mod Done
 pub mod Finishing
 pub mod Granting
 pub mod Hearing

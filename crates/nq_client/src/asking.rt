@@ -1,13 +1,18 @@
 //! What a client needs to send next, where no request is under way.
 
-ghost use Rattle.std.specs.Prelude.{◌≡◌, ◌<◌, ◌^◌, nat_le};
+ghost use Rattle.std.specs.Prelude.{◌≡◌, ◌<◌, ◌^◌, nat_le, true, Some, IfSome};
+ghost use Rattle.nq_base.specs.declared.Request.{Request};
+ghost use Rattle.nq_client_parts.specs.HoldingLeases.{lease_of};
 ghost use Rattle.nq_model.specs.Client.{lease_on};
+ghost use Rattle.nq_model.specs.Hear.{holds_caching};
 ghost use Rattle.nq_model.specs.Send.{read_want, shares_live, want_of};
-ghost use Rattle.nq_client.specs.Asking.{change_need, need_by, need_of, next, push_due, push_for, put_need, read_need, write_need};
+ghost use Rattle.nq_client.specs.Asking.{change_need, need_by, need_of, next, push_due, push_for, put_need, read_need, renewal, renewal_of, write_need};
+ghost use Rattle.nq_wire.specs.Request.{HasSpelling};
 ghost use Rattle.nq_client.specs.State.{client_of, under_way};
 
 use crate::state::{State, UnderWay};
 use nq_base::{BlockNo, Call, FileId, Mode, Request, Want};
+use nq_client_parts::holding::Held;
 use nq_dirty::Dirty;
 
 /// What a client needs to send.
@@ -83,12 +88,23 @@ impl State {
     }
 
     /// A want of this kind, with the term that the client wants.
-    pub(crate) fn want(&self, mode: Mode) -> Want
+    fn want(&self, mode: Mode) -> Want
         ensures { result ≡ want_of (client_of self.now) mode }
     {
         Want {
             mode,
             term: self.term,
+        }
+    }
+
+    /// The GETLEASE of a lease of this kind.
+    fn get_lease(&self, file: FileId, mode: Mode) -> Request
+        ensures { result ≡ Request.GetLease self.now.who file (want_of (client_of self.now) mode) }
+    {
+        Request::GetLease {
+            who: self.who,
+            file,
+            want: self.want(mode),
         }
     }
 
@@ -110,9 +126,7 @@ impl State {
         if through || self.is_shared(file) {
             return Need::Write(file, block);
         }
-        let who = self.who;
-        let want = self.want(Mode::Writing);
-        Need::Ask(Request::GetLease { who, file, want })
+        Need::Ask(self.get_lease(file, Mode::Writing))
     }
 
     /// What a call needs that is under way. Where the client pauses, it needs a push at most.
@@ -195,5 +209,32 @@ impl State {
         let noticed = push_due(&self.dirty, self.notices.first());
         let ending = push_due(&self.dirty, self.dirty.ending(self.time, &self.leases));
         noticed.or(ending.or(self.need_of()))
+    }
+
+    /// The request that renews a caching lease, in the kind that is held.
+    fn renewal_of(&self, held: &Held) -> Request
+        requires { holds_caching (lease_of held.now) ≡ true }
+        ensures request { Some result ≡ renewal_of (client_of self.now) (lease_of held.now) }
+        ensures spelled { HasSpelling result }
+    {
+        match held {
+            Held::Reading(lease) => self.get_lease(lease.file, Mode::Reading),
+            Held::Writing(lease) => self.get_lease(lease.file, Mode::Writing),
+            Held::NonCaching(_) | Held::Nothing => unreachable!(),
+        }
+    }
+
+    /// The renewal in a tick's step: that of the lease that is due on the least file, unless the client pauses.
+    pub(crate) fn renewal(&self, in_tick: bool) -> Option<Request>
+        ensures request { result ≡ renewal in_tick (client_of self.now) }
+        ensures spelled { IfSome result HasSpelling }
+    {
+        if !in_tick || self.time < self.pause {
+            return None;
+        }
+        match self.dirty.renewed(self.time, &self.leases, &self.notices) {
+            Some(file) => Some(self.renewal_of(&self.leases.on(file))),
+            None => None,
+        }
     }
 }

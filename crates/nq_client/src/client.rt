@@ -66,6 +66,7 @@ impl Client {
     /// # Errors
     ///
     /// Only want of memory.
+    #[tactic(auto, unfolding(nq_model::specs::ClientStep::attached_client, nq_model::specs::ClientStep::fresh_client))]
     pub fn attached(
         alloc: Global,
         host: Host,
@@ -77,12 +78,15 @@ impl Client {
         ensures client { IfOk result (λ c. c.client ≡ attached_client (record { host = host; inc = inc }) term time) }
         ensures taken { IfOk result (λ c. c.taken ≡ 0) }
     {
-        match State::attached(alloc, Who { host, inc }, term, time) {
-            Ok(state) => Ok(Client {
-                step: Step::begun(state),
-                letters: Letters::new(alloc),
-                taken: 0,
-            }),
+        match State::fresh(alloc, Who { host, inc }, term, time) {
+            Ok(mut state) => {
+                state.attached = true;
+                Ok(Client {
+                    step: Step::begun(state),
+                    letters: Letters::new(alloc),
+                    taken: 0,
+                })
+            }
             Err(NoMemory::Memory) => Err(StartClient::Memory),
         }
     }

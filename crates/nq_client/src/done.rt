@@ -4,6 +4,7 @@ ghost use Rattle.std.specs.Prelude.{◌≡◌, ◌≤◌, ◌<◌, ◌^◌, None
 ghost use Rattle.nq_base.specs.declared.Answer.TheVariants.{Ok as ok};
 ghost use Rattle.nq_base.specs.declared.Value.{Value};
 ghost use Rattle.nq_model.specs.Hear.{answers_call, done_for_call, knows_revision, lease_done, read_done};
+ghost use Rattle.nq_client.specs.Done.{brought, changes};
 ghost use Rattle.nq_client.specs.Prepared.{IsPrepared, Leaves};
 ghost use Rattle.nq_client_parts.specs.Calls.{file_at_stake};
 ghost use Rattle.nq_client.specs.Step.{HasRoom, step_of};
@@ -11,6 +12,38 @@ ghost use Rattle.nq_client.specs.Step.{HasRoom, step_of};
 use crate::step::Step;
 use nq_base::{Block, BlockNo, FileId, Grant, NoMemory, Reply, Request, Rev, Ticks, Value};
 use nq_cache::lets_cache;
+
+/// What answers the call under way where its request brings a value alone.
+fn brought(request: &Request, reply: &Reply) -> Option<Value>
+    ensures { result ≡ brought request.now reply.now }
+{
+    match request {
+        Request::Lookup { .. } => match reply {
+            Reply::Lookup { file, .. } => Some(Value::File(*file)),
+            _ => None,
+        },
+        Request::Create { .. } => match reply {
+            Reply::Create { file, .. } => Some(Value::File(*file)),
+            _ => None,
+        },
+        Request::GetAttr { .. } => match reply {
+            Reply::GetAttr { blocks, .. } => Some(Value::Blocks(*blocks)),
+            _ => None,
+        },
+        Request::Remove { .. } => match reply {
+            Reply::Remove { .. } => Some(Value::Nothing),
+            _ => None,
+        },
+        Request::Null
+        | Request::Attach { .. }
+        | Request::Read { .. }
+        | Request::Write { .. }
+        | Request::GetLease { .. }
+        | Request::Vacated { .. }
+        | Request::Evicted { .. }
+        | Request::Resize { .. } => None,
+    }
+}
 
 impl Step {
     /// READ of a block was done: a grant that came with it is taken, the block is cached under it, and the call is answered.
@@ -72,6 +105,7 @@ impl Step {
     /// # Errors
     ///
     /// Only want of memory, and then nothing changed.
+    #[tactic(auto, using(crate::proofs::Brought::with_value, crate::proofs::Brought::without))]
     pub(crate) fn done_for_call(
         &mut self,
         request: &Request,
@@ -85,25 +119,32 @@ impl Step {
         ensures room { OnOk result (HasRoom self.new) }
         ensures refused { OnErr result (self.new ≡ self.old) }
     {
+        match brought(request, reply) {
+            Some(value) => {
+                self.answers_value(value, None);
+                Ok(())
+            }
+            None => self.changes(request, sent, packet, reply),
+        }
+    }
+
+    /// Likewise, where the call is not answered by a value alone.
+    fn changes(
+        &mut self,
+        request: &Request,
+        sent: Ticks,
+        packet: u64,
+        reply: &Reply,
+    ) -> Result<(), NoMemory>
+        requires prepared { IsPrepared (file_at_stake request.now) self.old }
+        requires sent { sent < 2 ^ 62 }
+        ensures done { OnOk result (step_of self.new ≡ changes (step_of self.old) packet sent request.now reply.now) }
+        ensures room { OnOk result (HasRoom self.new) }
+        ensures refused { OnErr result (self.new ≡ self.old) }
+    {
         match request {
-            Request::Lookup { .. } => match reply {
-                Reply::Lookup { file, .. } => self.answers_value(Value::File(*file), None),
-                _ => {}
-            },
-            Request::Create { .. } => match reply {
-                Reply::Create { file, .. } => self.answers_value(Value::File(*file), None),
-                _ => {}
-            },
-            Request::GetAttr { .. } => match reply {
-                Reply::GetAttr { blocks, .. } => self.answers_value(Value::Blocks(*blocks), None),
-                _ => {}
-            },
             Request::Resize { file, .. } => match reply {
                 Reply::Resize { rev, .. } => self.resized(*file, *rev),
-                _ => {}
-            },
-            Request::Remove { .. } => match reply {
-                Reply::Remove { .. } => self.answers_value(Value::Nothing, None),
                 _ => {}
             },
             Request::Read { file, block, .. } => match reply {
@@ -127,8 +168,12 @@ impl Step {
             },
             Request::Null
             | Request::Attach { .. }
+            | Request::Lookup { .. }
+            | Request::Create { .. }
+            | Request::GetAttr { .. }
             | Request::Vacated { .. }
-            | Request::Evicted { .. } => {}
+            | Request::Evicted { .. }
+            | Request::Remove { .. } => {}
         }
         Ok(())
     }

@@ -61,26 +61,16 @@ impl Step {
         self.answer = Some(answer);
     }
 
-    /// What the call under way needs no packet for.
+    /// What the call under way needs no packet for, unless the request under way is its own.
     pub(crate) fn settle(&mut self, room: &mut Spare)
         requires room { HasRoom self.old }
         requires block { room.old ≡ true }
         requires numbers { HasNumbers 1 self.old.state }
         ensures { step_of self.new ≡ settle (step_of self.old) }
     {
-        if self.state.call.is_some() && !is_for_call(&self.state.asked) {
-            self.settle_under_way(room);
+        if is_for_call(&self.state.asked) {
+            return;
         }
-    }
-
-    /// What the call under way needs no packet for, where the request under way is not its own.
-    fn settle_under_way(&mut self, room: &mut Spare)
-        requires room { HasRoom self.old }
-        requires block { room.old ≡ true }
-        requires numbers { HasNumbers 1 self.old.state }
-        requires free { ticket_is_for_call self.old.state.asked ≡ false }
-        ensures { step_of self.new ≡ settle (step_of self.old) }
-    {
         match &self.state.call {
             Some(u) => match &u.call {
                 Call::Read { file, block } | Call::Fetch { file, block } => {

@@ -1,7 +1,7 @@
 //! What a client knows.
 
 ghost use Rattle.std.specs.Prelude.{◌≡◌, IfOk};
-ghost use Rattle.nq_model.specs.ClientStep.{attached_client, fresh_client};
+ghost use Rattle.nq_model.specs.ClientStep.{fresh_client};
 ghost use Rattle.nq_client.specs.State.{client_of};
 
 use crate::asked::Asked;
@@ -79,21 +79,6 @@ impl State {
             cache,
             alloc,
         })
-    }
-
-    /// A client that is attached from the start.
-    #[tactic(auto, unfolding(nq_model::specs::ClientStep::attached_client, nq_model::specs::ClientStep::fresh_client))]
-    pub(crate) fn attached(
-        alloc: Global,
-        who: Who,
-        term: u32,
-        time: Ticks,
-    ) -> Result<State, NoMemory>
-        ensures { IfOk result (λ s. client_of s ≡ attached_client who term time) }
-    {
-        let mut state = State::fresh(alloc, who, term, time)?;
-        state.attached = true;
-        Ok(state)
     }
 
     /// Ends the client: what it has under way and what waits is forgotten.

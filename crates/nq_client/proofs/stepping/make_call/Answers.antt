@@ -1,9 +1,13 @@
 use Rattle.std.proofs.Common.{◌≡◌, ◌≤◌, length, sym, ap, subst, arith}
 use Rattle.nq_client.proofs.Calls.{called}
+use Rattle.nq_client.proofs.Outcomes.{begins}
 use Rattle.nq_client.specs.State.{client_of}
 use Rattle.nq_model.specs.Client.{ClientStep}
 use Rattle.nq_model.specs.ClientStep.{client_call}
 use Rattle.nq_client.proofs.stepping.make_call.Goals as goal
+
+pub call-requires-clause-begun : goal.call-requires-clause-begun
+call-requires-clause-begun c = begins c.args.step.now c.requires.begun
 
 pub finish-requires-clause-room : goal.finish-requires-clause-room
 finish-requires-clause-room c =

@@ -1,9 +1,13 @@
 use Rattle.std.proofs.Common.{◌≡◌, ◌≤◌, length, sym, ap, subst, arith}
 use Rattle.nq_client.proofs.Calls.{ticked}
+use Rattle.nq_client.proofs.Outcomes.{begins}
 use Rattle.nq_client.specs.State.{client_of}
 use Rattle.nq_model.specs.Client.{ClientStep}
 use Rattle.nq_model.specs.ClientStep.{client_tick}
 use Rattle.nq_client.proofs.stepping.make_tick.Goals as goal
+
+pub tick-requires-clause-begun : goal.tick-requires-clause-begun
+tick-requires-clause-begun c = begins c.args.step.now c.requires.begun
 
 pub finish-requires-clause-room : goal.finish-requires-clause-room
 finish-requires-clause-room c =
