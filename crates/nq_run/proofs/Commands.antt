@@ -1,9 +1,8 @@
--- The words of one command are not those of another.
-use Rattle.std.proofs.Common.{◌≡◌, ℕ, List, Option, Some, refl, subst}
-use Rattle.nq_command.specs.Commands.{IsCheck, IsNames, IsReplay, IsStaged, alone_of, command_of}
+-- What the words of one word say, and what a command keeps.
+use Rattle.std.proofs.Common.{◌≡◌, ℕ, Bool, true, false, List, Some, refl}
+use Rattle.nq_command.specs.Commands.{IsCheck, IsFormat, IsNames, IsReplay, IsStaged, alone_of, command_of}
 use Rattle.nq_command.specs.declared.Command.{Command}
-use Rattle.nq_run.specs.Storming.{NeverRuns}
-use Rattle.nq_storm.specs.Rules.{Rule}
+use Rattle.nq_run.specs.Frames.{Unless}
 
 pub says_replay : (words : List (List ℕ)) → IsReplay words → command_of words ≡ Some Command.Replay
 unfolding alone_of
@@ -21,7 +20,11 @@ pub says_names : (words : List (List ℕ)) → IsNames words → command_of word
 unfolding alone_of
 says_names words is = rw is refl
 
--- what is never run by these words is not run by this command
-pub none_runs : (said : Option Command) (command : Command) (rules : List (Option Rule)) → said ≡ Some command → NeverRuns said rules
-    → NeverRuns (Some command) rules
-none_runs said command rules is never = subst (λ s. NeverRuns s rules) is never
+pub says_format : (words : List (List ℕ)) → IsFormat words → command_of words ≡ Some Command.Format
+unfolding alone_of
+says_format words is = rw is refl
+
+-- what is not so leaves the other
+pub left_so : (b : Bool) (P : Type 0) → b ≡ false → Unless b P → P
+left_so true P no so = absurd (cc)
+left_so false P no so = so

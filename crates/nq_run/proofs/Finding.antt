@@ -3,14 +3,14 @@ use Rattle.std.proofs.Common.{◌≡◌, ℕ, ◌<◌, ◌≤◌, ◌+◌, zero,
 use Rattle.std.proofs.Math.Seq.{take-suc}
 use Rattle.std.proofs.lemmas.List.Elements.{All-map, All-push}
 use Rattle.std.specs.Bool.{IsTrue}
-use Rattle.std.specs.Prelude.{IfSome}
+use Rattle.std.specs.Prelude.{IfSome, IsSomeAnd, ◌≢◌}
 use Rattle.std.proofs.lemmas.List.{map-append, take_all}
 use Rattle.std.proofs.lemmas.Option.{slice_get_read}
 use Rattle.std.specs.List.{slice_get}
 use Rattle.nq_base.specs.declared.ending.ending.Ending.{Ending}
 use Rattle.nq_run.specs.Fates.{AsksFirst, FateTold}
 use Rattle.nq_storm.specs.Asking.{AsksFor}
-use Rattle.nq_storm.specs.Kinds.{IsFirstOf, IsNotOf, LackKind}
+use Rattle.nq_storm.specs.Kinds.{IsFirstOf, IsNotOf, LackKind, TellOthers}
 use Rattle.nq_storm.specs.Rules.{Rule}
 
 pub not_of : (told : Option Rule) (kind : ℕ) (is : Bool) → is ≡ false → IfSome told (λ rule. IsTrue is ↔ (rule.kind ≡ kind)) → IsNotOf told kind
@@ -83,3 +83,15 @@ asks_first tell end kind wanted place fates fate after within is others here ask
       of_kind = subst (λ o. IfSome o (λ f. IfSome (tell f).rule (λ rule. rule.kind ≡ kind))) at here;
       asked = subst (λ f. AsksFor end wanted (tell f).asks (tell after).asks) (sym is) asked;
     }
+
+both-kinds : (kind : ℕ) (found : Option Rule) → IsSomeAnd found (λ rule. rule.kind ≢ kind) → IfSome found (λ rule. rule.kind ≡ kind) → ⊥
+both-kinds kind None other is = absurd other
+both-kinds kind (Some rule) other is = other is
+
+-- where each fate tells another kind, none is of the kind
+pub none_among : {X : Type 0} (told : X → Option Rule) (kind place : ℕ) (fates : List X) → TellOthers kind (map told fates) → place < length fates
+    → IfSome (slice_get fates place) (λ f. IfSome (told f) (λ rule. rule.kind ≡ kind)) → ⊥
+none_among told kind place [] others within here = absurd (omega (arith, within))
+none_among told kind zero (fate ∷ fates) others within here = both-kinds kind (told fate) (others 0 (told fate) (omega arith)) here
+none_among told kind (suc place) (fate ∷ fates) others within here =
+    none_among told kind place fates (λ k d below. others (suc k) d (omega (arith, below))) (omega (arith, within)) here

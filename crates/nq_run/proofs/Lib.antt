@@ -1,10 +1,8 @@
 pub mod Commands
 pub mod Finding
-pub mod HostPromises
 pub mod LoopPromises
 pub mod Making
 pub mod NamesPromises
-pub mod OtherKinds
 pub mod Playing
 pub mod Promises
 pub mod ReplayPromises

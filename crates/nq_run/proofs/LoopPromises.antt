@@ -1,6 +1,5 @@
 -- What the command of loops promises.
-use Rattle.std.proofs.Common.{◌≡◌, ℕ, List, Option, Some, subst}
-use Rattle.nq_command.specs.declared.Command.{Command}
+use Rattle.std.proofs.Common.{◌≡◌, ℕ, List, Option, subst}
 use Rattle.nq_base.proofs.Ends.{one_end}
 use Rattle.nq_base.specs.Status.{status_of}
 use Rattle.nq_base.specs.declared.ending.ending.Ending.{Ending}
@@ -41,17 +40,7 @@ loops_for end code hosts turns clock clock' links links' held now w w' k k' kept
   lawful = λ done. done_looped hosts turns clock clock' links links' held now kept (keeps done);
 }
 
--- ---- what `run` says
-
 -- a loop does not end with usage
 pub loop_usage : (status hosts turns : ℕ) (clock clock' : ClockTold) (links links' : List LinkTold) (held now : Option (List ℕ)) (w w' k k' : ℕ) (kept : Option Kept) → LoopsFor status hosts turns clock clock' links links' held now w w' k k' kept
     → status ≡ status_of Ending.Usage → ⊥
 loop_usage status hosts turns clock clock' links links' held now w w' k k' kept does none = subst (λ e. LoopEnds e hosts turns clock clock' links links' held now w w') (one_end does.end Ending.Usage status does.status none) does.ends
-
-pub loop_does : (said : Option Command) (status hosts turns hosts' turns' : ℕ) (clock clock' : ClockTold) (links links' : List LinkTold) (held now : Option (List ℕ)) (w w' k k' : ℕ) (kept : Option Kept) → said ≡ Some (Command.Loop hosts turns) → said ≡ Some (Command.Loop hosts' turns')
-    → LoopsFor status hosts turns clock clock' links links' held now w w' k k' kept → LoopsFor status hosts' turns' clock clock' links links' held now w w' k k' kept
-loop_does said status hosts turns hosts' turns' clock clock' links links' held now w w' k k' kept is same does =
-    let all : hosts ≡ hosts' = cc in
-    let most : turns ≡ turns' = cc in
-    subst (λ n. LoopsFor status hosts' n clock clock' links links' held now w w' k k' kept) most
-    (subst (λ n. LoopsFor status n turns clock clock' links links' held now w w' k k' kept) all does)

@@ -1,7 +1,9 @@
 -- A storm and a loop over a disk, from what they do over the store of that disk.
-use Rattle.std.proofs.Common.{◌≡◌, ◌≤◌, ℕ, Bool, List, Option, inl, inr, refl, subst, sym}
+use Rattle.std.proofs.Common.{◌≡◌, ◌≤◌, ℕ, Bool, List, Option, inl, inr, refl, subst, sym, ◌∙◌, arith}
 use Rattle.nq_service.specs.Emptying.{EmptiesNot}
+use Rattle.nq_run.proofs.LoopPromises.{loop_usage}
 use Rattle.nq_run.proofs.Playing.{kept_while, rose_by}
+use Rattle.nq_run.proofs.StormPromises.{storm_usage, storms_none}
 use Rattle.nq_run.specs.Running.{LoopsOn, StartsNot, StormsOn}
 use Rattle.nq_base.proofs.Ends.{one_end}
 use Rattle.nq_base.specs.Status.{status_of}
@@ -12,6 +14,8 @@ use Rattle.nq_run.specs.Fates.{FateTold}
 use Rattle.nq_run.specs.Looping.{LoopsFor}
 use Rattle.nq_run.specs.Storming.{StormsFor}
 use Rattle.nq_store.proofs.Risen.{risen_over}
+use Rattle.nq_replay.specs.Lines.{PrintsLine, usage_line}
+use Rattle.nq_storm.specs.Kinds.{LackKind}
 use Rattle.nq_storm.specs.Rules.{Rule}
 use Rattle.nq_store.specs.Storing.{GoesOn, IsFresh, StoredStore, content_of, content_while, faults_of, kept_told}
 
@@ -114,5 +118,32 @@ pub loops_not : (end : Ending) (code hosts turns : ℕ) (clock : ClockTold) (lin
 loops_not end code hosts turns clock links held w before count bytes status fails = inl (starts-not end code before count held w status fails, refl, refl)
 
 -- that is no usage
-pub starts_usage : (end : Ending) (code before count : ℕ) → code ≡ status_of end → EmptiesNot end before count → code ≡ status_of Ending.Usage → ⊥
+starts_usage : (end : Ending) (code before count : ℕ) → code ≡ status_of end → EmptiesNot end before count → code ≡ status_of Ending.Usage → ⊥
 starts_usage end code before count status fails none = subst (λ e. EmptiesNot e before count) (one_end end Ending.Usage code status none) fails
+
+-- ---- usage
+
+-- a storm over a disk ends with usage only where no fate is of the kind
+pub storms_usage : (code kind start count : ℕ) (rules : List (Option Rule)) (old new : List FateTold) (held now : Option (List ℕ)) (w w' before faults : ℕ) (bytes : Option (List ℕ))
+    → StormsOn code kind start count rules old new held now w w' before faults bytes → code ≡ status_of Ending.Usage → LackKind kind rules × PrintsLine usage_line held now w w'
+storms_usage code kind start count rules old new held now w w' before faults bytes (inl left) none = absurd (starts_usage left.0.end code before faults left.0.status left.0.empties none)
+storms_usage code kind start count rules old new held now w w' before faults bytes (inr over) none =
+    storm_usage code kind start count rules old new held now w w' over.first over.last (kept_told bytes) over.does none
+
+-- a loop does not
+pub loops_usage : (code hosts turns : ℕ) (clock clock' : ClockTold) (links links' : List LinkTold) (held now : Option (List ℕ)) (w w' before count : ℕ) (bytes : Option (List ℕ))
+    → LoopsOn code hosts turns clock clock' links links' held now w w' before count bytes → code ≡ status_of Ending.Usage → ⊥
+loops_usage code hosts turns clock clock' links links' held now w w' before count bytes (inl left) none = starts_usage left.0.end code before count left.0.status left.0.empties none
+loops_usage code hosts turns clock clock' links links' held now w w' before count bytes (inr over) none =
+    loop_usage code hosts turns clock clock' links links' held now w w' over.first over.last (kept_told bytes) over.does none
+
+-- ---- where no fate is of the kind
+
+pub storms_refused : (code kind start count : ℕ) (rules : List (Option Rule)) (fates : List FateTold) (held now : Option (List ℕ)) (w w' before faults : ℕ) (bytes : Option (List ℕ))
+    → code ≡ status_of Ending.Usage → LackKind kind rules → PrintsLine usage_line held now w w' → StormsOn code kind start count rules fates fates held now w w' before faults bytes
+storms_refused code kind start count rules fates held now w w' before faults bytes status lack printed = inr (record {
+  first = 0;
+  last = 0;
+  does = storms_none code kind start count rules fates held now w w' 0 (kept_told bytes) status lack printed;
+  failed = λ six. let no = sym status ∙ six in absurd (omega arith);
+})

@@ -51,8 +51,6 @@ refused_for end limit code left rest held now r r' w w' k told status refuses ov
   sound = λ done. absurd (refused_not_done end limit left rest held now r r' w w' refuses done);
 }
 
--- ---- what `run` says
-
 -- a replay does not end with usage
 pub replay_usage : (limit code : ℕ) (left rest held now : Option (List ℕ)) (r r' w w' k k' : ℕ) (told : Option Kept) → ReplaysFor limit code left rest held now r r' w w' k k' told → code ≡ status_of Ending.Usage → ⊥
 replay_usage limit code left rest held now r r' w w' k k' told does none =

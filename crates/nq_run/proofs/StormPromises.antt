@@ -1,8 +1,5 @@
 -- What the command of storms promises.
-use Rattle.std.proofs.Common.{◌≡◌, ℕ, ◌<◌, List, ◌∷◌, ◌++◌, length, Option, Some, None, ap, refl, sym, subst, ◌∙◌, inl, inr, arith, length-append}
-use Rattle.std.proofs.Math.Seq.{get_or-append_seam}
-use Rattle.std.specs.Prelude.{All, IfSome, IsSomeAnd, ◌≢◌}
-use Rattle.nq_command.specs.declared.Command.{Command}
+use Rattle.std.proofs.Common.{◌≡◌, ℕ, List, Option, refl, subst, inl, inr}
 use Rattle.nq_base.proofs.Ends.{one_end}
 use Rattle.nq_base.specs.Status.{status_of}
 use Rattle.nq_base.specs.declared.ending.ending.Ending.{Ending}
@@ -11,9 +8,9 @@ use Rattle.nq_replay.specs.Ending.{CountsKeeper}
 use Rattle.nq_replay.specs.Lines.{PrintsLine, usage_line}
 use Rattle.nq_run.proofs.Promises.{faultless, holds_throughout}
 use Rattle.nq_run.specs.Fates.{AsksInStorm, FateTold}
-use Rattle.nq_run.specs.Storming.{DoesStorm, NeverRuns, RunsNothing, StormsFor, StormsLawfully, StormsUnlessFault}
+use Rattle.nq_run.specs.Storming.{DoesStorm, StormsFor, StormsLawfully, StormsUnlessFault}
 use Rattle.nq_storm.specs.Heads.{storm_head}
-use Rattle.nq_storm.specs.Kinds.{IsFirstOf, LackKind, TellOthers}
+use Rattle.nq_storm.specs.Kinds.{IsFirstOf, LackKind}
 use Rattle.nq_storm.specs.Printed.{KeepsStorm, StormEnds}
 use Rattle.nq_storm.specs.Rules.{Rule}
 
@@ -48,23 +45,10 @@ no_fate end status kind start count told held now w w' is (inl ran) none =
     absurd (subst (λ e. StormEnds e start count ran.first held now w w') (one_end end Ending.Usage status is none) ran.ends)
 no_fate end status kind start count told held now w w' is (inr usage) none = (usage.1, usage.2)
 
-both_kinds : (kind : ℕ) (found : Option Rule) → IsSomeAnd found (λ rule. rule.kind ≢ kind) → IfSome found (λ rule. rule.kind ≡ kind) → ⊥
-both_kinds kind None other is = absurd other
-both_kinds kind (Some rule) other is = other is
-
--- where each fate tells another kind, none is of the kind
-none_of : (kind : ℕ) (told : List (Option Rule)) (found : Option Rule) → TellOthers kind told → IsFirstOf kind told found → ⊥
-none_of kind told found others first =
-    let P : Option Rule → Type 0 = λ tells. IsSomeAnd tells (λ rule. rule.kind ≢ kind) in
-    let all : All P (first.before ++ found ∷ first.behind) = subst (λ xs. All P xs) first.stands others in
-    let size = length-append first.before (found ∷ first.behind) in
-    let there : length first.before < length (first.before ++ found ∷ first.behind) = omega arith in
-    both_kinds kind found (subst P (get_or-append_seam first.before found first.behind found) (all (length first.before) found there)) first.kind_is
-
-never_of : (end : Ending) (status kind start count : ℕ) (told : List (Option Rule)) (held now : Option (List ℕ)) (w w' : ℕ) → status ≡ status_of end → DoesStorm end kind start count told held now w w' → TellOthers kind told
-    → status ≡ status_of Ending.Usage
-never_of end status kind start count told held now w w' is (inl ran) others = absurd (none_of kind told ran.first others ran.found)
-never_of end status kind start count told held now w w' is (inr usage) others = is ∙ ap status_of usage.0
+-- words of a storm that ended with usage: no fate is of the kind
+pub storm_usage : (status kind start count : ℕ) (told : List (Option Rule)) (old new : List FateTold) (held now : Option (List ℕ)) (w w' k k' : ℕ) (kept : Option Kept)
+    → StormsFor status kind start count told old new held now w w' k k' kept → status ≡ status_of Ending.Usage → LackKind kind told × PrintsLine usage_line held now w w'
+storm_usage status kind start count told old new held now w w' k k' kept s none = no_fate s.end status kind start count told held now w w' s.status s.does none
 
 -- ---- a storm by its end
 
@@ -101,29 +85,3 @@ storms_none code kind start count told fates held now w w' k kept status lack pr
   lawful = λ done. absurd (cc);
   asked = inr (refl, refl);
 }
-
--- ---- what `run` says
-
-pub storm_usage : (said : Option Command) (status kind start count : ℕ) (told : List (Option Rule)) (old new : List FateTold) (held now : Option (List ℕ)) (w w' k k' : ℕ) (kept : Option Kept) → said ≡ Some (Command.Storm kind start count)
-    → StormsFor status kind start count told old new held now w w' k k' kept → status ≡ status_of Ending.Usage → RunsNothing said told
-storm_usage said status kind start count told old new held now w w' k k' kept is does none =
-    subst (λ command. RunsNothing command told) (sym is) (no_fate does.end status kind start count told held now w w' does.status does.does none).0
-
-pub storm_prints : (status kind start count : ℕ) (told : List (Option Rule)) (old new : List FateTold) (held now : Option (List ℕ)) (w w' k k' : ℕ) (kept : Option Kept) → StormsFor status kind start count told old new held now w w' k k' kept → status ≡ status_of Ending.Usage
-    → PrintsLine usage_line held now w w'
-storm_prints status kind start count told old new held now w w' k k' kept does none = (no_fate does.end status kind start count told held now w w' does.status does.does none).1
-
-pub storm_never : (said : Option Command) (status kind start count : ℕ) (told : List (Option Rule)) (old new : List FateTold) (held now : Option (List ℕ)) (w w' k k' : ℕ) (kept : Option Kept) → said ≡ Some (Command.Storm kind start count)
-    → StormsFor status kind start count told old new held now w w' k k' kept → NeverRuns said told → status ≡ status_of Ending.Usage
-storm_never said status kind start count told old new held now w w' k k' kept is does never =
-    never_of does.end status kind start count told held now w w' does.status does.does (subst (λ command. NeverRuns command told) is never)
-
-pub storm_does : (said : Option Command) (status kind start count kind' start' count' : ℕ) (told : List (Option Rule)) (old new : List FateTold) (held now : Option (List ℕ)) (w w' k k' : ℕ) (kept : Option Kept) → said ≡ Some (Command.Storm kind start count) → said ≡ Some (Command.Storm kind' start' count')
-    → StormsFor status kind start count told old new held now w w' k k' kept → StormsFor status kind' start' count' told old new held now w w' k k' kept
-storm_does said status kind start count kind' start' count' told old new held now w w' k k' kept is same does =
-    let kinds : kind ≡ kind' = cc in
-    let starts : start ≡ start' = cc in
-    let counts : count ≡ count' = cc in
-    subst (λ n. StormsFor status kind' start' n told old new held now w w' k k' kept) counts
-    (subst (λ n. StormsFor status kind' n count told old new held now w w' k k' kept) starts
-    (subst (λ n. StormsFor status n start count told old new held now w w' k k' kept) kinds does))

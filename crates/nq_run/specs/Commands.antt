@@ -1,21 +1,29 @@
--- What each command does with a disk.
-use Rattle.std.specs.Prelude.{Bool, true, List, Option, Some}
+-- What each command does.
+use Rattle.std.specs.Prelude.{ℕ, List, Option, Some, None, ⊤}
 use Rattle.nq_command.specs.declared.Command.{Command}
-use Rattle.nq_run.specs.Frames.{uses_keeper}
-use Rattle.nq_run.specs.Storming.{NeverRuns, RunsNothing}
+use Rattle.nq_storm.specs.Kinds.{LackKind, TellOthers}
 use Rattle.nq_storm.specs.Rules.{Rule}
-
--- what makes a run uses the disk, a server does, and so does the command that makes an empty image
-abbrev pub uses_disk : Option Command → Bool
-uses_disk (Some Command.Format) = true
-uses_disk other = uses_keeper other
 
 -- words that say no command, or a storm for which each fate that tells its rule is of another kind
 abbrev pub SaysNothing : Option Command → (told : List (Option Rule)) → Type 0
-SaysNothing (Some Command.Format) told = ⊥
-SaysNothing other told = RunsNothing other told
+SaysNothing None told = ⊤
+SaysNothing (Some (Command.Storm kind start events)) told = LackKind kind told
+SaysNothing other told = ⊥
 
 -- words that say no command, or a storm for which each fate tells its rule and is of another kind
 abbrev pub NeverSays : Option Command → (told : List (Option Rule)) → Type 0
-NeverSays (Some Command.Format) told = ⊥
-NeverSays other told = NeverRuns other told
+NeverSays (Some (Command.Storm kind start events)) told = TellOthers kind told
+NeverSays other told = SaysNothing other told
+
+-- what the command that is said does, of what each command does
+abbrev pub Does : Option Command → (formats : Type 0) → (serves : (turns longest : ℕ) → Type 0) → (replays : Type 0) → (storms : (kind start events : ℕ) → Type 0) → (loops : (hosts turns : ℕ) → Type 0) → (checks stages names : Type 0) → (attends : (host inc turns : ℕ) → Type 0) → Type 0
+Does None formats serves replays storms loops checks stages names attends = ⊤
+Does (Some Command.Format) formats serves replays storms loops checks stages names attends = formats
+Does (Some (Command.Serve turns longest)) formats serves replays storms loops checks stages names attends = serves turns longest
+Does (Some Command.Replay) formats serves replays storms loops checks stages names attends = replays
+Does (Some (Command.Storm kind start events)) formats serves replays storms loops checks stages names attends = storms kind start events
+Does (Some (Command.Loop hosts turns)) formats serves replays storms loops checks stages names attends = loops hosts turns
+Does (Some Command.Check) formats serves replays storms loops checks stages names attends = checks
+Does (Some Command.Staged) formats serves replays storms loops checks stages names attends = stages
+Does (Some Command.Names) formats serves replays storms loops checks stages names attends = names
+Does (Some (Command.Client host inc turns)) formats serves replays storms loops checks stages names attends = attends host inc turns

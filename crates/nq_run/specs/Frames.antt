@@ -1,5 +1,5 @@
--- What each command uses. All else that `run` is handed stays as it was.
-use Rattle.std.specs.Prelude.{Bool, true, false, Option, Some}
+-- What each command uses. All else that `run_disk` is handed stays as it was.
+use Rattle.std.specs.Prelude.{Bool, true, false, Option, Some, ⊤}
 use Rattle.nq_command.specs.declared.Command.{Command}
 
 -- a replay, a judgement and a client read the input
@@ -41,7 +41,13 @@ makes_a_run (Some (Command.Storm kind start events)) = true
 makes_a_run (Some (Command.Loop hosts turns)) = true
 makes_a_run other = false
 
--- what makes a run uses the keeper, and so does a server
-abbrev pub uses_keeper : Option Command → Bool
-uses_keeper (Some (Command.Serve turns longest)) = true
-uses_keeper other = makes_a_run other
+-- what makes a run uses the disk, a server does, and so does the command that makes an empty image
+abbrev pub uses_disk : Option Command → Bool
+uses_disk (Some Command.Format) = true
+uses_disk (Some (Command.Serve turns longest)) = true
+uses_disk other = makes_a_run other
+
+-- unless this is so, the other is
+abbrev pub Unless : Bool → Type 0 → Type 0
+Unless true P = ⊤
+Unless false P = P

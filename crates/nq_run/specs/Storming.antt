@@ -4,7 +4,6 @@
 use Rattle.std.specs.Prelude.{◌≡◌, ◌⊎◌, ℕ, List, Option, Some, None}
 use Rattle.nq_base.specs.declared.Event.{Event}
 use Rattle.nq_check.specs.Verdict.{verdict}
-use Rattle.nq_command.specs.declared.Command.{Command}
 use Rattle.nq_base.specs.Status.{status_of}
 use Rattle.nq_base.specs.declared.ending.ending.Ending.{Ending}
 use Rattle.nq_io.specs.Faults.{Rose}
@@ -18,27 +17,10 @@ use Rattle.nq_replay.specs.Replay.{kept_of}
 use Rattle.nq_run.specs.Fates.{AsksInStorm, FateTold}
 use Rattle.nq_run.specs.Promised.{HoldsThroughout}
 use Rattle.nq_storm.specs.Heads.{storm_head}
-use Rattle.nq_storm.specs.Kinds.{IsFirstOf, LackKind, TellOthers}
+use Rattle.nq_storm.specs.Kinds.{IsFirstOf, LackKind}
 use Rattle.nq_storm.specs.Printed.{StormEnds, storm_text}
 use Rattle.nq_storm.specs.Whole.{IsWholeStorm}
 use Rattle.nq_storm.specs.Rules.{Rule}
-
--- words that say none of the commands that are run, or a storm for which each fate that tells its rule is of another kind
-abbrev pub RunsNothing : Option Command → (told : List (Option Rule)) → Type 0
-RunsNothing (Some Command.Replay) told = ⊥
-RunsNothing (Some Command.Staged) told = ⊥
-RunsNothing (Some Command.Names) told = ⊥
-RunsNothing (Some Command.Check) told = ⊥
-RunsNothing (Some (Command.Serve turns longest)) told = ⊥
-RunsNothing (Some (Command.Client host inc turns)) told = ⊥
-RunsNothing (Some (Command.Storm kind start events)) told = LackKind kind told
-RunsNothing (Some (Command.Loop hosts turns)) told = ⊥
-RunsNothing other told = Unit {0}
-
--- words that say none of the commands that are run, or a storm for which each fate tells its rule and is of another kind
-abbrev pub NeverRuns : Option Command → (told : List (Option Rule)) → Type 0
-NeverRuns (Some (Command.Storm kind start events)) told = TellOthers kind told
-NeverRuns other told = RunsNothing other told
 
 -- a storm of the first fate of the kind was run, and ended so
 pub record RunsStorm (end : Ending) (kind start count : ℕ) (told : List (Option Rule)) (held now : Option (List ℕ)) (w w' : ℕ) : Type 0 where

@@ -1,40 +1,42 @@
-//! The command `serve`.
+//! The command `client`.
 
-ghost use Rattle.std.specs.Prelude.{◌≤◌};
+ghost use Rattle.std.specs.Prelude.{◌<◌, ◌^◌};
 ghost use Rattle.nq_hosts.specs.Clocks.{clock_told};
 ghost use Rattle.nq_hosts.specs.Links.{link_told};
-ghost use Rattle.nq_run.specs.Hosting.{ServesFor};
+ghost use Rattle.nq_run.specs.Hosting.{Attends};
 
-use crate::ran::Ran;
+use nq_base::{Host, Inc, Who};
 use nq_clock::Clock;
-use nq_hosts::server::serve;
-use nq_io::Sink;
-use nq_keeper::Keeper;
+use nq_hosts::user::{Plan, client};
+use nq_io::{Sink, Source};
 use nq_link::Link;
 use std::alloc::Global;
 
-/// Serves for so many turns over a keeper.
-pub(crate) fn served<P: Keeper, L: Link, C: Clock, K: Sink>(
+/// Runs the calls of this incarnation of a host, from input of at most so many bytes; the status.
+pub(crate) fn attended<S: Source, K: Sink, L: Link, C: Clock>(
     alloc: Global,
-    keeper: P,
+    host: u32,
+    inc: u32,
     turns: u32,
-    longest: u32,
+    input: &mut S,
+    out: &mut K,
     link: &mut L,
     clock: &mut C,
-    out: &mut K,
-) -> Ran<P>
-    requires long { 5 ≤ longest }
-    requires short { longest ≤ 600 }
-    ensures serves { ServesFor P.content P.faults P.follows P.leaves result.status longest turns keeper result.keeper
-        (clock_told C.floor C.readings clock.old) (clock_told C.floor C.readings clock.new)
+    limit: usize,
+) -> u8
+    requires { limit < 2 ^ 31 }
+    ensures { Attends turns (record { host = host; inc = inc }) limit result (S.left input.old) (S.left input.new) (S.faults input.old) (S.faults input.new)
+        (K.held out.old) (K.held out.new) (K.faults out.old) (K.faults out.new) (clock_told C.floor C.readings clock.old) (clock_told C.floor C.readings clock.new)
         (link_told L.sent L.waiting L.faults L.receives link.old)
-        (link_told L.sent L.waiting L.faults L.receives link.new)
-        (K.held out.old) (K.held out.new) (K.faults out.old) (K.faults out.new) }
-    ensures follows { P.follows keeper result.keeper }
+        (link_told L.sent L.waiting L.faults L.receives link.new) }
 {
-    let served = serve(alloc, keeper, turns, longest, link, clock, out);
-    Ran {
-        status: served.end.status(),
-        keeper: served.keeper,
-    }
+    let plan = Plan {
+        who: Who {
+            host: Host(host),
+            inc: Inc(inc),
+        },
+        turns,
+        limit,
+    };
+    client(alloc, plan, input, out, link, clock).status()
 }

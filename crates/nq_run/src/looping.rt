@@ -1,42 +1,49 @@
 //! The command `loop`.
 
-ghost use Rattle.std.specs.Prelude.{◌≡◌, ◌+◌, ◌≤◌, Some, length, map};
-ghost use Rattle.nq_keeper.specs.StoredKeeper.{empty_kept};
+ghost use Rattle.std.specs.Prelude.{◌≡◌, ◌+◌, ◌≤◌, ℕ, List, Some, length, map};
 ghost use Rattle.nq_loop.specs.Sending.{told_of};
 ghost use Rattle.nq_hosts.specs.Clocks.{clock_told};
-ghost use Rattle.nq_run.specs.Looping.{LoopsFor};
+ghost use Rattle.nq_run.specs.Running.{LoopsOn};
 
-use crate::ran::Ran;
 use nq_clock::Clock;
+use nq_disk::Disk;
 use nq_io::Sink;
-use nq_keeper::Keeper;
 use nq_link::Link;
 use nq_loop::run_loop;
+use nq_service::Ended;
+use nq_service::blank::emptied;
 use std::alloc::Global;
 
-/// Runs a loop among so many hosts, 1 to 64, over their links and a keeper that keeps nothing yet.
-pub(crate) fn looped<P: Keeper, K: Sink, L: Link, C: Clock>(
+/// Runs a loop among so many hosts, 1 to 64, over their links and an empty store of a disk that tells its bytes.
+pub(crate) fn looped<K: Sink, D: Disk + Drop, L: Link, C: Clock>(
     alloc: Global,
-    keeper: P,
+    disk: D,
     hosts: u32,
     turns: u32,
     links: &mut [L],
     clock: &mut C,
     out: &mut K,
-) -> Ran<P>
-    requires empty { P.content keeper ≡ Some empty_kept }
+) -> Ended<D>
+    requires tells { (bytes : List ℕ) × (D.told disk ≡ Some bytes) }
     requires some { 1 ≤ hosts }
     requires few { hosts ≤ 64 }
     requires links { length links.old ≡ hosts + 1 }
-    ensures loops { LoopsFor result.status hosts turns (clock_told C.floor C.readings clock.old) (clock_told C.floor C.readings clock.new)
+    ensures loops { LoopsOn result.status hosts turns (clock_told C.floor C.readings clock.old) (clock_told C.floor C.readings clock.new)
         (map (told_of L.sent L.waiting L.faults L.receives) links.old) (map (told_of L.sent L.waiting L.faults L.receives) links.new)
-        (K.held out.old) (K.held out.new) (K.faults out.old) (K.faults out.new) (P.faults keeper) (P.faults result.keeper)
-        (P.content result.keeper) }
-    ensures follows { P.follows keeper result.keeper }
+        (K.held out.old) (K.held out.new) (K.faults out.old) (K.faults out.new) (D.faults disk) (D.faults result.disk) (D.told result.disk) }
+    ensures follows { D.follows disk result.disk }
 {
-    let finished = run_loop(alloc, keeper, hosts, turns, links, clock, out);
-    Ran {
-        status: finished.end.status(),
-        keeper: finished.keeper,
+    match emptied(alloc, disk) {
+        Ok(store) => {
+            let finished = run_loop(alloc, store, hosts, turns, links, clock, out);
+            Ended {
+                status: finished.end.status(),
+                disk: finished.keeper.into_disk(),
+            }
+        }
+        Err(left) => Ended {
+            status: left.end.status(),
+            disk: left.disk,
+        },
     }
 }

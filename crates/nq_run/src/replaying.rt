@@ -1,41 +1,67 @@
 //! The command `replay`.
 
-ghost use Rattle.std.specs.Prelude.{◌≡◌, ◌<◌, ◌^◌, Some};
-ghost use Rattle.nq_keeper.specs.StoredKeeper.{empty_kept};
-ghost use Rattle.nq_run.specs.Replaying.{ReplaysFor};
+ghost use Rattle.std.specs.Prelude.{◌≡◌, ◌<◌, ◌^◌, ℕ, List, Some};
+ghost use Rattle.nq_run.specs.Running.{PlaysOn, ReplaysOn};
+ghost use Rattle.nq_replay.specs.Playing.{play};
+ghost use Rattle.nq_replay.specs.Schedules.{IsReady};
 
-use crate::ran::Ran;
+use nq_disk::Disk;
 use nq_io::{Sink, Source};
-use nq_keeper::Keeper;
 use nq_replay::{read_script, replay};
+use nq_script::Script;
+use nq_service::Ended;
+use nq_service::blank::emptied;
 use std::alloc::Global;
 
-/// Reads a schedule of at most so many bytes, and plays it over a keeper that keeps nothing yet.
-pub(crate) fn replayed<P: Keeper, S: Source, K: Sink>(
+/// Reads a schedule of at most so many bytes, and plays it over an empty store of a disk that tells its bytes. The disk is touched
+/// only once the schedule was read.
+pub(crate) fn replayed<S: Source, K: Sink, D: Disk + Drop>(
     alloc: Global,
-    keeper: P,
+    disk: D,
     input: &mut S,
     out: &mut K,
     limit: usize,
-) -> Ran<P>
+) -> Ended<D>
     requires short { limit < 2 ^ 31 }
-    requires empty { P.content keeper ≡ Some empty_kept }
-    ensures replays { ReplaysFor limit result.status (S.left input.old) (S.left input.new) (K.held out.old) (K.held out.new)
-        (S.faults input.old) (S.faults input.new) (K.faults out.old) (K.faults out.new) (P.faults keeper) (P.faults result.keeper)
-        (P.content result.keeper) }
-    ensures follows { P.follows keeper result.keeper }
+    requires tells { (bytes : List ℕ) × (D.told disk ≡ Some bytes) }
+    ensures replays { ReplaysOn limit result.status (S.left input.old) (S.left input.new) (K.held out.old) (K.held out.new)
+        (S.faults input.old) (S.faults input.new) (K.faults out.old) (K.faults out.new) (D.faults disk) (D.faults result.disk)
+        (D.told result.disk) disk result.disk }
+    ensures follows { D.follows disk result.disk }
 {
     match read_script(alloc, input, out, limit) {
-        Ok(script) => {
-            let finished = replay(alloc, keeper, &script, out);
-            Ran {
+        Ok(script) => play_on(alloc, disk, &script, out),
+        Err(end) => Ended {
+            status: end.status(),
+            disk,
+        },
+    }
+}
+
+/// Plays a schedule that was read over an empty store of a disk that tells its bytes.
+fn play_on<K: Sink, D: Disk + Drop>(
+    alloc: Global,
+    disk: D,
+    script: &Script,
+    out: &mut K,
+) -> Ended<D>
+    requires ready { IsReady script.now }
+    requires tells { (bytes : List ℕ) × (D.told disk ≡ Some bytes) }
+    ensures plays { PlaysOn script.now.head (play script.now.head script.now.lines) result.status (K.held out.old) (K.held out.new)
+        (K.faults out.old) (K.faults out.new) (D.faults disk) (D.faults result.disk) (D.told result.disk) }
+    ensures follows { D.follows disk result.disk }
+{
+    match emptied(alloc, disk) {
+        Ok(store) => {
+            let finished = replay(alloc, store, script, out);
+            Ended {
                 status: finished.end.status(),
-                keeper: finished.keeper,
+                disk: finished.keeper.into_disk(),
             }
         }
-        Err(end) => Ran {
-            status: end.status(),
-            keeper,
+        Err(left) => Ended {
+            status: left.end.status(),
+            disk: left.disk,
         },
     }
 }

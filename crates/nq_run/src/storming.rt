@@ -1,47 +1,56 @@
 //! The command `storm`.
 
-ghost use Rattle.std.specs.Prelude.{◌≡◌, Some, map};
-ghost use Rattle.nq_keeper.specs.StoredKeeper.{empty_kept};
+ghost use Rattle.std.specs.Prelude.{◌≡◌, ℕ, List, Some, map};
+ghost use Rattle.nq_base.specs.Status.{status_of};
+ghost use Rattle.nq_base.specs.declared.ending.ending.Ending.{Ending};
 ghost use Rattle.nq_run.specs.Fates.{fate_told};
-ghost use Rattle.nq_run.specs.Storming.{StormsFor};
+ghost use Rattle.nq_run.specs.Running.{StormsOn};
+ghost use Rattle.nq_storm.specs.Kinds.{TellOthers};
 
 use crate::fates::place_of;
-use crate::ran::Ran;
 use crate::usage::usage;
+use nq_disk::Disk;
 use nq_io::Sink;
-use nq_keeper::Keeper;
+use nq_service::Ended;
+use nq_service::blank::emptied;
 use nq_storm::fates::Fate;
 use nq_storm::run_storm;
 use std::alloc::Global;
 
-/// Runs a storm of the first fate of a kind, if there is one, over a keeper that keeps nothing yet.
-pub(crate) fn storm<P: Keeper, K: Sink>(
+/// Runs a storm of the first fate of a kind over an empty store of a disk that tells its bytes. Where there is none, the disk is not touched.
+pub(crate) fn stormed<K: Sink, D: Disk + Drop>(
     alloc: Global,
-    keeper: P,
+    disk: D,
     fates: &mut [Box<dyn Fate>],
     kind: u8,
     start: u64,
     events: u32,
     out: &mut K,
-) -> Ran<P>
-    requires { P.content keeper ≡ Some empty_kept }
-    ensures storms { StormsFor result.status kind start events (map (λ fate. told fate) fates.old)
-        (map (λ fate. fate_told (told fate) (asks fate)) fates.old) (map (λ fate. fate_told (told fate) (asks fate)) fates.new)
-        (K.held out.old) (K.held out.new) (K.faults out.old) (K.faults out.new) (P.faults keeper) (P.faults result.keeper)
-        (P.content result.keeper) }
-    ensures follows { P.follows keeper result.keeper }
+) -> Ended<D>
+    requires { (bytes : List ℕ) × (D.told disk ≡ Some bytes) }
+    ensures storms { StormsOn result.status kind start events (map (λ fate. (Fate-box fate).told fate.value) fates.old)
+        (map (λ fate. fate_told ((Fate-box fate).told fate.value) (asks fate)) fates.old) (map (λ fate. fate_told ((Fate-box fate).told fate.value) (asks fate)) fates.new)
+        (K.held out.old) (K.held out.new) (K.faults out.old) (K.faults out.new) (D.faults disk) (D.faults result.disk) (D.told result.disk) }
+    ensures never { TellOthers kind (map (λ fate. (Fate-box fate).told fate.value) fates.old) → (result.status ≡ status_of Ending.Usage) × (result.disk ≡ disk) }
+    ensures follows { D.follows disk result.disk }
 {
     match place_of(fates, kind) {
-        Some(place) => {
-            let finished = run_storm(alloc, keeper, &mut *fates[place], start, events, out);
-            Ran {
-                status: finished.end.status(),
-                keeper: finished.keeper,
+        Some(place) => match emptied(alloc, disk) {
+            Ok(store) => {
+                let finished = run_storm(alloc, store, &mut *fates[place], start, events, out);
+                Ended {
+                    status: finished.end.status(),
+                    disk: finished.keeper.into_disk(),
+                }
             }
-        }
-        None => Ran {
+            Err(left) => Ended {
+                status: left.end.status(),
+                disk: left.disk,
+            },
+        },
+        None => Ended {
             status: usage(out),
-            keeper,
+            disk,
         },
     }
 }

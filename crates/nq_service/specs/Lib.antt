@@ -3,5 +3,4 @@ pub mod Formatting
 pub mod MountServing
 pub mod Opening
 pub mod Recent
-pub mod Refusing
 pub mod Serving

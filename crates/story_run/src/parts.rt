@@ -8,7 +8,7 @@ use nq_base::{Host, Party, Ticks};
 use nq_clock::MemClock;
 use nq_disk::{MemDisk, Room};
 use nq_link::MemLink;
-use nq_run::disk::{Command, NoMemory, Words};
+use nq_run::{Command, NoMemory, Words};
 use std::alloc::Global;
 
 /// How much a disk takes: the bytes of the largest image, and as many calls and written bytes as can be counted.

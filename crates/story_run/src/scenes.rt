@@ -5,7 +5,7 @@ use crate::top::ran;
 use nq_base::{Host, Party};
 use nq_disk::MemDisk;
 use nq_io::{MemSink, MemSource};
-use nq_run::disk::{CutFate, Ended, Fate, HostileFate, LossyFate, NoMemory, SteadyFate, Words};
+use nq_run::{CutFate, Ended, Fate, HostileFate, LossyFate, NoMemory, SteadyFate, Words};
 use std::alloc::Global;
 
 /// The status of a scene that was not played, for want of memory.

@@ -9,7 +9,7 @@ use nq_clock::Clock;
 use nq_disk::Disk;
 use nq_io::{Sink, Source};
 use nq_link::Link;
-use nq_run::disk::{
+use nq_run::{
     CutFate, Ended, Fate, HostileFate, LossyFate, NoMemory, SteadyFate, Words, run_disk,
 };
 use std::alloc::Global;

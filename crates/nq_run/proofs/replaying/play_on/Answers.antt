@@ -2,7 +2,7 @@ use Rattle.std.proofs.Common.{subst, sym}
 use Rattle.nq_run.proofs.Playing.{plays_not, plays_store}
 use Rattle.nq_run.specs.Running.{PlaysOn}
 use Rattle.nq_replay.specs.Playing.{play}
-use Rattle.nq_run.proofs.disk.replaying.play_on.Goals as goal
+use Rattle.nq_run.proofs.replaying.play_on.Goals as goal
 
 pub returns-in-Ok-clause-plays : goal.returns-in-Ok-clause-plays
 returns-in-Ok-clause-plays g c =
