@@ -1,4 +1,4 @@
--- What each command uses. All else that `run_disk` is handed stays as it was.
+-- What each command uses. All else that `run` is handed stays as it was.
 use Rattle.std.specs.Prelude.{Bool, true, false, Option, Some, ⊤}
 use Rattle.nq_command.specs.declared.Command.{Command}
 

@@ -15,4 +15,4 @@ mod usage;
 pub use nq_command::{Command, NoMemory, Words};
 pub use nq_service::Ended;
 pub use nq_storm::fates::{CutFate, Fate, HostileFate, LossyFate, SteadyFate};
-pub use top::run_disk;
+pub use top::run;

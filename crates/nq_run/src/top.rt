@@ -57,7 +57,7 @@ const MOST_BYTES: usize = 16_777_216;
 ///
 /// The answer is the exit status, with the disk. It is 6 only where the disk failed, and for `serve` 10 exactly where the image is wrong.
 /// `docs/commands.md` says when each status comes, and what is printed then.
-pub fn run_disk<S: Source, K: Sink, D: Disk + Drop, L: Link, C: Clock>(
+pub fn run<S: Source, K: Sink, D: Disk + Drop, L: Link, C: Clock>(
     alloc: Global,
     words: &Words,
     input: &mut S,

@@ -15,7 +15,7 @@ use nq_clock::StdClock;
 use nq_disk::{Disk, FileDisk, MemDisk, Room};
 use nq_link::UdpLink;
 use nq_run::{
-    Command, CutFate, Fate, HostileFate, LossyFate, NoMemory, SteadyFate, Words, run_disk,
+    Command, CutFate, Fate, HostileFate, LossyFate, NoMemory, SteadyFate, Words, run,
 };
 use nq_streams::{StdSink, StdSource};
 use std::io::ErrorKind;
@@ -103,7 +103,7 @@ fn run_over<D: Disk + Drop>(
     let mut clock = StdClock::new(rt.clone()?);
     let mut input = StdSource::new(rt.reader());
     let mut out = StdSink::new(io::writer(rt));
-    let ended = run_disk(
+    let ended = run(
         alloc, words, &mut input, &mut out, disk, link, links, &mut clock, fates,
     );
     tell_taken(rt, link);

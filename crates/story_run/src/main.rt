@@ -1,4 +1,4 @@
-//! Runs commands by the top call `run_disk` over a disk in memory, with ample memory, and prints what each prints, and its status.
+//! Runs commands by the top call `run` over a disk in memory, with ample memory, and prints what each prints, and its status.
 //!
 //! Each line of the standard input that begins with `=` is printed as it stands. Any other is a scene, words, a colon and an input, in which
 //! `|` stands for each line feed, and `N*L` for N lines L. In a scene that ends with `unread` the first read fails, with `unput` the first put, with `unkept` the first

@@ -10,11 +10,11 @@ use nq_disk::Disk;
 use nq_io::{Sink, Source};
 use nq_link::Link;
 use nq_run::{
-    CutFate, Ended, Fate, HostileFate, LossyFate, NoMemory, SteadyFate, Words, run_disk,
+    CutFate, Ended, Fate, HostileFate, LossyFate, NoMemory, SteadyFate, Words, run,
 };
 use std::alloc::Global;
 
-/// Runs what the words say. What `run_disk` promises stays within: a story knows none of it, and so proves nothing of it either.
+/// Runs what the words say. What `run` promises stays within: a story knows none of it, and so proves nothing of it either.
 pub(crate) fn ran<S: Source, K: Sink, D: Disk + Drop, L: Link, C: Clock>(
     alloc: Global,
     words: &Words,
@@ -33,7 +33,7 @@ pub(crate) fn ran<S: Source, K: Sink, D: Disk + Drop, L: Link, C: Clock>(
     fates.push(Box::new(alloc, LossyFate::new())?)?;
     fates.push(Box::new(alloc, CutFate::new())?)?;
     fates.push(Box::new(alloc, HostileFate::new())?)?;
-    let ended = run_disk(
+    let ended = run(
         alloc,
         words,
         input,

@@ -1,7 +1,7 @@
 use Rattle.std.proofs.Common.{◌∙◌, ap, sym}
 use Rattle.nq_run.proofs.Commands.{left_so, says_check, says_format, says_names, says_replay, says_staged}
 use Rattle.nq_run.specs.Frames.{makes_a_run, reads_clock, reads_input, uses_disk, uses_fates, uses_link, uses_links}
-use Rattle.nq_run.proofs.top.run_disk.Goals as goal
+use Rattle.nq_run.proofs.top.run.Goals as goal
 
 pub run_command-requires-clause-tells : goal.run_command-requires-clause-tells
 run_command-requires-clause-tells g c = λ makes. c.requires.tells (ap makes_a_run (sym c.command.ensures.says) ∙ makes)
