@@ -26,5 +26,5 @@ says_format words is = rw is refl
 
 -- what is not so leaves the other
 pub left_so : (b : Bool) (P : Type 0) → b ≡ false → Unless b P → P
-left_so true P no so = absurd (cc)
-left_so false P no so = so
+left_so true P is so = absurd (cc)
+left_so false P is so = so

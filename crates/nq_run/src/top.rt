@@ -1,7 +1,7 @@
 //! Running what the words say over a disk.
 
-ghost use Rattle.std.specs.Prelude.{◌≡◌, ◌+◌, ℕ, List, Some, IfSome, false, true, length, map};
-ghost use Rattle.nq_command.specs.Commands.{IsCheck, IsFormat, IsNames, IsRanged, IsReplay, IsStaged, command_of};
+ghost use Rattle.std.specs.Prelude.{◌≡◌, ◌+◌, ℕ, List, Some, false, true, length, map};
+ghost use Rattle.nq_command.specs.Commands.{IsCheck, IsFormat, IsNames, IsReplay, IsStaged, command_of};
 ghost use Rattle.nq_command.specs.declared.Command.{Command};
 ghost use Rattle.nq_run.specs.Commands.{Does, NeverSays, SaysNothing};
 ghost use Rattle.nq_run.specs.Running.{LoopsOn, ReplaysOn, StormsOn};
@@ -117,23 +117,13 @@ pub fn run<S: Source, K: Sink, D: Disk + Drop, L: Link, C: Clock>(
     ensures clock { reads_clock (command_of words.now) ≡ false → clock.new ≡ clock.old }
     ensures fates { uses_fates (command_of words.now) ≡ false → fates.new ≡ fates.old }
 {
-    run_command(
-        alloc,
-        words.command(),
-        input,
-        out,
-        disk,
-        link,
-        links,
-        clock,
-        fates,
-    )
+    run_command(alloc, words, input, out, disk, link, links, clock, fates)
 }
 
-/// Runs a command over a disk. Where there is none, it prints so.
+/// Runs the command that words say over a disk. Where they say none, it prints so.
 fn run_command<S: Source, K: Sink, D: Disk + Drop, L: Link, C: Clock>(
     alloc: Global,
-    command: Option<Command>,
+    words: &Words,
     input: &mut S,
     out: &mut K,
     disk: D,
@@ -142,10 +132,9 @@ fn run_command<S: Source, K: Sink, D: Disk + Drop, L: Link, C: Clock>(
     clock: &mut C,
     fates: &mut [Box<dyn Fate>],
 ) -> Ended<D>
-    requires ranged { IfSome command IsRanged }
-    requires tells { makes_a_run command ≡ true → (bytes : List ℕ) × (D.told disk ≡ Some bytes) }
-    requires links { (hosts turns : ℕ) → command ≡ Some (Command.Loop hosts turns) → length links.old ≡ hosts + 1 }
-    ensures does { Does command
+    requires tells { makes_a_run (command_of words.now) ≡ true → (bytes : List ℕ) × (D.told disk ≡ Some bytes) }
+    requires links { (hosts turns : ℕ) → command_of words.now ≡ Some (Command.Loop hosts turns) → length links.old ≡ hosts + 1 }
+    ensures does { Does (command_of words.now)
         (Formats D.faults D.told D.may_leave result.status disk result.disk × (out.new ≡ out.old))
         (λ turns longest. ServesDisk D.told D.faults D.may_leave D.follows D.leaves result.status longest turns disk result.disk
         (clock_told C.floor C.readings clock.old) (clock_told C.floor C.readings clock.new)
@@ -171,14 +160,14 @@ fn run_command<S: Source, K: Sink, D: Disk + Drop, L: Link, C: Clock>(
         (K.held out.old) (K.held out.new) (K.faults out.old) (K.faults out.new) (clock_told C.floor C.readings clock.old) (clock_told C.floor C.readings clock.new)
         (link_told L.sent L.waiting L.faults L.receives link.old)
         (link_told L.sent L.waiting L.faults L.receives link.new)) }
-    ensures usage { result.status ≡ status_of Ending.Usage → SaysNothing command (map (λ fate. (Fate-box fate).told fate.value) fates.old)
+    ensures usage { result.status ≡ status_of Ending.Usage → SaysNothing (command_of words.now) (map (λ fate. (Fate-box fate).told fate.value) fates.old)
         × (S.left input.new ≡ S.left input.old) × PrintsLine usage_line (K.held out.old) (K.held out.new) (K.faults out.old) (K.faults out.new) }
-    ensures never { NeverSays command (map (λ fate. (Fate-box fate).told fate.value) fates.old) → (result.status ≡ status_of Ending.Usage) × (result.disk ≡ disk) }
+    ensures never { NeverSays (command_of words.now) (map (λ fate. (Fate-box fate).told fate.value) fates.old) → (result.status ≡ status_of Ending.Usage) × (result.disk ≡ disk) }
     ensures follows { D.follows disk result.disk }
-    ensures keeps { Unless (uses_disk command) (result.disk ≡ disk) × Unless (reads_input command) (input.new ≡ input.old) × Unless (uses_link command) (link.new ≡ link.old)
-        × Unless (uses_links command) (links.new ≡ links.old) × Unless (reads_clock command) (clock.new ≡ clock.old) × Unless (uses_fates command) (fates.new ≡ fates.old) }
+    ensures keeps { Unless (uses_disk (command_of words.now)) (result.disk ≡ disk) × Unless (reads_input (command_of words.now)) (input.new ≡ input.old) × Unless (uses_link (command_of words.now)) (link.new ≡ link.old)
+        × Unless (uses_links (command_of words.now)) (links.new ≡ links.old) × Unless (reads_clock (command_of words.now)) (clock.new ≡ clock.old) × Unless (uses_fates (command_of words.now)) (fates.new ≡ fates.old) }
 {
-    match command {
+    match words.command() {
         Some(Command::Format) => format_disk(disk),
         Some(Command::Serve { turns, longest }) => {
             serve_disk(alloc, disk, turns, longest, link, clock, out)

@@ -1,77 +1,71 @@
-use Rattle.std.proofs.Common.{◌∙◌, ap, sym}
+use Rattle.nq_command.specs.Commands.{command_of}
 use Rattle.nq_run.proofs.Commands.{left_so, says_check, says_format, says_names, says_replay, says_staged}
-use Rattle.nq_run.specs.Frames.{makes_a_run, reads_clock, reads_input, uses_disk, uses_fates, uses_link, uses_links}
+use Rattle.nq_run.specs.Frames.{reads_clock, reads_input, uses_disk, uses_fates, uses_link, uses_links}
 use Rattle.nq_run.proofs.top.run.Goals as goal
 
-pub run_command-requires-clause-tells : goal.run_command-requires-clause-tells
-run_command-requires-clause-tells g c = λ makes. c.requires.tells (ap makes_a_run (sym c.command.ensures.says) ∙ makes)
-
-pub run_command-requires-clause-links : goal.run_command-requires-clause-links
-run_command-requires-clause-links g c = λ hosts turns is. c.requires.links hosts turns (sym c.command.ensures.says ∙ is)
-
 pub returns-clause-usage : goal.returns-clause-usage
-returns-clause-usage g c = λ none. rw c.command.ensures.says at (c.run_command.ensures.usage none).0
+returns-clause-usage g c = λ none. (c.run_command.ensures.usage none).0
 
 pub returns-clause-never : goal.returns-clause-never
-returns-clause-never g c = λ never. (c.run_command.ensures.never (rw c.command.ensures.says never)).0
+returns-clause-never g c = λ never. (c.run_command.ensures.never never).0
 
 pub returns-clause-nothing : goal.returns-clause-nothing
 returns-clause-nothing g c = λ none. ((c.run_command.ensures.usage none).1, (c.run_command.ensures.usage none).2)
 
 pub returns-clause-formats : goal.returns-clause-formats
 returns-clause-formats g c = λ is.
-    let both = rw (c.command.ensures.says, says_format c.args.words.now is) at c.run_command.ensures.does in
+    let both = rw (says_format c.args.words.now is) at c.run_command.ensures.does in
     both.0
 
 pub returns-clause-quiet : goal.returns-clause-quiet
 returns-clause-quiet g c = λ is.
-    let both = rw (c.command.ensures.says, says_format c.args.words.now is) at c.run_command.ensures.does in
+    let both = rw (says_format c.args.words.now is) at c.run_command.ensures.does in
     both.1
 
 pub returns-clause-serves : goal.returns-clause-serves
-returns-clause-serves g c = λ turns longest is. rw (c.command.ensures.says, is) at c.run_command.ensures.does
+returns-clause-serves g c = λ turns longest is. rw is at c.run_command.ensures.does
 
 pub returns-clause-replays : goal.returns-clause-replays
-returns-clause-replays g c = λ is. rw (c.command.ensures.says, says_replay c.args.words.now is) at c.run_command.ensures.does
+returns-clause-replays g c = λ is. rw (says_replay c.args.words.now is) at c.run_command.ensures.does
 
 pub returns-clause-checks : goal.returns-clause-checks
-returns-clause-checks g c = λ is. rw (c.command.ensures.says, says_check c.args.words.now is) at c.run_command.ensures.does
+returns-clause-checks g c = λ is. rw (says_check c.args.words.now is) at c.run_command.ensures.does
 
 pub returns-clause-stages : goal.returns-clause-stages
-returns-clause-stages g c = λ is. rw (c.command.ensures.says, says_staged c.args.words.now is) at c.run_command.ensures.does
+returns-clause-stages g c = λ is. rw (says_staged c.args.words.now is) at c.run_command.ensures.does
 
 pub returns-clause-names : goal.returns-clause-names
-returns-clause-names g c = λ is. rw (c.command.ensures.says, says_names c.args.words.now is) at c.run_command.ensures.does
+returns-clause-names g c = λ is. rw (says_names c.args.words.now is) at c.run_command.ensures.does
 
 pub returns-clause-storms : goal.returns-clause-storms
-returns-clause-storms g c = λ kind start events is. rw (c.command.ensures.says, is) at c.run_command.ensures.does
+returns-clause-storms g c = λ kind start events is. rw is at c.run_command.ensures.does
 
 pub returns-clause-loops : goal.returns-clause-loops
-returns-clause-loops g c = λ hosts turns is. rw (c.command.ensures.says, is) at c.run_command.ensures.does
+returns-clause-loops g c = λ hosts turns is. rw is at c.run_command.ensures.does
 
 pub returns-clause-attends : goal.returns-clause-attends
-returns-clause-attends g c = λ host inc turns is. rw (c.command.ensures.says, is) at c.run_command.ensures.does
+returns-clause-attends g c = λ host inc turns is. rw is at c.run_command.ensures.does
 
 pub returns-clause-follows : goal.returns-clause-follows
 returns-clause-follows g c = c.run_command.ensures.follows
 
 pub returns-clause-untouched : goal.returns-clause-untouched
-returns-clause-untouched g c = λ never. (c.run_command.ensures.never (rw c.command.ensures.says never)).1
+returns-clause-untouched g c = λ never. (c.run_command.ensures.never never).1
 
 pub returns-clause-disk : goal.returns-clause-disk
-returns-clause-disk g c = λ no. left_so (uses_disk c.command.result) _ (ap uses_disk c.command.ensures.says ∙ no) c.run_command.ensures.keeps.0
+returns-clause-disk g c = λ no. left_so (uses_disk (command_of c.args.words.now)) _ no c.run_command.ensures.keeps.0
 
 pub returns-clause-input : goal.returns-clause-input
-returns-clause-input g c = λ no. left_so (reads_input c.command.result) _ (ap reads_input c.command.ensures.says ∙ no) c.run_command.ensures.keeps.1
+returns-clause-input g c = λ no. left_so (reads_input (command_of c.args.words.now)) _ no c.run_command.ensures.keeps.1
 
 pub returns-clause-link : goal.returns-clause-link
-returns-clause-link g c = λ no. left_so (uses_link c.command.result) _ (ap uses_link c.command.ensures.says ∙ no) c.run_command.ensures.keeps.2
+returns-clause-link g c = λ no. left_so (uses_link (command_of c.args.words.now)) _ no c.run_command.ensures.keeps.2
 
 pub returns-clause-hosts : goal.returns-clause-hosts
-returns-clause-hosts g c = λ no. left_so (uses_links c.command.result) _ (ap uses_links c.command.ensures.says ∙ no) c.run_command.ensures.keeps.3
+returns-clause-hosts g c = λ no. left_so (uses_links (command_of c.args.words.now)) _ no c.run_command.ensures.keeps.3
 
 pub returns-clause-clock : goal.returns-clause-clock
-returns-clause-clock g c = λ no. left_so (reads_clock c.command.result) _ (ap reads_clock c.command.ensures.says ∙ no) c.run_command.ensures.keeps.4
+returns-clause-clock g c = λ no. left_so (reads_clock (command_of c.args.words.now)) _ no c.run_command.ensures.keeps.4
 
 pub returns-clause-fates : goal.returns-clause-fates
-returns-clause-fates g c = λ no. left_so (uses_fates c.command.result) _ (ap uses_fates c.command.ensures.says ∙ no) c.run_command.ensures.keeps.5
+returns-clause-fates g c = λ no. left_so (uses_fates (command_of c.args.words.now)) _ no c.run_command.ensures.keeps.5
