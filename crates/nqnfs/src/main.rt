@@ -14,9 +14,7 @@ use nq_base::{Host, Party};
 use nq_clock::StdClock;
 use nq_disk::{Disk, FileDisk, MemDisk, Room};
 use nq_link::UdpLink;
-use nq_run::{
-    Command, CutFate, Fate, HostileFate, LossyFate, NoMemory, SteadyFate, Words, run,
-};
+use nq_run::{Command, CutFate, Fate, HostileFate, LossyFate, NoMemory, SteadyFate, Words, run};
 use nq_streams::{StdSink, StdSource};
 use std::io::ErrorKind;
 use std::process::ExitCode;

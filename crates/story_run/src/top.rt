@@ -9,9 +9,7 @@ use nq_clock::Clock;
 use nq_disk::Disk;
 use nq_io::{Sink, Source};
 use nq_link::Link;
-use nq_run::{
-    CutFate, Ended, Fate, HostileFate, LossyFate, NoMemory, SteadyFate, Words, run,
-};
+use nq_run::{CutFate, Ended, Fate, HostileFate, LossyFate, NoMemory, SteadyFate, Words, run};
 use std::alloc::Global;
 
 /// Runs what the words say. What `run` promises stays within: a story knows none of it, and so proves nothing of it either.
