@@ -1,7 +1,5 @@
 -- Steps that are made behind others.
-use Rattle.std.proofs.Common.{◌≡◌, ℕ, ◌≤◌, Bool, true, false, List, [], ◌∷◌, ◌++◌, Ok, Err, zero, suc, inl, inr, refl, sym, ap, subst, ◌∙◌, arith, append_assoc}
-use Rattle.std.proofs.lemmas.Bool.{cases_lt}
-use Rattle.std.proofs.lemmas.List.{append-nil}
+use Rattle.std.proofs.Common.{◌≡◌, Bool, true, false, List, [], ◌∷◌, ◌++◌, Ok, Err, refl, sym, ap, subst, ◌∙◌, append_assoc}
 use Rattle.std.specs.Prelude.{Result, ◌||◌}
 use Rattle.nq_loop.specs.Steps.{MakesAll, MakesSteps, StopsAmong, behind}
 use Rattle.nq_loop.specs.declared.turns.Halt.{Halt}
@@ -80,24 +78,6 @@ join Makes front later one (Err why) at between after first second = stops-behin
 pub record IsFront {A : Type 0} (front all : List A) : Type 0 where
   pub later : List A
   pub parts : all ≡ front ++ later
-
--- what grows at its end has what it was before as a front
-pub grows : {A : Type 0} (build more : ℕ → List A) → ((n : ℕ) → build (suc n) ≡ build n ++ more n) → (some count : ℕ) → some ≤ count → IsFront (build some) (build count)
-grows build more step some zero below =
-    let none : some ≡ 0 = omega arith in
-    rw none (record { later = []; parts = sym (append-nil (build 0)) })
-grows build more step some (suc count) below =
-    elim (cases_lt count some) [
-      | inl above ↦
-          let same : some ≡ suc count = omega arith in
-          rw same (record { later = []; parts = sym (append-nil (build (suc count))) })
-      | inr within ↦
-          let rest = grows build more step some count within in
-          record {
-            later = rest.later ++ more count;
-            parts = step count ∙ ap (λ xs. xs ++ more count) rest.parts ∙ append_assoc (build some) rest.later (more count);
-          }
-    ]
 
 pub stops-within : {S M : Type 0} (Makes : S → Result Bool Halt → M → M → Type 0) (front all : List S) (why : Halt) (at after : M)
     → IsFront front all → StopsAmong Makes front why at after → StopsAmong Makes all why at after

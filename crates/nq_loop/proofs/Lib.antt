@@ -1,5 +1,6 @@
 pub mod Joining
 pub mod Posts
+pub mod TurnPlaces
 pub mod Whole
 pub mod Finding
 pub mod Calls

@@ -40,12 +40,12 @@ get-drop (x ∷ xs) (suc first) place =
     let sum : suc first + place ≡ suc (first + place) = omega arith in
     rw sum (get-drop xs first place)
 
-take-more : {A : Type 0} (xs : List A) (place : ℕ) (x : A) → slice_get xs place ≡ Some x → take (suc place) xs ≡ take place xs ++ x ∷ []
+pub take-more : {A : Type 0} (xs : List A) (place : ℕ) (x : A) → slice_get xs place ≡ Some x → take (suc place) xs ≡ take place xs ++ x ∷ []
 take-more [] place x there = absurd (cc)
 take-more (y ∷ xs) zero x there = let one : y ≡ x = cc in ap (λ z. z ∷ []) one
 take-more (y ∷ xs) (suc place) x there = ap (λ ys. y ∷ ys) (take-more xs place x there)
 
-parted : {A : Type 0} (xs : List A) (place : ℕ) (x : A) → slice_get xs place ≡ Some x → xs ≡ take place xs ++ x ∷ drop (suc place) xs
+pub parted : {A : Type 0} (xs : List A) (place : ℕ) (x : A) → slice_get xs place ≡ Some x → xs ≡ take place xs ++ x ∷ drop (suc place) xs
 parted [] place x there = absurd (cc)
 parted (y ∷ xs) zero x there = let one : y ≡ x = cc in ap (λ z. z ∷ xs) one
 parted (y ∷ xs) (suc place) x there = ap (λ ys. y ∷ ys) (parted xs place x there)

@@ -1,11 +1,13 @@
 -- Steps of a loop, and how it stands behind them.
-use Rattle.std.proofs.Common.{◌≡◌, ℕ, ◌+◌, ◌≤◌, Bool, false, List, [], ◌∷◌, ◌++◌, Ok, Err, suc, refl, subst, ◌∙◌, add-one}
-use Rattle.std.specs.Prelude.{Result, ◌||◌}
+use Rattle.std.proofs.Common.{◌≡◌, ℕ, ◌+◌, ◌≤◌, Bool, false, List, [], ◌∷◌, ◌++◌, length, take, drop, Ok, Err, Some, suc, refl, sym, subst, ◌∙◌, add-one, append_assoc}
+use Rattle.std.proofs.lemmas.List.{take_all}
+use Rattle.std.specs.Prelude.{Result, ◌||◌, slice_get}
 use Rattle.nq_base.specs.declared.Event.{Event}
-use Rattle.nq_loop.proofs.Joining.{IsFront, grows, join, one-ends, stops-within}
+use Rattle.nq_loop.proofs.Joining.{IsFront, join, one-ends, stops-within}
+use Rattle.nq_loop.proofs.Posts.{parted, take-more}
 use Rattle.nq_loop.specs.Holding.{CountsKeep, GivesTo, IsLooping, Keeps, Loop, Loops, Stands, moment_of}
-use Rattle.nq_loop.specs.Looping.{Makes, Step, round_steps, rounds_steps}
-use Rattle.nq_loop.specs.Steps.{behind, each_below}
+use Rattle.nq_loop.specs.Looping.{Makes, Step}
+use Rattle.nq_loop.specs.Steps.{behind}
 use Rattle.nq_loop.specs.declared.turns.Halt.{Halt}
 use Rattle.nq_model.specs.World.{Head}
 
@@ -42,56 +44,31 @@ cut head front all why old new is loops = record {
   stands = loops.stands;
 }
 
-pub cut-first : {K : Type 0} (head : Head) (front later : List Step) (why : Halt) (old new : Loop K) → Loops head front (Err why) old new → Loops head (front ++ later) (Err why) old new
-cut-first head front later why old new loops = cut head front (front ++ later) why old new (record { later = later; parts = refl }) loops
+-- ---- steps, up to a place
 
--- ---- steps, one for each number
+pub step-more : {K : Type 0} (head : Head) (steps : List Step) (place : ℕ) (step : Step) (some more any : Bool) (old between new : Loop K)
+    → slice_get steps place ≡ Some step → any ≡ (some || more) → Loops head (take place steps) (Ok some) old between → Loops head (step ∷ []) (Ok more) between new → Loops head (take (place + 1) steps) (Ok any) old new
+step-more head steps place step some more any old between new there is first second =
+    rw (add-one place, take-more steps place step there, is) (then head (take place steps) (step ∷ []) some (Ok more) old between new first second)
 
-pub each-more : {K : Type 0} (head : Head) (one : ℕ → Step) (number : ℕ) (some more any : Bool) (old between new : Loop K)
-    → any ≡ (some || more) → Loops head (each_below number one) (Ok some) old between → Loops head (one number ∷ []) (Ok more) between new → Loops head (each_below (number + 1) one) (Ok any) old new
-each-more head one number some more any old between new is first second =
-    rw (add-one number, is) (then head (each_below number one) (one number ∷ []) some (Ok more) old between new first second)
+pub step-stops : {K : Type 0} (head : Head) (steps : List Step) (place : ℕ) (step : Step) (some : Bool) (why : Halt) (old between new : Loop K)
+    → slice_get steps place ≡ Some step → Loops head (take place steps) (Ok some) old between → Loops head (step ∷ []) (Err why) between new → Loops head steps (Err why) old new
+step-stops head steps place step some why old between new there first second =
+    cut head (take place steps ++ step ∷ []) steps why old new
+    (record { later = drop (suc place) steps; parts = parted steps place step there ∙ sym (append_assoc (take place steps) (step ∷ []) (drop (suc place) steps)) })
+    (then head (take place steps) (step ∷ []) some (Err why) old between new first second)
 
-pub each-stops : {K : Type 0} (head : Head) (one : ℕ → Step) (number count : ℕ) (some : Bool) (why : Halt) (old between new : Loop K)
-    → suc number ≤ count → Loops head (each_below number one) (Ok some) old between → Loops head (one number ∷ []) (Err why) between new → Loops head (each_below count one) (Err why) old new
-each-stops head one number count some why old between new below first second =
-    cut head (each_below (suc number) one) (each_below count one) why old new
-    (grows (λ n. each_below n one) (λ n. one n ∷ []) (λ n. refl) (suc number) count below)
-    (then head (each_below number one) (one number ∷ []) some (Err why) old between new first second)
-
--- ---- rounds
-
-pub rounds-more : {K : Type 0} (head : Head) (hosts number : ℕ) (some more any : Bool) (old between new : Loop K)
-    → any ≡ (some || more) → Loops head (rounds_steps hosts number) (Ok some) old between → Loops head (round_steps hosts) (Ok more) between new → Loops head (rounds_steps hosts (number + 1)) (Ok any) old new
-rounds-more head hosts number some more any old between new is first second =
-    rw (add-one number, is) (then head (rounds_steps hosts number) (round_steps hosts) some (Ok more) old between new first second)
-
-pub rounds-stop : {K : Type 0} (head : Head) (hosts number count : ℕ) (some : Bool) (why : Halt) (old between new : Loop K)
-    → suc number ≤ count → Loops head (rounds_steps hosts number) (Ok some) old between → Loops head (round_steps hosts) (Err why) between new → Loops head (rounds_steps hosts count) (Err why) old new
-rounds-stop head hosts number count some why old between new below first second =
-    cut head (rounds_steps hosts (suc number)) (rounds_steps hosts count) why old new
-    (grows (λ n. rounds_steps hosts n) (λ n. round_steps hosts) (λ n. refl) (suc number) count below)
-    (then head (rounds_steps hosts number) (round_steps hosts) some (Err why) old between new first second)
+pub steps-whole : {K : Type 0} (head : Head) (steps : List Step) (place : ℕ) (ended : Result Bool Halt) (old new : Loop K) → length steps ≤ place → Loops head (take place steps) ended old new → Loops head steps ended old new
+steps-whole head steps place ended old new past loops = rw (take_all place steps past) at loops
 
 -- ---- what is kept
 
 counts-on : (ended : Result Bool Halt) (first second last : ℕ) → second ≡ first → CountsKeep ended second last → CountsKeep ended first last
 counts-on ended first second last is counts = subst (λ n. CountsKeep ended n last) is counts
 
-counts-behind : (moved : Bool) (ended : Result Bool Halt) (before now : ℕ) → CountsKeep ended before now → CountsKeep (behind moved ended) before now
-counts-behind moved (Ok more) before now counts = counts
-counts-behind moved (Err why) before now counts = counts
-
 pub keeps-then : (one : Bool) (ended : Result Bool Halt) (f0 f1 f2 c0 c1 c2 h0 h1 h2 : ℕ) → Keeps (Ok one) f0 f1 c0 c1 h0 h1 → Keeps ended f1 f2 c1 c2 h1 h2 → Keeps ended f0 f2 c0 c2 h0 h2
 keeps-then one ended f0 f1 f2 c0 c1 c2 h0 h1 h2 first second = record {
   faults = counts-on ended f0 f1 f2 first.faults second.faults;
-  clients_are = second.clients_are ∙ first.clients_are;
-  hosts_are = second.hosts_are ∙ first.hosts_are;
-}
-
-pub keeps-behind : (one : Bool) (ended : Result Bool Halt) (f0 f1 f2 c0 c1 c2 h0 h1 h2 : ℕ) → Keeps (Ok one) f0 f1 c0 c1 h0 h1 → Keeps ended f1 f2 c1 c2 h1 h2 → Keeps (behind one ended) f0 f2 c0 c2 h0 h2
-keeps-behind one ended f0 f1 f2 c0 c1 c2 h0 h1 h2 first second = record {
-  faults = counts-behind one ended f0 f2 (counts-on ended f0 f1 f2 first.faults second.faults);
   clients_are = second.clients_are ∙ first.clients_are;
   hosts_are = second.hosts_are ∙ first.hosts_are;
 }

@@ -1,6 +1,6 @@
 -- The loop over a world as contracts see it. Below, `before` and `now` are the keeper's counts of faults.
 use Rattle.std.specs.List.{AllByRecursion}
-use Rattle.std.specs.Prelude.{◌≡◌, ◌<◌, ◌^◌, ℕ, Bool, List, [], ◌∷◌, Option, Result, Ok, Err, map, reverse}
+use Rattle.std.specs.Prelude.{◌≡◌, ◌<◌, ◌≤◌, ◌+◌, ◌^◌, ℕ, Bool, List, [], ◌∷◌, Option, Result, Ok, Err, map, reverse}
 use Rattle.nq_hosts.specs.Clocks.{ClockTold}
 use Rattle.nq_base.specs.Block.{filled}
 use Rattle.nq_base.specs.declared.Call.{Call}
@@ -43,6 +43,12 @@ loop_of content sent waiting faults receives world state ran links = record {
 -- its moment
 abbrev pub moment_of : {K : Type 0} → Loop K → Moment
 moment_of l = record { events = reverse l.ran; links = l.links }
+
+-- as many clients as hosts, which are at most 64, and a link for each of them and one for the server
+pub record AreThere (clients hosts links : ℕ) : Type 0 where
+  pub clients_are : clients ≡ hosts
+  pub few : hosts ≤ 64
+  pub links_are : links ≡ hosts + 1
 
 -- a call of a loop: it reads, synchronizes, or writes the block of a number
 abbrev pub IsLoopCall : Call → Type 0

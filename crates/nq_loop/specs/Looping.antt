@@ -1,6 +1,6 @@
 -- A turn of the loop, step by step, as it is told: by the events that were taken in, and by what the links tell. The events of a run are
 -- told with the newest first.
-use Rattle.std.specs.Prelude.{◌≡◌, ◌⊎◌, ℕ, ◌+◌, ◌-◌, ◌%◌, ◌≤◌, Bool, true, false, List, [], ◌∷◌, ◌++◌, Option, Some, None, Result, Ok, Err, is_some, drop, length, map, min, option_map, slice_get, slice_set, take, zero, suc, if◌then◌else◌}
+use Rattle.std.specs.Prelude.{◌≡◌, ◌⊎◌, ℕ, ◌+◌, ◌-◌, ◌*◌, ◌/◌, ◌%◌, ◌==◌, ◌<◌, ◌≤◌, Bool, true, false, List, [], ◌∷◌, ◌++◌, Option, Some, None, Result, Ok, Err, is_some, drop, length, map, min, nat_lt, option_map, slice_get, slice_set, take, zero, suc, if◌then◌else◌}
 use Rattle.nq_base.specs.Block.{filled}
 use Rattle.nq_base.specs.declared.Call.{Call}
 use Rattle.nq_base.specs.declared.Event.{Event}
@@ -161,11 +161,19 @@ pub data Step : Type 0 where
   call : (host : ℕ) → Step
   receive : Party → Step
 
--- the step of a host by what each host does
-abbrev pub step_of : Deed → (host : ℕ) → Step
-step_of Deed.Tick host = given (Event.ClientTick host)
-step_of Deed.Call host = call host
-step_of Deed.Receive host = receive (Party.Client host)
+-- the step by what is done in it
+abbrev pub step_of : Deed → Step
+step_of (Deed.Tick host) = given (Event.ClientTick host)
+step_of Deed.ServerTick = given Event.ServerTick
+step_of (Deed.Call host) = call host
+step_of (Deed.Receive party) = receive party
+
+-- it is done by one of so many hosts, or by the server
+abbrev pub IsAmong : (hosts : ℕ) → Deed → Type 0
+IsAmong hosts (Deed.Tick host) = host < hosts
+IsAmong hosts Deed.ServerTick = Unit {0}
+IsAmong hosts (Deed.Call host) = host < hosts
+IsAmong hosts (Deed.Receive party) = place_of party < hosts + 1
 
 -- a step was made, and ended with whether it moved anything, or with why the turn stops
 abbrev pub Makes : Head → Step → Result Bool Halt → (at after : Moment) → Type 0
@@ -199,6 +207,23 @@ rounds_due time reading = min (reading - time) 60
 -- the steps of a turn
 abbrev pub turn_steps : (hosts rounds : ℕ) → List Step
 turn_steps hosts rounds = rounds_steps hosts rounds ++ (call_steps hosts ++ receive_steps hosts)
+
+-- how many these are
+abbrev pub step_count : (hosts rounds : ℕ) → ℕ
+step_count hosts rounds = rounds * (hosts + 1) + (2 * hosts + 1)
+
+-- what is done at a place of a row of them: a row is a round, or the calls and the server's receive, or the receives of the hosts
+abbrev pub deed_in : (hosts rounds row host : ℕ) → Deed
+deed_in hosts rounds row host =
+    if nat_lt row rounds
+    then (if nat_lt host hosts then Deed.Tick host else Deed.ServerTick)
+    else (if row == rounds
+    then (if nat_lt host hosts then Deed.Call host else Deed.Receive Party.Server)
+    else Deed.Receive (Party.Client host))
+
+-- what is done at a place of a turn
+abbrev pub deed_at : (hosts rounds place : ℕ) → Deed
+deed_at hosts rounds place = deed_in hosts rounds (place / (hosts + 1)) (place % (hosts + 1))
 
 -- the answer of a turn that ended so
 abbrev pub turn_of : Result Bool Halt → LoopTurn

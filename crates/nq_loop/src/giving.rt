@@ -1,6 +1,6 @@
 //! Giving events to the world of a loop.
 
-ghost use Rattle.std.specs.Prelude.{◌≡◌, ◌<◌, ◌≤◌, ◌-◌, ◌++◌, ◌∷◌, [], ℕ, List, length, take, Ok, OnErr, OnOk};
+ghost use Rattle.std.specs.Prelude.{◌≡◌, ◌≤◌, ◌++◌, ◌∷◌, [], List, length, OnErr, OnOk};
 ghost use Rattle.nq_base.specs.declared.Event.{Event};
 ghost use Rattle.nq_loop.specs.Holding.{GivesTo, IsLooped, IsLooping, Keeps, loop_of};
 ghost use Rattle.nq_loop.specs.Looping.{halt_of, moved};
@@ -18,8 +18,8 @@ use nq_script::Schedule;
 use nq_world::{Stepped, World};
 use std::alloc::Global;
 
-/// Gives an event to the world, and sends what it sends. It stands at the end of `ran` if the world took it in. It always moves
-/// something, if it does not stop.
+/// Gives an event to the world, and sends what it sends. It is kept at the end of `ran`, and dropped where the world does not take it in.
+/// It always moves something, if it does not stop.
 pub(crate) fn give<K: Keeper, L: Link>(
     alloc: Global,
     world: &mut World<K>,
@@ -40,7 +40,16 @@ pub(crate) fn give<K: Keeper, L: Link>(
 {
     let sent = world.packets().len();
     match keep(state, ran, sent as usize, event) {
-        Ok(()) => give_last(alloc, world, links, state, ran, event, sent),
+        Ok(()) => match world.step(event) {
+            Stepped::Done => {
+                state.note(event);
+                moved(send_from(alloc, world.packets(), links, sent))
+            }
+            refused => {
+                ran.drop_last();
+                Err(halt_of(refused))
+            }
+        },
         Err(_) => Err(Halt::Memory),
     }
 }
@@ -61,42 +70,6 @@ fn keep(
 {
     state.reach(sent)?;
     ran.push_filled(event)
-}
-
-/// Gives the event at the end of `ran` to the world, where so many packets were sent. Where the world does not take it in, it is dropped
-/// from `ran`.
-fn give_last<K: Keeper, L: Link>(
-    alloc: Global,
-    world: &mut World<K>,
-    links: &mut [L],
-    state: &mut LoopState,
-    ran: &mut Schedule,
-    event: &Event,
-    sent: u64,
-) -> Result<bool, Halt>
-    requires hosts { length world.old.clients ≡ length state.old.begun }
-    requires looped { IsLooped (length state.old.begun) event.now }
-    requires sent { sent ≡ length world.old.datagrams }
-    requires flags { sent ≤ length state.old.flags }
-    ensures gives { (head : Head) (earlier : List Event) → head.hosts ≡ length state.old.begun
-        → ran.old ≡ earlier ++ event.now ∷ []
-        → IsLooping head (loop_of K.content L.sent L.waiting L.faults L.receives world.old state.old earlier links.old)
-        → GivesTo head event.now result (loop_of K.content L.sent L.waiting L.faults L.receives world.old state.old earlier links.old)
-        (loop_of K.content L.sent L.waiting L.faults L.receives world.new state.new ran.new links.new) }
-    ensures keeps { Keeps result (K.faults world.old.server.keeper) (K.faults world.new.server.keeper)
-        (length world.old.clients) (length world.new.clients) (length state.old.begun) (length state.new.begun) }
-    ensures follows { K.follows world.old.server.keeper world.new.server.keeper }
-{
-    match world.step(event) {
-        Stepped::Done => {
-            state.note(event);
-            moved(send_from(alloc, world.packets(), links, sent))
-        }
-        refused => {
-            ran.drop_last();
-            Err(halt_of(refused))
-        }
-    }
 }
 
 /// What an event that was taken in answers, by how sending ended.

@@ -12,7 +12,7 @@ use nq_net::{Packet, Packets};
 use std::alloc::Global;
 
 /// A datagram that came to a party.
-#[derive(Clone, Copy)]
+#[derive(Drop)]
 pub(crate) struct Letter<'a> {
     pub(crate) sender: Party,
     pub(crate) to: Party,

@@ -1,20 +1,17 @@
 //! Receiving over the links.
 
-ghost use Rattle.std.specs.Prelude.{◌≡◌, ◌<◌, ◌≤◌, ◌+◌, ◌∷◌, [], ℕ, length, map};
-ghost use Rattle.nq_base.specs.declared.Party.{Party};
+ghost use Rattle.std.specs.Prelude.{◌≡◌, ◌<◌, ◌∷◌, [], length, map};
 ghost use Rattle.nq_loop.specs.Holding.{IsLooping, Keeps, Loops, TakesFrom, loop_of};
-ghost use Rattle.nq_loop.specs.Looping.{Brings, Step, receive_steps};
+ghost use Rattle.nq_loop.specs.Looping.{Brings, Step};
 ghost use Rattle.nq_loop.specs.Sending.{place_of, told_of};
 ghost use Rattle.nq_model.specs.World.{Head};
 ghost use Rattle.nq_hosts.specs.Links.{most_bytes};
 
-use crate::deeds::each_host;
 use crate::giving::give;
 use crate::matching::{Letter, packet_of};
-use crate::rounds::behind;
 use crate::sending::place_of;
 use crate::state::LoopState;
-use crate::turns::{Deed, Halt};
+use crate::turns::Halt;
 use nq_base::{Event, Party};
 use nq_keeper::Keeper;
 use nq_link::{Came, Link};
@@ -24,34 +21,6 @@ use std::alloc::Global;
 
 /// The most bytes of a datagram that a turn looks at: one more than the longest of the protocol has.
 const MOST_BYTES: usize = 4401;
-
-/// Receives once on the server's link, and then once on each host's, in order of the hosts; answers whether a datagram came.
-pub(crate) fn receive_each<K: Keeper, L: Link>(
-    alloc: Global,
-    world: &mut World<K>,
-    links: &mut [L],
-    state: &mut LoopState,
-    ran: &mut Schedule,
-) -> Result<bool, Halt>
-    requires hosts { length world.old.clients ≡ length state.old.begun }
-    requires few { length state.old.begun ≤ 64 }
-    requires links { length links.old ≡ length state.old.begun + 1 }
-    ensures loops { (head : Head) → head.hosts ≡ length state.old.begun
-        → IsLooping head (loop_of K.content L.sent L.waiting L.faults L.receives world.old state.old ran.old links.old)
-        → Loops head (receive_steps head.hosts) result (loop_of K.content L.sent L.waiting L.faults L.receives world.old state.old ran.old links.old)
-        (loop_of K.content L.sent L.waiting L.faults L.receives world.new state.new ran.new links.new) }
-    ensures keeps { Keeps result (K.faults world.old.server.keeper) (K.faults world.new.server.keeper)
-        (length world.old.clients) (length world.new.clients) (length state.old.begun) (length state.new.begun) }
-    ensures follows { K.follows world.old.server.keeper world.new.server.keeper }
-{
-    match receive(alloc, world, links, state, ran, Party::Server) {
-        Ok(came) => behind(
-            came,
-            each_host(alloc, world, links, state, ran, Deed::Receive),
-        ),
-        Err(why) => Err(why),
-    }
-}
 
 /// Receives once on a party's link, and takes in the datagram that came; answers whether one came.
 #[tactic(auto, unfolding(nq_hosts::specs::Links::most_bytes))]
@@ -74,38 +43,14 @@ pub(crate) fn receive<K: Keeper, L: Link>(
     ensures follows { K.follows world.old.server.keeper world.new.server.keeper }
 {
     let mut buffer = [0; MOST_BYTES];
-    receive_through(alloc, world, links, state, ran, &party, &mut buffer)
-}
-
-/// Receives once on a party's link into a buffer, and takes in the datagram that came; answers whether one came.
-fn receive_through<K: Keeper, L: Link>(
-    alloc: Global,
-    world: &mut World<K>,
-    links: &mut [L],
-    state: &mut LoopState,
-    ran: &mut Schedule,
-    party: &Party,
-    buffer: &mut [u8],
-) -> Result<bool, Halt>
-    requires hosts { length world.old.clients ≡ length state.old.begun }
-    requires there { place_of party.now < length links.old }
-    requires buffer { length buffer.old ≡ most_bytes }
-    ensures loops { (head : Head) → head.hosts ≡ length state.old.begun
-        → IsLooping head (loop_of K.content L.sent L.waiting L.faults L.receives world.old state.old ran.old links.old)
-        → Loops head (Step.receive party.now ∷ []) result (loop_of K.content L.sent L.waiting L.faults L.receives world.old state.old ran.old links.old)
-        (loop_of K.content L.sent L.waiting L.faults L.receives world.new state.new ran.new links.new) }
-    ensures keeps { Keeps result (K.faults world.old.server.keeper) (K.faults world.new.server.keeper)
-        (length world.old.clients) (length world.new.clients) (length state.old.begun) (length state.new.begun) }
-    ensures follows { K.follows world.old.server.keeper world.new.server.keeper }
-{
-    let place = place_of(party);
-    match bring(links, place, buffer) {
+    let place = place_of(&party);
+    match bring(links, place, &mut buffer) {
         Came::Nothing => Ok(false),
         Came::Failed => Err(Halt::Link),
         Came::Datagram { length, sender } => {
             let letter = Letter {
                 sender,
-                to: *party,
+                to: party,
                 bytes: &buffer[..length],
             };
             take_in(alloc, world, links, state, ran, &letter)

@@ -1,10 +1,10 @@
 //! Turns of a loop, one after another.
 
-ghost use Rattle.std.specs.Prelude.{◌≡◌, ◌≤◌, ◌<◌, ◌+◌, ◌&&◌, ℕ, List, length, slice_get};
+ghost use Rattle.std.specs.Prelude.{◌≡◌, ◌<◌, ◌&&◌, ℕ, List, length, slice_get};
 ghost use Rattle.nq_hosts.specs.Clocks.{clock_told};
 ghost use Rattle.nq_base.specs.declared.Event.{Event};
 ghost use Rattle.nq_loop.specs.Counting.{Counts};
-ghost use Rattle.nq_loop.specs.Holding.{CountsTurn, IsLooping, StandsBehind, loop_of, moment_of};
+ghost use Rattle.nq_loop.specs.Holding.{AreThere, CountsTurn, IsLooping, StandsBehind, loop_of, moment_of};
 ghost use Rattle.nq_loop.specs.Turning.{TakesTurns, all_answered, is_over, is_through, went_on};
 ghost use Rattle.nq_model.specs.World.{Head};
 ghost use Rattle.nq_world.specs.Playing.{Plays};
@@ -32,9 +32,7 @@ pub(crate) fn take_turns<P: Keeper, L: Link, C: Clock>(
     ran: &mut Schedule,
     turns: u32,
 ) -> LoopTurn
-    requires hosts { length world.old.clients ≡ length state.old.begun }
-    requires few { length state.old.begun ≤ 64 }
-    requires links { length links.old ≡ length state.old.begun + 1 }
+    requires { AreThere (length world.old.clients) (length state.old.begun) (length links.old) }
     ensures turns { (head : Head) → head.hosts ≡ length state.old.begun
         → IsLooping head (loop_of P.content L.sent L.waiting L.faults L.receives world.old state.old ran.old links.old)
         → TakesTurns head turns result

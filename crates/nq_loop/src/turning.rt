@@ -1,16 +1,14 @@
 //! Turns of a loop.
 
-ghost use Rattle.std.specs.Prelude.{◌≡◌, ◌<◌, ◌≤◌, ◌+◌, ◌-◌, ◌++◌, ℕ, length, min};
+ghost use Rattle.std.specs.Prelude.{◌≡◌, length};
 ghost use Rattle.nq_hosts.specs.Clocks.{clock_told};
-ghost use Rattle.nq_loop.specs.Holding.{IsLooping, Keeps, KeepsTurn, Loops, Turns, loop_of};
-ghost use Rattle.nq_loop.specs.Looping.{call_steps, receive_steps, rounds_due, turn_of, turn_steps};
+ghost use Rattle.nq_loop.specs.Holding.{AreThere, IsLooping, KeepsTurn, Turns, loop_of};
+ghost use Rattle.nq_loop.specs.Looping.{rounds_due, turn_of};
 ghost use Rattle.nq_model.specs.World.{Head};
 
-use crate::deeds::each_host;
-use crate::receiving::receive_each;
-use crate::rounds::{behind, give_rounds};
+use crate::deeds::take_steps;
 use crate::state::LoopState;
-use crate::turns::{Deed, Halt, LoopTurn};
+use crate::turns::{Halt, LoopTurn};
 use nq_base::Ticks;
 use nq_clock::Clock;
 use nq_keeper::Keeper;
@@ -40,9 +38,7 @@ pub fn loop_turn<K: Keeper, L: Link, C: Clock>(
     state: &mut LoopState,
     ran: &mut Schedule,
 ) -> LoopTurn
-    requires hosts { length world.old.clients ≡ length state.old.begun }
-    requires few { length state.old.begun ≤ 64 }
-    requires links { length links.old ≡ length state.old.begun + 1 }
+    requires { AreThere (length world.old.clients) (length state.old.begun) (length links.old) }
     ensures turn { (head : Head) → head.hosts ≡ length state.old.begun
         → IsLooping head (loop_of K.content L.sent L.waiting L.faults L.receives world.old state.old ran.old links.old)
         → Turns head result (clock_told C.floor C.readings clock.old) (clock_told C.floor C.readings clock.new) (loop_of K.content L.sent L.waiting L.faults L.receives world.old state.old ran.old links.old)
@@ -53,7 +49,7 @@ pub fn loop_turn<K: Keeper, L: Link, C: Clock>(
 {
     let reading = clock.now();
     let rounds = rounds_due(world.server_time(), reading);
-    answered(take_turn(alloc, world, links, state, ran, rounds))
+    answered(take_steps(alloc, world, links, state, ran, rounds))
 }
 
 /// The rounds that are due where the server's clock shows this time.
@@ -61,58 +57,6 @@ fn rounds_due(time: Ticks, reading: Ticks) -> u64
     ensures { result ≡ rounds_due time reading }
 {
     reading.0.saturating_sub(time.0).min(MOST_ROUNDS)
-}
-
-/// Makes the steps of a turn; answers whether one of them moved anything.
-fn take_turn<K: Keeper, L: Link>(
-    alloc: Global,
-    world: &mut World<K>,
-    links: &mut [L],
-    state: &mut LoopState,
-    ran: &mut Schedule,
-    rounds: u64,
-) -> Result<bool, Halt>
-    requires hosts { length world.old.clients ≡ length state.old.begun }
-    requires few { length state.old.begun ≤ 64 }
-    requires links { length links.old ≡ length state.old.begun + 1 }
-    ensures loops { (head : Head) → head.hosts ≡ length state.old.begun
-        → IsLooping head (loop_of K.content L.sent L.waiting L.faults L.receives world.old state.old ran.old links.old)
-        → Loops head (turn_steps head.hosts rounds) result (loop_of K.content L.sent L.waiting L.faults L.receives world.old state.old ran.old links.old)
-        (loop_of K.content L.sent L.waiting L.faults L.receives world.new state.new ran.new links.new) }
-    ensures keeps { Keeps result (K.faults world.old.server.keeper) (K.faults world.new.server.keeper)
-        (length world.old.clients) (length world.new.clients) (length state.old.begun) (length state.new.begun) }
-    ensures follows { K.follows world.old.server.keeper world.new.server.keeper }
-{
-    match give_rounds(alloc, world, links, state, ran, rounds) {
-        Ok(ticked) => behind(ticked, call_and_receive(alloc, world, links, state, ran)),
-        Err(why) => Err(why),
-    }
-}
-
-/// Begins calls, and receives.
-fn call_and_receive<K: Keeper, L: Link>(
-    alloc: Global,
-    world: &mut World<K>,
-    links: &mut [L],
-    state: &mut LoopState,
-    ran: &mut Schedule,
-) -> Result<bool, Halt>
-    requires hosts { length world.old.clients ≡ length state.old.begun }
-    requires few { length state.old.begun ≤ 64 }
-    requires links { length links.old ≡ length state.old.begun + 1 }
-    ensures loops { (head : Head) → head.hosts ≡ length state.old.begun
-        → IsLooping head (loop_of K.content L.sent L.waiting L.faults L.receives world.old state.old ran.old links.old)
-        → Loops head (call_steps head.hosts ++ receive_steps head.hosts) result
-        (loop_of K.content L.sent L.waiting L.faults L.receives world.old state.old ran.old links.old)
-        (loop_of K.content L.sent L.waiting L.faults L.receives world.new state.new ran.new links.new) }
-    ensures keeps { Keeps result (K.faults world.old.server.keeper) (K.faults world.new.server.keeper)
-        (length world.old.clients) (length world.new.clients) (length state.old.begun) (length state.new.begun) }
-    ensures follows { K.follows world.old.server.keeper world.new.server.keeper }
-{
-    match each_host(alloc, world, links, state, ran, Deed::Call) {
-        Ok(called) => behind(called, receive_each(alloc, world, links, state, ran)),
-        Err(why) => Err(why),
-    }
 }
 
 /// The answer of a turn that ended so.

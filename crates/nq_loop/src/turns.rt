@@ -1,10 +1,10 @@
 //! What turns of a loop answer.
 
-use nq_base::NoMemory;
+use nq_base::{NoMemory, Party};
 use nq_world::Limit;
 
 /// What came of a turn of a loop.
-#[derive(Clone, Copy)]
+#[derive(Drop)]
 pub enum LoopTurn {
     /// A round was given, a call began, or a datagram came.
     Took,
@@ -21,7 +21,7 @@ pub enum LoopTurn {
 }
 
 /// Why a turn of a loop stops.
-#[derive(Clone, Copy)]
+#[derive(Drop)]
 pub(crate) enum Halt {
     /// A link failed.
     Link,
@@ -44,13 +44,15 @@ impl From<NoMemory> for Halt {
     }
 }
 
-/// What each host does in its turn.
-#[derive(Clone, Copy)]
+/// A step of a turn.
+#[derive(Drop)]
 pub(crate) enum Deed {
-    /// Its clock ticks.
-    Tick,
-    /// Its next call begins, if it has one left and none under way.
-    Call,
-    /// It receives once on its link.
-    Receive,
+    /// The clock of this host ticks.
+    Tick(u32),
+    /// The server's clock ticks.
+    ServerTick,
+    /// The next call of this host begins, if it has one left and none under way.
+    Call(u32),
+    /// This party receives once on its link.
+    Receive(Party),
 }

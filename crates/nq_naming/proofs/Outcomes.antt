@@ -8,7 +8,7 @@ use Rattle.nq_replay.specs.AsidesPlaying.{Ended, ran, stopped}
 use Rattle.nq_naming.specs.Playing.{Moment, play}
 use Rattle.nq_replay.specs.declared.play.played.Played.{Played}
 use Rattle.nq_replay.specs.Ending.{IsUnlessFault}
-use Rattle.nq_naming.specs.Running.{EndsNamesPlayed, EndsNamesText, FaultyNames, PassesNames, RunsNames, StopsNames}
+use Rattle.nq_naming.specs.Running.{EndsNamesPlayed, EndsNamesText, FaultyNames, PassesNames, RunsNames, StopsNames, TellsText}
 use Rattle.nq_replay.specs.Schedules.{TellsStop}
 use Rattle.nq_replay.specs.declared.Bound.{Bound}
 use Rattle.nq_script.specs.Faults.{Names}
@@ -157,6 +157,16 @@ pub passes_none : (text : List ℕ) (number : ℕ) (bound : Bound) → ((h : Hea
 passes_none text number Bound.Bytes none passes = passes
 passes_none text number Bound.Events none passes = none passes.head passes.lines passes.spelled
 passes_none text number Bound.Packets none passes = none passes.head passes.lines passes.spelled
+
+-- where memory was wanting to read it
+pub lacks_text : (text : List ℕ) (held : Option (List ℕ)) (w : ℕ) → TellsText Ending.Memory text held held w w
+lacks_text text held w = record {
+  ends = inl refl;
+  script = λ number faulty. inr tt;
+  skew = λ number broken breaks. inr tt;
+  passes = λ number bound passes. inr tt;
+  done = λ head m runs. inr tt;
+}
 
 -- ---- what was played
 

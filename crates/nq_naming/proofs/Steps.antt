@@ -30,7 +30,7 @@ faults-on : (said : Stepped) (first second last : ℕ) → second ≡ first → 
 faults-on said first second last is counts = subst (λ n. CountsFaults said n last) is counts
 
 -- what a world keeps over two steps
-settings-on : {K : Type 0} (hosts longest term : ℕ) (old new : WorldOver K) → HasSettings hosts longest term old
+pub settings-on : {K : Type 0} (hosts longest term : ℕ) (old new : WorldOver K) → HasSettings hosts longest term old
     → HasSettings (length old.clients) old.skew.window old.term new → HasSettings hosts longest term new
 settings-on hosts longest term old new first second = record {
   hosts_are = second.hosts_are ∙ first.hosts_are;

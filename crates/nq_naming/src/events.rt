@@ -93,20 +93,7 @@ fn tick_hosts<K: Keeper>(world: &mut NameWorld<K>, delivered: &mut Delivered, ho
     Stepped::Done
 }
 
-/// The clock of each host ticks, then the server's.
-fn round<K: Keeper>(world: &mut NameWorld<K>, delivered: &mut Delivered, hosts: u32) -> Stepped
-    requires { hosts ≤ length world.old.inner.clients }
-    ensures goes { (head : Head) (events : List NameEvent) → head.hosts ≡ hosts → IsAt head events world.old (K.content world.old.inner.server.keeper) delivered.old
-        → Goes result (play_round head events) (λ es. IsAt head es world.new (K.content world.new.inner.server.keeper) delivered.new) }
-    ensures keeps { GoesOn K.faults K.follows result world.old.inner world.new.inner }
-{
-    match tick_hosts(world, delivered, hosts) {
-        Stepped::Done => take(world, delivered, &NameEvent::Plain(Event::ServerTick)),
-        other => other,
-    }
-}
-
-/// So many rounds.
+/// So many rounds: the clock of each host ticks, then the server's.
 pub(crate) fn rounds<K: Keeper>(
     world: &mut NameWorld<K>,
     delivered: &mut Delivered,
@@ -119,7 +106,12 @@ pub(crate) fn rounds<K: Keeper>(
     ensures keeps { GoesOn K.faults K.follows result world.old.inner world.new.inner }
 {
     for turn in 0..times {
-        match round(world, delivered, hosts) {
+        match tick_hosts(world, delivered, hosts) {
+            Stepped::Done => {}
+            other => return other,
+        }
+        let tick = NameEvent::Plain(Event::ServerTick);
+        match take(world, delivered, &tick) {
             Stepped::Done => {}
             other => return other,
         }

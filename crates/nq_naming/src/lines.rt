@@ -1,19 +1,23 @@
 //! Lines of a schedule with lists, one after another.
 
 ghost use Rattle.std.specs.Prelude.{◌≡◌, ◌≤◌, ◌+◌, ◌^◌, ◌<◌, ℕ, Bool, List, [], Option, length, slice_get, Some, OnOk};
-ghost use Rattle.nq_replay.specs.Text.{HoldsOfAsides, beside, mixed};
+ghost use Rattle.nq_replay.specs.Text.{HoldsOfAsides, IsReadyMixed, beside, mixed};
 ghost use Rattle.nq_names.specs.Playing.{PlaysOutside};
 ghost use Rattle.nq_model.specs.World.{Head};
-ghost use Rattle.nq_replay.specs.Going.{AreForWorld, IsForWorld, said};
+ghost use Rattle.nq_model.specs.Stepped.{most_events};
+ghost use Rattle.nq_replay.specs.Beginning.{NeverFails};
+ghost use Rattle.nq_replay.specs.Going.{AreForWorld, IsForWorld};
+ghost use Rattle.nq_replay.specs.Playing.{beginning};
+ghost use Rattle.nq_replay.specs.Schedules.{HasReason};
 ghost use Rattle.nq_replay.specs.declared.play.played.Played.{Played};
 ghost use Rattle.nq_script.specs.declared.lines.Line.{Line};
 ghost use Rattle.nq_model.specs.Kept.{Kept};
 ghost use Rattle.nq_replay.specs.AsidesGoing.{Comes, Goes};
 ghost use Rattle.nq_naming.specs.Going.{IsAt, IsAtEnd, IsAtMoment};
-ghost use Rattle.nq_naming.specs.Playing.{Moment, first_moment, play_line, play_lines, play_plain, with_find};
+ghost use Rattle.nq_naming.specs.Playing.{Moment, play, play_line, play_plain, with_find};
 ghost use Rattle.nq_naming.specs.Text.{IsOfHost, NamesLine};
 ghost use Rattle.nq_name_server.specs.declared.run.event.NameEvent.{NameEvent};
-ghost use Rattle.nq_world.specs.Playing.{CountsFaults, GoesOn};
+ghost use Rattle.nq_world.specs.Playing.{GoesOn, HasSettings};
 
 use crate::events::{deliver, flow, rounds, take, take_times};
 use crate::printing::push_find;
@@ -54,29 +58,6 @@ fn play_plain<K: Keeper>(
     }
 }
 
-/// Plays the line of a schedule at a place, of which a second one is made.
-fn play_second<K: Keeper>(
-    world: &mut NameWorld<K>,
-    delivered: &mut Delivered,
-    hosts: u32,
-    most: u32,
-    lines: &Lines,
-    place: usize,
-) -> Stepped
-    requires hosts { hosts ≤ length world.old.inner.clients }
-    requires can { AreForWorld (length world.old.inner.clients) world.old.inner.skew.window lines.now }
-    requires below { place < length lines.now }
-    ensures goes { (line : Line) → slice_get lines.now place ≡ Some line → (head : Head) (events : List NameEvent) → head.hosts ≡ hosts
-        → IsAt head events world.old (K.content world.old.inner.server.keeper) delivered.old
-        → Goes result (play_plain head most line events) (λ es. IsAt head es world.new (K.content world.new.inner.server.keeper) delivered.new) }
-    ensures keeps { GoesOn K.faults K.follows result world.old.inner world.new.inner }
-{
-    match lines.get(place) {
-        Some(line) => play_plain(world, delivered, hosts, most, line),
-        None => unreachable!(),
-    }
-}
-
 /// Plays the line of a schedule at a place. A delivery, which most lines are, makes no second line.
 fn play_plain_at<K: Keeper>(
     world: &mut NameWorld<K>,
@@ -96,7 +77,10 @@ fn play_plain_at<K: Keeper>(
 {
     match lines.packet_at(place) {
         Some(packet) => deliver(world, delivered, packet),
-        None => play_second(world, delivered, hosts, most, lines, place),
+        None => match lines.get(place) {
+            Some(line) => play_plain(world, delivered, hosts, most, line),
+            None => unreachable!(),
+        },
     }
 }
 
@@ -173,8 +157,8 @@ fn stopped(first: u32, place: usize, answer: Stepped) -> Played
     }
 }
 
-/// Plays lines over a world of so many hosts, in which nothing was played before, and appends what was found. A flow may have so many
-/// deliveries.
+/// Plays a schedule with lists over a world in which nothing was played before, and appends what was found. A flow may have so many
+/// deliveries, one more than there may be events.
 pub(crate) fn play<K: Keeper>(
     alloc: Global,
     world: &mut NameWorld<K>,
@@ -182,17 +166,15 @@ pub(crate) fn play<K: Keeper>(
     most: u32,
     script: &MixedScript<Aside>,
 ) -> Played
-    requires hosts { script.now.script.head.hosts ≤ length world.old.inner.clients }
-    requires asides { HoldsOfAsides (IsOfHost (length world.old.inner.clients)) script.now.asides.items }
-    requires can { AreForWorld (length world.old.inner.clients) world.old.inner.skew.window script.now.script.lines }
-    requires few { script.now.script.first + length script.now.script.lines < 2 ^ 32 }
+    requires ready { IsReadyMixed IsOfHost script.now.script script.now.asides.items }
+    requires settings { HasSettings script.now.script.head.hosts script.now.script.head.longest script.now.script.head.term world.old.inner }
+    requires never { NeverFails K.faults K.follows world.old.inner.server.keeper }
     requires none { found.old.items ≡ [] }
-    ensures comes { (head : Head) → head.hosts ≡ script.now.script.head.hosts → PlaysOutside head [] world.old (K.content world.old.inner.server.keeper)
-        → Comes result (play_lines head most script.now.script.first (mixed script.now.asides.items script.now.script.lines) first_moment)
-        (λ m. IsAtEnd head m world.new (K.content world.new.inner.server.keeper) found.new.items) }
-    ensures stops { said result ≡ Stepped.Done → result ≡ Played.All }
-    ensures faults { CountsFaults (said result) (K.faults world.old.inner.server.keeper) (K.faults world.new.inner.server.keeper) }
-    ensures follows { K.follows world.old.inner.server.keeper world.new.inner.server.keeper }
+    requires most { most ≡ most_events + 1 }
+    ensures comes { PlaysOutside (beginning script.now.script.head) [] world.old (K.content world.old.inner.server.keeper)
+        → Comes result (play script.now.script.head (mixed script.now.asides.items script.now.script.lines))
+        (λ m. IsAtEnd (beginning script.now.script.head) m world.new (K.content world.new.inner.server.keeper) found.new.items) }
+    ensures reason { HasReason result }
 {
     let hosts = script.script.head.hosts;
     let first = script.script.first;

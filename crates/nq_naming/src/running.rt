@@ -1,6 +1,6 @@
 //! Running a schedule with lists.
 
-ghost use Rattle.std.specs.Prelude.{◌≡◌, ◌⊎◌, ◌<◌, ◌≤◌, ◌^◌, ℕ, List, [], Some, length, IfOk};
+ghost use Rattle.std.specs.Prelude.{◌≡◌, ◌<◌, ◌≤◌, ◌^◌, ℕ, List, [], Some, length, IfOk};
 ghost use Rattle.nq_base.specs.declared.SkewBroken.{SkewBroken};
 ghost use Rattle.nq_replay.specs.Text.{IsReadyMixed, mixed};
 ghost use Rattle.nq_names.specs.Playing.{PlaysOutside};
@@ -19,7 +19,7 @@ ghost use Rattle.nq_replay.specs.AsidesGoing.{Comes};
 ghost use Rattle.nq_naming.specs.Going.{IsAtEnd};
 ghost use Rattle.nq_replay.specs.AsidesPlaying.{Ended};
 ghost use Rattle.nq_naming.specs.Playing.{Moment, play};
-ghost use Rattle.nq_naming.specs.Running.{EndsNames, EndsNamesPlayed, EndsNamesText, FaultyNames, IsTold, PassesNames, PrintsRun, RunsNames, StopsNames};
+ghost use Rattle.nq_naming.specs.Running.{EndsNames, EndsNamesPlayed, FaultyNames, IsTold, PassesNames, RunsNames, StopsNames, TellsText};
 ghost use Rattle.nq_naming.specs.Text.{IsOfHost};
 ghost use Rattle.nq_world.specs.Playing.{HasSettings};
 
@@ -89,15 +89,7 @@ pub fn run_names<S: Source, K: Sink>(
 /// Runs a schedule with lists that was read, and prints what it made or the line at which it stopped.
 fn run_text<K: Sink>(alloc: Global, text: &[u8], out: &mut K) -> Ending
     requires { length text.now < 2 ^ 31 }
-    ensures ends { EndsNamesText result text.now (K.held out.old) (K.held out.new) (K.faults out.old) (K.faults out.new) }
-    ensures script { (number : ℕ) → FaultyNames text.now number
-        → IsUnlessFault result Ending.Script 0 0 (K.faults out.old) (K.faults out.new) }
-    ensures skew { (number : ℕ) (broken : SkewBroken) → StopsNames text.now number (out_of_skew broken)
-        → IsUnlessFault result Ending.Skew 0 0 (K.faults out.old) (K.faults out.new) }
-    ensures passes { (number : ℕ) (bound : Bound) → PassesNames text.now number bound
-        → IsUnlessFault result Ending.Limit 0 0 (K.faults out.old) (K.faults out.new) }
-    ensures done { (head : Head) (m : Moment) → RunsNames text.now head m
-        → IsUnlessFault result Ending.Done 0 0 (K.faults out.old) (K.faults out.new) }
+    ensures { TellsText result text.now (K.held out.old) (K.held out.new) (K.faults out.old) (K.faults out.new) }
 {
     match read_script(alloc, text) {
         Ok(script) => run_in_memory(alloc, &script, out),
@@ -136,7 +128,7 @@ fn run_over<L: Keeper + Drop, K: Sink>(
         return Ending::Memory;
     };
     let mut found = Vec::new(alloc);
-    let played = play_over(alloc, &mut world, &mut found, script);
+    let played = play(alloc, &mut world, &mut found, MOST_EVENTS + 1, script);
     let ending = tell(alloc, &script.script.head, &world, &found, played, out);
     let _keeper = world.into_keeper();
     ending
@@ -167,28 +159,7 @@ fn begin_names<L: Keeper + Drop>(
     }
 }
 
-/// Plays a schedule with lists over a world in which nothing was played before, and appends what was found. A flow may have one delivery
-/// more than there may be events.
-fn play_over<L: Keeper>(
-    alloc: Global,
-    world: &mut NameWorld<L>,
-    found: &mut Vec<u8>,
-    script: &MixedScript<Aside>,
-) -> Played
-    requires ready { IsReadyMixed IsOfHost script.now.script script.now.asides.items }
-    requires settings { HasSettings script.now.script.head.hosts script.now.script.head.longest script.now.script.head.term world.old.inner }
-    requires never { NeverFails L.faults L.follows world.old.inner.server.keeper }
-    requires none { found.old.items ≡ [] }
-    ensures comes { PlaysOutside (beginning script.now.script.head) [] world.old (L.content world.old.inner.server.keeper)
-        → Comes result (play script.now.script.head (mixed script.now.asides.items script.now.script.lines))
-        (λ m. IsAtEnd (beginning script.now.script.head) m world.new (L.content world.new.inner.server.keeper) found.new.items) }
-    ensures reason { HasReason result }
-{
-    let most = MOST_EVENTS + 1;
-    play(alloc, world, found, most, script)
-}
-
-/// Prints what a world made whose schedule with lists was played to its end, or tells where it stopped.
+/// Prints the schedule of the inner world, its journal, and what was found, if all was played, or tells where it stopped.
 fn tell<L: Keeper, K: Sink>(
     alloc: Global,
     head: &Head,
@@ -198,35 +169,18 @@ fn tell<L: Keeper, K: Sink>(
     out: &mut K,
 ) -> Ending
     requires fits { FitsHead head.now }
-    requires version { head.now.version ≡ 2 }
     requires reason { HasReason played }
     requires told { played ≡ Played.All → IsTold head.now world.now (L.content world.now.inner.server.keeper) }
     ensures { (due : Ended Moment) → Comes played due (λ m. IsAtEnd (beginning head.now) m world.now (L.content world.now.inner.server.keeper) found.now)
         → EndsNamesPlayed result head.now due (K.held out.old) (K.held out.new) (K.faults out.old) (K.faults out.new) }
 {
     match played {
-        Played::All => print_run(alloc, head, world, found, out),
+        Played::All => {
+            let Ok(text) = schedule_text(alloc, head, world.ran()) else {
+                return Ending::Memory;
+            };
+            print_parts(alloc, &text, world.journal(), found, out)
+        }
         Played::Stopped { line, answer } => tell_stop(alloc, line, answer, out),
     }
-}
-
-/// Prints the schedule of the inner world, its journal, and what was found.
-fn print_run<L: Keeper, K: Sink>(
-    alloc: Global,
-    head: &Head,
-    world: &NameWorld<L>,
-    found: &[u8],
-    out: &mut K,
-) -> Ending
-    requires fits { FitsHead head.now }
-    requires version { head.now.version ≡ 2 }
-    requires told { IsTold head.now world.now (L.content world.now.inner.server.keeper) }
-    ensures { (m : Moment) → IsAtEnd (beginning head.now) m world.now (L.content world.now.inner.server.keeper) found.now
-        → PrintsRun result head.now m (K.held out.old) (K.held out.new) (K.faults out.old) (K.faults out.new)
-        ⊎ ((result ≡ Ending.Memory) × (K.held out.new ≡ K.held out.old)) }
-{
-    let Ok(text) = schedule_text(alloc, head, world.ran()) else {
-        return Ending::Memory;
-    };
-    print_parts(alloc, &text, world.journal(), found, out)
 }

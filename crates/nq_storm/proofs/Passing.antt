@@ -14,14 +14,14 @@ use Rattle.nq_replay.specs.Delivering.{Marks, least_undelivered, next_packet}
 use Rattle.nq_replay.specs.Going.{IsAt}
 use Rattle.nq_script.specs.Calls.{IsFilledCall}
 use Rattle.nq_script.specs.Lines.{IsFilledEvent}
-use Rattle.nq_storm.specs.Ending.{EndsAt, Gives, Halts, IsInStorm, Stands, ending_of}
+use Rattle.nq_storm.specs.Ending.{CountsFaults, EndsAt, Gives, Halts, IsInStorm, KeepsOn, Stands, ending_of}
 use Rattle.nq_storm.specs.Storming.{IsChosen, IsOffered}
 use Rattle.nq_storm.specs.declared.stormed.Stormed.{Stormed}
 use Rattle.nq_storm.specs.Rules.{Rule}
 use Rattle.nq_storm.specs.Stormy.{IsStormy, WritesNumber}
 use Rattle.nq_storm.specs.declared.fates.offers.Offer.{Offer}
 use Rattle.nq_world.proofs.Refused.{still-plays}
-use Rattle.nq_world.specs.Playing.{CanCome, HasSettings, Plays, Steps, WorldOver}
+use Rattle.nq_world.specs.Playing.{CanCome, CountsFaults as Counted, HasSettings, Plays, Steps, WorldOver}
 use Rattle.nq_world.specs.declared.stepped.Stepped.{Stepped}
 
 -- ---- what can come
@@ -102,6 +102,37 @@ pub not_given : {K : Type 0} (head : Head) (events : List Event) (event : Event)
     → Steps head events event said old new told tells → Plays head events old told → (said ≡ Stepped.Done → ⊥) → Gives ended head events event new tells flags
 not_given head events event said ended old new told tells flags is steps plays other =
     rw is (halting (ending_of said) head events event new tells flags (never_done said) (refused head events event said old new told tells steps plays other))
+
+-- ---- what the world keeps
+
+on_settings : {K : Type 0} (old new : WorldOver K) → HasSettings 4 60 30 old → HasSettings (length old.clients) old.skew.window old.term new → HasSettings 4 60 30 new
+on_settings old new first second = record {
+  hosts_are = second.hosts_are ∙ first.hosts_are;
+  longest_is = second.longest_is ∙ first.longest_is;
+  term_is = second.term_is ∙ first.term_is;
+}
+
+counts_refused : (said : Stepped) (before now : ℕ) → (said ≡ Stepped.Done → ⊥) → Counted said before now → CountsFaults (ending_of said) before now
+counts_refused Stepped.Done before now other counts = absurd (other refl)
+counts_refused Stepped.NoPacket before now other counts = counts
+counts_refused (Stepped.SkewBroken broken) before now other counts = counts
+counts_refused (Stepped.Limit limit) before now other counts = counts
+counts_refused Stepped.Fault before now other counts = counts
+counts_refused Stepped.Memory before now other counts = counts
+
+-- behind an event that was taken in
+pub keeps_taken : {K : Type 0} (faults : K → ℕ) (follows : K → K → Type 0) (old new : WorldOver K) → HasSettings 4 60 30 old
+    → faults new.server.keeper ≡ faults old.server.keeper → follows old.server.keeper new.server.keeper → HasSettings (length old.clients) old.skew.window old.term new → KeepsOn faults follows Stormed.Done old new
+keeps_taken faults follows old new here counts keeper settings = record { counts = counts; keeper = keeper; settings = on_settings old new here settings }
+
+-- behind one that was not
+pub keeps_refused : {K : Type 0} (faults : K → ℕ) (follows : K → K → Type 0) (said : Stepped) (ended : Stormed) (old new : WorldOver K) → HasSettings 4 60 30 old → ended ≡ ending_of said → (said ≡ Stepped.Done → ⊥)
+    → Counted said (faults old.server.keeper) (faults new.server.keeper) → follows old.server.keeper new.server.keeper → HasSettings (length old.clients) old.skew.window old.term new → KeepsOn faults follows ended old new
+keeps_refused faults follows said ended old new here is other counts keeper settings = record {
+  counts = rw is (counts_refused said _ _ other counts);
+  keeper = keeper;
+  settings = on_settings old new here settings;
+}
 
 -- what was not given
 pub gives_not : {K : Type 0} (ended : Stormed) (head : Head) (events : List Event) (event : Event) (new : WorldOver K) (tells : Option Kept) (flags : List Bool) → (ended ≡ Stormed.Done → ⊥) → Gives ended head events event new tells flags

@@ -12,7 +12,7 @@ use Rattle.nq_replay.specs.Reaching.{IsReached}
 use Rattle.nq_storm.specs.Storming.{IsStorm}
 use Rattle.nq_storm.specs.declared.stormed.Stormed.{Stormed}
 use Rattle.nq_storm.specs.Rules.{Rule}
-use Rattle.nq_world.specs.Playing.{IsAsBefore, Plays, WorldOver}
+use Rattle.nq_world.specs.Playing.{HasSettings, IsAsBefore, Plays, WorldOver}
 use Rattle.nq_world.specs.declared.stepped.Stepped.{Stepped}
 
 -- why nothing came behind these events
@@ -53,6 +53,12 @@ pub record Storms {K : Type 0} (ended : Stormed) (head : Head) (start wanted : �
 abbrev pub CountsFaults : Stormed → (before count : ℕ) → Type 0
 CountsFaults Stormed.Fault before count = Rose before count
 CountsFaults other before count = count ≡ before
+
+-- likewise, the keeper is the same one after some of its calls, and the world is still one of a storm
+pub record KeepsOn {K : Type 0} (faults : K → ℕ) (follows : K → K → Type 0) (ended : Stormed) (old new : WorldOver K) : Type 0 where
+  pub counts : CountsFaults ended (faults old.server.keeper) (faults new.server.keeper)
+  pub keeper : follows old.server.keeper new.server.keeper
+  pub settings : HasSettings 4 60 30 new
 
 -- how a storm ends where a world did not take an event in. A world that plays the run takes each event of its menu in, but for a limit, a
 -- fault, or want of memory

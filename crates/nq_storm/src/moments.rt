@@ -1,7 +1,7 @@
 //! One moment of a storm.
 
 ghost use Rattle.std.specs.List.{AllByRecursion};
-ghost use Rattle.std.specs.Prelude.{◌≡◌, ◌<◌, ◌≤◌, ◌+◌, ◌-◌, ◌^◌, ◌++◌, ◌∷◌, [], ℕ, List, Option, IfSome, IsNone, length, reverse, take};
+ghost use Rattle.std.specs.Prelude.{◌≡◌, ◌<◌, ◌≤◌, ◌+◌, ◌^◌, ◌++◌, ◌∷◌, [], ℕ, List, Option, IfSome, IsNone, length, reverse};
 ghost use Rattle.nq_base.specs.declared.Event.{Event};
 ghost use Rattle.nq_io.specs.Faults.{count_up};
 ghost use Rattle.nq_model.specs.Stepped.{most_events, most_sent};
@@ -9,7 +9,7 @@ ghost use Rattle.nq_model.specs.World.{Head};
 ghost use Rattle.nq_replay.specs.Going.{IsAt};
 ghost use Rattle.nq_replay.specs.Reaching.{IsReached};
 ghost use Rattle.nq_storm.specs.Asking.{AsksForNext};
-ghost use Rattle.nq_storm.specs.Ending.{CountsFaults, Gives, Halts, IsInStorm, Stands, ending_of};
+ghost use Rattle.nq_storm.specs.Ending.{Gives, Halts, IsInStorm, KeepsOn, Stands, ending_of};
 ghost use Rattle.nq_storm.specs.Storming.{IsChosen, IsOffered, word_behind};
 ghost use Rattle.nq_storm.specs.declared.stormed.Stormed.{Stormed};
 ghost use Rattle.nq_storm.specs.Rules.{Rule};
@@ -64,36 +64,6 @@ fn ending_of(stepped: Stepped) -> Stormed
     }
 }
 
-/// Gives the event at the end of `ran` to the world. Where the world does not take it in, it is dropped from `ran`.
-fn give_last<K: Keeper>(
-    world: &mut World<K>,
-    delivered: &mut Delivered,
-    ran: &mut Schedule,
-    event: &Event,
-) -> Stormed
-    requires stormy { IsStormy event.now }
-    requires settings { HasSettings 4 60 30 world.old }
-    ensures gives { (head : Head) (events : List Event) → IsAt head events world.old (K.content world.old.server.keeper) delivered.old
-        → length world.old.datagrams ≤ length delivered.old
-        → Gives result head events event.now world.new (K.content world.new.server.keeper) delivered.new }
-    ensures kept { result ≡ Stormed.Done → ran.new ≡ ran.old }
-    ensures dropped { (result ≡ Stormed.Done → ⊥) → ran.new ≡ take (length ran.old - 1) ran.old }
-    ensures faults { CountsFaults result (K.faults world.old.server.keeper) (K.faults world.new.server.keeper) }
-    ensures follows { K.follows world.old.server.keeper world.new.server.keeper }
-    ensures settings { HasSettings 4 60 30 world.new }
-{
-    match world.step(event) {
-        Stepped::Done => {
-            note(delivered, event);
-            Stormed::Done
-        }
-        refused => {
-            ran.drop_last();
-            ending_of(refused)
-        }
-    }
-}
-
 /// Keeps an event at the end of `ran`, and gives it to the world. Where the world does not take it in, it is dropped from `ran`.
 fn give<K: Keeper>(
     world: &mut World<K>,
@@ -108,12 +78,19 @@ fn give<K: Keeper>(
         → Gives result head events event.now world.new (K.content world.new.server.keeper) delivered.new }
     ensures kept { result ≡ Stormed.Done → ran.new ≡ ran.old ++ event.now ∷ [] }
     ensures same { (result ≡ Stormed.Done → ⊥) → ran.new ≡ ran.old }
-    ensures faults { CountsFaults result (K.faults world.old.server.keeper) (K.faults world.new.server.keeper) }
-    ensures follows { K.follows world.old.server.keeper world.new.server.keeper }
-    ensures settings { HasSettings 4 60 30 world.new }
+    ensures keeps { KeepsOn K.faults K.follows result world.old world.new }
 {
     match ran.push_filled(event) {
-        Ok(()) => give_last(world, delivered, ran, event),
+        Ok(()) => match world.step(event) {
+            Stepped::Done => {
+                note(delivered, event);
+                Stormed::Done
+            }
+            refused => {
+                ran.drop_last();
+                ending_of(refused)
+            }
+        },
         Err(_) => Stormed::Memory,
     }
 }
@@ -140,9 +117,7 @@ pub(crate) fn pass_moment<K: Keeper>(
     ensures more { result ≡ Stormed.Done → length ran.new ≡ earlier + 1 }
     ensures same { (result ≡ Stormed.Done → ⊥) → ran.new ≡ ran.old }
     ensures stormy { AllByRecursion IsStormy ran.old → AllByRecursion IsStormy ran.new }
-    ensures faults { CountsFaults result (K.faults world.old.server.keeper) (K.faults world.new.server.keeper) }
-    ensures follows { K.follows world.old.server.keeper world.new.server.keeper }
-    ensures settings { HasSettings 4 60 30 world.new }
+    ensures keeps { KeepsOn K.faults K.follows result world.old world.new }
 {
     let sent = world.packets().len();
     if let Some(limit) = limit_at(earlier, sent) {

@@ -3,7 +3,7 @@
 use nq_world::Limit;
 
 /// How a storm ended.
-#[derive(Clone, Copy)]
+#[derive(Drop)]
 pub enum Stormed {
     /// All its events were taken in.
     Done,

@@ -41,7 +41,6 @@ pub(crate) fn storm<K: Keeper>(
     ensures stormy { AllByRecursion IsStormy ran.new }
     ensures faults { CountsFaults result (K.faults world.old.server.keeper) (K.faults world.new.server.keeper) }
     ensures follows { K.follows world.old.server.keeper world.new.server.keeper }
-    ensures settings { HasSettings 4 60 30 world.new }
 {
     let mut words = Words::new(start);
     let mut delivered = Delivered::new(alloc);

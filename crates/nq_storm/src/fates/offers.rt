@@ -5,7 +5,7 @@ ghost use Rattle.nq_storm.specs.Places.{tick_count};
 
 /// How the menu of a moment is laid out, and a random word. First on the menu stand the deliveries, one for each packet
 /// that was sent.
-#[derive(Clone, Copy)]
+#[derive(Drop)]
 pub struct Offer {
     /// How many packets were sent.
     pub packets: u32,

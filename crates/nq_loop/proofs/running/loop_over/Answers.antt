@@ -1,4 +1,4 @@
-use Rattle.std.proofs.Common.{map, subst, sym}
+use Rattle.std.proofs.Common.{map, subst, sym, arith}
 use Rattle.std.specs.List.{AllByRecursion}
 use Rattle.std.specs.Prelude.{reverse}
 use Rattle.nq_hosts.specs.Clocks.{clock_told}
@@ -11,6 +11,12 @@ use Rattle.nq_loop.specs.Turning.{TakesTurns}
 use Rattle.nq_loop.specs.Whole.{loop_head}
 use Rattle.nq_replay.specs.Playing.{beginning}
 use Rattle.nq_loop.proofs.running.loop_over.Goals as goal
+
+pub take_turns-last-requires : goal.take_turns-last-requires
+take_turns-last-requires g c =
+    let hosts = c.in-Ok-new.ensures.hosts in
+    let settings = c.requires.settings.hosts_are in
+    record { clients_are = omega (arith, hosts, settings); few = omega (arith, hosts, c.requires.few); links_are = omega (arith, hosts, c.requires.links) }
 
 pub tell-end-requires-clause-looped : goal.tell-end-requires-clause-looped
 tell-end-requires-clause-looped g c =

@@ -14,6 +14,13 @@ loop-turn-init g c = record {
   follows = g.met.P.Keeper.follows_itself c.args.world.now.server.keeper;
 }
 
+pub loop_turn-requires : goal.loop_turn-requires
+loop_turn-requires g c =
+    let clients = c.loop-turn.invariant.clients in
+    let hosts = c.loop-turn.invariant.hosts in
+    let was = c.requires in
+    record { clients_are = omega (arith, clients, hosts, was); few = omega (arith, hosts, was); links_are = omega (arith, hosts, was) }
+
 pub loop-turn-preserved : goal.loop-turn-preserved
 loop-turn-preserved g c = record {
   goes = λ head hosts here.

@@ -1,4 +1,4 @@
-use Rattle.std.proofs.Common.{◌∙◌, sym, subst}
+use Rattle.std.proofs.Common.{◌∙◌, inl, inr, refl, sym, subst}
 use Rattle.nq_replay.specs.Ending.{TellsOver}
 use Rattle.nq_model.specs.Stepped.{out_of_skew}
 use Rattle.nq_naming.specs.Running.{FaultyNames, PassesNames, RunsNames, StopsNames}
@@ -42,3 +42,25 @@ returns-in-All-clause-done g c = λ text told within head events runs.
     let here = c.deref.ensures.value ∙ told_text _ _ _ _ text c.in-All.ensures.reads told in
     still_unless _ _ _ _ _ _ _ _ _ c.run_text.ensures.ends
     (c.run_text.ensures.done head events (subst (λ t. RunsNames t head events) (sym here) runs))
+
+pub returns-in-Failed : goal.returns-in-Failed
+returns-in-Failed g c = record {
+  ends = (refl, c.in-Failed.ensures.cause, c.in-Failed.ensures.reads);
+  usage = λ is. cc;
+  limit = λ text told longer. inr c.in-Failed.ensures.cause;
+  script = λ text told within number faulty. inr c.in-Failed.ensures.cause;
+  skew = λ text told within number broken breaks. inr c.in-Failed.ensures.cause;
+  passes = λ text told within number bound passes. inr c.in-Failed.ensures.cause;
+  done = λ text told within head m runs. inr c.in-Failed.ensures.cause;
+}
+
+pub returns-in-Memory : goal.returns-in-Memory
+returns-in-Memory g c = record {
+  ends = inl (refl, inl c.in-Memory.ensures.reads);
+  usage = λ is. cc;
+  limit = λ text told longer. inr tt;
+  script = λ text told within number faulty. inr tt;
+  skew = λ text told within number broken breaks. inr tt;
+  passes = λ text told within number bound passes. inr tt;
+  done = λ text told within head m runs. inr tt;
+}

@@ -1,13 +1,36 @@
+use Rattle.std.proofs.Common.{inl, map, subst, sym}
+use Rattle.std.specs.List.{AllByRecursion}
+use Rattle.nq_replay.proofs.Reversing.{all-reverse}
 use Rattle.nq_replay.specs.Playing.{beginning}
-use Rattle.nq_naming.proofs.Outcomes.{run_ends, stop_ends}
+use Rattle.nq_replay.specs.Texts.{IsTellable}
+use Rattle.nq_script.specs.Lines.{once}
+use Rattle.nq_script.specs.Schedule.{SpellsSchedule}
+use Rattle.nq_naming.proofs.Outcomes.{memory_before, run_ends, stop_ends}
+use Rattle.nq_naming.proofs.Printed.{is-printed}
 use Rattle.nq_naming.specs.Going.{IsAtEnd}
 use Rattle.nq_naming.specs.Playing.{Moment}
 use Rattle.nq_naming.proofs.running.tell.Goals as goal
 
-pub returns-in-All : goal.returns-in-All
-returns-in-All g c = λ due comes.
+pub schedule_text-requires-clause-told : goal.schedule_text-requires-clause-told
+schedule_text-requires-clause-told g c =
+    let is = c.requires.told c.in-All.is in
+    all-reverse (IsTellable c.args.head.now) c.ran.result.now
+    (subst (AllByRecursion (IsTellable c.args.head.now)) (sym (c.ran.ensures (beginning c.args.head.now) is.moment.events _ is.plays)) is.tellable)
+
+pub returns-in_default : goal.returns-in_default
+returns-in_default g c = λ due comes. memory_before c.args.head.now due _ _
+
+pub returns-in-Ok : goal.returns-in-Ok
+returns-in-Ok g c = λ due comes.
     let P : Moment → Type 0 = λ m. IsAtEnd (beginning c.args.head.now) m c.args.world.now (g.L.Keeper.content c.args.world.now.inner.server.keeper) c.args.found.now in
-    run_ends c.print_run.result c.args.head.now due P _ _ _ _ (rw c.in-All.is at comes) (λ m at. c.print_run.ensures m at)
+    let spelled = subst (SpellsSchedule c.args.head.now (map once c.ran.result.now)) (sym c.deref.ensures.value) c.in-Ok.ensures in
+    run_ends c.print_parts.result c.args.head.now due P _ _ _ _ (rw c.in-All.is at comes)
+    (λ m at. inl (record {
+      bytes = _;
+      are = is-printed c.args.head.now m c.args.world.now _ c.ran.result.now c.journal.result.now.entries c.deref.result.now c.args.found.now at
+          (c.ran.ensures (beginning c.args.head.now) m.events _ at.plays) (c.journal.ensures (beginning c.args.head.now) m.events _ at.plays) spelled;
+      printed = c.print_parts.ensures;
+    }))
 
 pub returns-in-Stopped : goal.returns-in-Stopped
 returns-in-Stopped g c = λ due comes.

@@ -1,4 +1,4 @@
-use Rattle.std.proofs.Common.{◌≡◌, ◌≤◌, ◌∙◌, ◌∷◌, [], ap, arith, length, length-append, subst, sym}
+use Rattle.std.proofs.Common.{◌≡◌, ◌≤◌, ◌∙◌, ◌∷◌, [], ap, arith, length, length-append, refl, subst, sym}
 use Rattle.std.proofs.lemmas.List.{length-reverse}
 use Rattle.std.specs.Prelude.{reverse}
 use Rattle.nq_replay.proofs.Limits.{reached_at}
@@ -47,3 +47,9 @@ pub returns-in-Some-clause-halts : goal.returns-in-Some-clause-halts
 returns-in-Some-clause-halts g c = λ other head events count at.
     let sent = c.len-sent.ensures ∙ ap length c.packets.ensures ∙ as-many head events c.args.world.now _ at.plays in
     (reached_at c.in-Some.limit c.args.earlier c.len-sent.result (length events) _ (sym count) sent c.in-Some.ensures.some, at.plays)
+
+pub returns-in-Some-clause-keeps : goal.returns-in-Some-clause-keeps
+returns-in-Some-clause-keeps g c = record { counts = refl; keeper = g.met.K.Keeper.follows_itself c.args.world.now.server.keeper; settings = c.requires.settings }
+
+pub returns-in_default-reach-clause-keeps : goal.returns-in_default-reach-clause-keeps
+returns-in_default-reach-clause-keeps g c = record { counts = refl; keeper = g.met.K.Keeper.follows_itself c.args.world.now.server.keeper; settings = c.requires.settings }

@@ -27,9 +27,9 @@ loop-earlier-preserved g c =
           c.pass_moment.ensures.passes c.in-Done.is head c.args.start _ word (c.loop-earlier.invariant.storm head plays);
       asks = once_more c.loop-earlier.earlier _ _ _ c.loop-earlier.invariant.asks (c.pass_moment.ensures.asked c.in-Done.is);
       stormy = c.pass_moment.ensures.stormy c.loop-earlier.invariant.stormy;
-      faults = c.in-Done.ensures.faults ∙ c.loop-earlier.invariant.faults;
-      follows = g.met.K.Keeper.follows_on _ _ _ c.loop-earlier.invariant.follows c.pass_moment.ensures.follows;
-      settings = c.pass_moment.ensures.settings;
+      faults = c.in-Done.ensures.keeps.counts ∙ c.loop-earlier.invariant.faults;
+      follows = g.met.K.Keeper.follows_on _ _ _ c.loop-earlier.invariant.follows c.pass_moment.ensures.keeps.keeper;
+      settings = c.pass_moment.ensures.keeps.settings;
     }
 
 pub returns-in_default : goal.returns-in_default
@@ -47,9 +47,8 @@ returns-in_default g c =
       early = λ ended. rw (ap length same ∙ c.loop-earlier.invariant.many) c.loop-earlier-test.true;
       whole = λ done. absurd (other done);
       stormy = c.pass_moment.ensures.stormy c.loop-earlier.invariant.stormy;
-      faults = counts_on c.pass_moment.result _ _ _ c.loop-earlier.invariant.faults c.pass_moment.ensures.faults;
-      follows = g.met.K.Keeper.follows_on _ _ _ c.loop-earlier.invariant.follows c.pass_moment.ensures.follows;
-      settings = c.pass_moment.ensures.settings;
+      faults = counts_on c.pass_moment.result _ _ _ c.loop-earlier.invariant.faults c.pass_moment.ensures.keeps.counts;
+      follows = g.met.K.Keeper.follows_on _ _ _ c.loop-earlier.invariant.follows c.pass_moment.ensures.keeps.keeper;
     }
 
 pub returns : goal.returns
@@ -61,5 +60,4 @@ returns g c = record {
   stormy = c.loop-earlier.invariant.stormy;
   faults = c.loop-earlier.invariant.faults;
   follows = c.loop-earlier.invariant.follows;
-  settings = c.loop-earlier.invariant.settings;
 }

@@ -5,7 +5,7 @@ use Rattle.nq_loop.specs.Holding.{loop_of}
 use Rattle.nq_loop.specs.Looping.{HearsAt, MissesAt}
 use Rattle.nq_loop.specs.Sending.{told_of}
 use Rattle.nq_hosts.specs.Links.{Letter}
-use Rattle.nq_loop.proofs.receiving.receive_through.Goals as goal
+use Rattle.nq_loop.proofs.receiving.receive.Goals as goal
 
 pub returns-in-Nothing : goal.returns-in-Nothing
 returns-in-Nothing g c =
@@ -13,7 +13,7 @@ returns-in-Nothing g c =
     let links = map told c.bring.new.links in
     record {
       loops = λ head hosts here.
-          none-came head c.args.party.now (loop_of g.K.Keeper.content g.L.Link.sent g.L.Link.waiting g.L.Link.faults g.L.Link.receives c.args.world.now c.args.state.now c.args.ran.now c.args.links.now) links here
+          none-came head c.args.party (loop_of g.K.Keeper.content g.L.Link.sent g.L.Link.waiting g.L.Link.faults g.L.Link.receives c.args.world.now c.args.state.now c.args.ran.now c.args.links.now) links here
           (subst (λ p. HearsAt p None (map told c.args.links.now) links) c.place_of-place.ensures c.in-Nothing.ensures);
       keeps = record { faults = refl; clients_are = refl; hosts_are = refl };
       follows = g.met.K.Keeper.follows_itself c.args.world.now.server.keeper;
@@ -25,7 +25,7 @@ returns-in-Failed g c =
     let links = map told c.bring.new.links in
     record {
       loops = λ head hosts here.
-          none-heard head c.args.party.now (loop_of g.K.Keeper.content g.L.Link.sent g.L.Link.waiting g.L.Link.faults g.L.Link.receives c.args.world.now c.args.state.now c.args.ran.now c.args.links.now) links here
+          none-heard head c.args.party (loop_of g.K.Keeper.content g.L.Link.sent g.L.Link.waiting g.L.Link.faults g.L.Link.receives c.args.world.now c.args.state.now c.args.ran.now c.args.links.now) links here
           (subst (λ p. MissesAt p (map told c.args.links.now) links) c.place_of-place.ensures c.in-Failed.ensures);
       keeps = record { faults = refl; clients_are = refl; hosts_are = refl };
       follows = g.met.K.Keeper.follows_itself c.args.world.now.server.keeper;
@@ -40,7 +40,7 @@ returns-in-Datagram g c =
       loops = λ head hosts here.
           let old = loop_of g.K.Keeper.content g.L.Link.sent g.L.Link.waiting g.L.Link.faults g.L.Link.receives c.args.world.now c.args.state.now c.args.ran.now c.args.links.now in
           let new = loop_of g.K.Keeper.content g.L.Link.sent g.L.Link.waiting g.L.Link.faults g.L.Link.receives c.take_in.new.world c.take_in.new.state c.take_in.new.ran c.take_in.new.links in
-          one-came head c.args.party.now letter c.take_in.result old new links
+          one-came head c.args.party letter c.take_in.result old new links
           (subst (λ p. HearsAt p (Some letter) (map told c.args.links.now) links) c.place_of-place.ensures c.in-Datagram.ensures.1)
           (c.take_in.ensures.takes head hosts (relinked head old links here));
       keeps = c.take_in.ensures.keeps;
