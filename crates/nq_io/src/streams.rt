@@ -1,5 +1,4 @@
 //! Readers and writers of std as sources and sinks. Those in memory tell their bytes (`in_memory`), and [`copied`] rests on that.
-#![tactic(auto)]
 
 mod copying;
 mod std_sink;

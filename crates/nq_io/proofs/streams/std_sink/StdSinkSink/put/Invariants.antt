@@ -1,8 +1,8 @@
 use Rattle.std.proofs.Common.{◌≡◌, ◌≤◌, ◌-◌, length, take}
 use Rattle.std.specs.Io.KnownBytes.{Appends}
 use Rattle.nq_io.specs.Told.{with_end}
-use Rattle.nq_streams.specs.Known.{told_where}
-use Rattle.nq_streams.proofs.std_sink.StdSinkSink.put.Given as goal
+use Rattle.nq_io.specs.Known.{told_where}
+use Rattle.nq_io.proofs.streams.std_sink.StdSinkSink.put.Given as goal
 
 abbrev pub invariant-loop-written : goal.invariant-loop-written
 invariant-loop-written g l = record {

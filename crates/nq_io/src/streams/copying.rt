@@ -2,8 +2,8 @@
 
 ghost use Rattle.std.specs.Prelude.{◌≡◌, IfSome};
 
-use crate::{StdSink, StdSource};
-use nq_io::{Put, Sink, Whole, read_all};
+use crate::streams::{StdSink, StdSource};
+use crate::{Put, Sink, Whole, read_all};
 use std::alloc::Global;
 
 /// A copy of these bytes, which are read from a source over them and put to a sink over a vector; none where memory is wanting.

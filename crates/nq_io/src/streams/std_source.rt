@@ -3,10 +3,10 @@
 ghost use Rattle.std.specs.Prelude.{◌≡◌, ◌<◌, ◌≤◌, List, Option, true, false, length, drop, IsSome, IfOk};
 ghost use Rattle.std.specs.Io.KnownBytes.{ReadConsumes};
 ghost use Rattle.nq_io.specs.Source.{Reads, CountsRead, faults_after};
-ghost use Rattle.nq_streams.specs.Known.{TellsKnown, told_where};
-ghost use Rattle.nq_streams.specs.StdSource.{PassesOn};
+ghost use Rattle.nq_io.specs.Known.{TellsKnown, told_where};
+ghost use Rattle.nq_io.specs.StdSource.{PassesOn};
 
-use nq_io::{Got, Source};
+use crate::{Got, Source};
 use std::io;
 use std::io::Read;
 use std::marker::Model;
@@ -23,8 +23,8 @@ pub struct StdSource<R: Read> {
 }
 
 impl<R: Read> Model for StdSource<R> {
-    ghost use Rattle.nq_streams.specs.Known.{TellsKnown};
-    ghost use Rattle.nq_streams.specs.StdSource.{CountedReader};
+    ghost use Rattle.nq_io.specs.Known.{TellsKnown};
+    ghost use Rattle.nq_io.specs.StdSource.{CountedReader};
 
     ghost Value = { CountedReader R };
 

@@ -3,10 +3,10 @@
 ghost use Rattle.std.specs.Prelude.{◌≡◌, Option, true, false, IsSome};
 ghost use Rattle.nq_io.specs.Faults.{Rose, count_up};
 ghost use Rattle.nq_io.specs.Sink.{Puts, CountsPut, faults_after};
-ghost use Rattle.nq_streams.specs.Known.{told_where};
-ghost use Rattle.nq_streams.specs.StdSink.{Writes};
+ghost use Rattle.nq_io.specs.Known.{told_where};
+ghost use Rattle.nq_io.specs.StdSink.{Writes};
 
-use nq_io::{Put, Sink};
+use crate::{Put, Sink};
 use std::io::Write;
 use std::marker::Model;
 
@@ -20,8 +20,8 @@ pub struct StdSink<W: Write> {
 }
 
 impl<W: Write> Model for StdSink<W> {
-    ghost use Rattle.nq_streams.specs.Known.{TellsKnown};
-    ghost use Rattle.nq_streams.specs.StdSink.{CountedWriter};
+    ghost use Rattle.nq_io.specs.Known.{TellsKnown};
+    ghost use Rattle.nq_io.specs.StdSink.{CountedWriter};
 
     ghost Value = { CountedWriter W };
 

@@ -9,7 +9,7 @@ use Rattle.nq_io.specs.Sink.{Puts}
 use Rattle.nq_io.specs.Source.{GivesBytes, GivesEnd}
 use Rattle.nq_io.specs.Told.{with_end, with_front}
 use Rattle.nq_io.specs.declared.sink.Put.{Put}
-use Rattle.nq_streams.specs.Known.{TellsKnown, told_where}
+use Rattle.nq_io.specs.Known.{TellsKnown, told_where}
 
 -- ---- sources
 
