@@ -13,8 +13,8 @@ use Rattle.nq_model.specs.ServerStep.{booted}
 use Rattle.nq_model.proofs.AppliedChanges.{applied-boot, applied-opening}
 use Rattle.nq_model.specs.Profile.{most_hosts}
 use Rattle.nq_model.proofs.FreshWithin.{booted-within, opened-within}
-use Rattle.nq_boot.specs.Booting.{Opens, heads_after_boot, last_boot, opened_by}
-use Rattle.nq_boot.specs.Recovery.{IsTerm}
+use Rattle.nq_files.specs.Booting.{Opens, heads_after_boot, last_boot, opened_by}
+use Rattle.nq_files.specs.Recovery.{IsTerm}
 
 -- it names no host
 pub names-none : (heads : Heads) (change : Change) (h : HostChange) → change ≡ change_of_heads heads → change.host ≡ Some h → h.host < most_hosts

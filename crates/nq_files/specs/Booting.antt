@@ -3,12 +3,12 @@
 use Rattle.std.specs.Prelude.{◌≡◌, ◌⊎◌, ◌≤◌, ◌<◌, ◌==◌, ℕ, ◌+◌, Option, Some, Result, Ok, Err, nat_le, if◌then◌else◌}
 use Rattle.std.specs.Option.{ForSome}
 use Rattle.nq_base.specs.declared.Heads.{Heads}
-use Rattle.nq_boot.specs.Recovery.{Recovery}
-use Rattle.nq_boot.specs.declared.recovering.Finish.{Finish}
-use Rattle.nq_boot.specs.declared.recovering.Finish.TheVariants.{Opened, Wait, Fault}
-use Rattle.nq_boot.specs.declared.starting.StartFault.{StartFault}
-use Rattle.nq_boot.specs.declared.starting.StartFault.TheVariants.{Failed, Memory, Spent}
-use Rattle.nq_boot.specs.declared.starting.Started.{Started}
+use Rattle.nq_files.specs.Recovery.{Recovery}
+use Rattle.nq_files.specs.declared.boot.recovering.Finish.{Finish}
+use Rattle.nq_files.specs.declared.boot.recovering.Finish.TheVariants.{Opened, Wait, Fault}
+use Rattle.nq_files.specs.declared.boot.starting.StartFault.{StartFault}
+use Rattle.nq_files.specs.declared.boot.starting.StartFault.TheVariants.{Failed, Memory, Spent}
+use Rattle.nq_files.specs.declared.boot.starting.Started.{Started}
 use Rattle.nq_io.specs.Faults.{Rose}
 use Rattle.nq_keeper.specs.declared.KeepFault.{KeepFault}
 use Rattle.nq_keeper.specs.Keeping.{StaysOrEnds}

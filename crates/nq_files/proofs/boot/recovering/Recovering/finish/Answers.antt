@@ -2,10 +2,10 @@ use Rattle.std.proofs.Common.{rules, ◌≡◌, ◌⊎◌, ◌≤◌, ℕ, true,
 use Rattle.std.specs.Prelude.{nat_le}
 use Rattle.std.proofs.lemmas.Bool.Decides.{nat_tests}
 use Rattle.std.proofs.lemmas.Grind.{common_steps}
-use Rattle.nq_boot.specs.Booting.{ended_at, opened_by}
-use Rattle.nq_boot.specs.Recovery.{Recovery}
+use Rattle.nq_files.specs.Booting.{ended_at, opened_by}
+use Rattle.nq_files.specs.Recovery.{Recovery}
 use Rattle.nq_model.specs.Kept.{Kept}
-use Rattle.nq_boot.proofs.recovering.Recovering.finish.Goals as goal
+use Rattle.nq_files.proofs.boot.recovering.Recovering.finish.Goals as goal
 
 reached : (until time : ℕ) → until ≤ time → nat_le until time ≡ true
 reached until time h = grind (arith, nat_tests)

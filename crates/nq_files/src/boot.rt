@@ -3,7 +3,6 @@
 //!
 //! The states are types: nobody has a [`Serving`] but from a boot that may serve at once, or from a [`Recovering`] that
 //! waited to its end.
-#![tactic(auto)]
 
 mod recovering;
 mod starting;

@@ -1,9 +1,9 @@
 use Rattle.std.proofs.Common.{sym, ◌∙◌}
 use Rattle.nq_keeper.proofs.Leaving.{two-of}
 use Rattle.nq_model.specs.Change.{applied, change_of_heads}
-use Rattle.nq_boot.specs.Booting.{opened_by}
-use Rattle.nq_boot.proofs.HeadsChange.{heads_opened, opened-heads-within, kept-opened, opens-heads, leaves-booted}
-use Rattle.nq_boot.proofs.starting.open.Goals as goal
+use Rattle.nq_files.specs.Booting.{opened_by}
+use Rattle.nq_files.proofs.HeadsChange.{heads_opened, opened-heads-within, kept-opened, opens-heads, leaves-booted}
+use Rattle.nq_files.proofs.boot.starting.open.Goals as goal
 
 pub keep_heads-requires : goal.keep_heads-requires
 keep_heads-requires g c =

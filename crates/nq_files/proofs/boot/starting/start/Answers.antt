@@ -3,9 +3,9 @@ use Rattle.nq_keeper.specs.Keeping.{told_after}
 use Rattle.nq_keeper.proofs.Leaving.{two-of}
 use Rattle.nq_model.specs.Change.{applied, change_of_heads, heads_of}
 use Rattle.nq_model.specs.ServerStep.{booted}
-use Rattle.nq_boot.specs.Booting.{last_boot}
-use Rattle.nq_boot.proofs.HeadsChange.{after-boot-within, is-last, kept-booted, leaves-booted}
-use Rattle.nq_boot.proofs.starting.start.Goals as goal
+use Rattle.nq_files.specs.Booting.{last_boot}
+use Rattle.nq_files.proofs.HeadsChange.{after-boot-within, is-last, kept-booted, leaves-booted}
+use Rattle.nq_files.proofs.boot.starting.start.Goals as goal
 
 pub returns-then-heads-ge-LAST_BOOT-clause-starts : goal.returns-then-heads-ge-LAST_BOOT-clause-starts
 returns-then-heads-ge-LAST_BOOT-clause-starts g c = (

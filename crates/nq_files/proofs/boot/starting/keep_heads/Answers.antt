@@ -2,8 +2,8 @@ use Rattle.std.proofs.Common.{sym, subst}
 use Rattle.nq_keeper.specs.Keeping.{LeavesTwo}
 use Rattle.nq_model.specs.Change.{Fits}
 use Rattle.nq_model.proofs.FreshFits.{heads-fit}
-use Rattle.nq_boot.proofs.HeadsChange.{heads-within, names-none}
-use Rattle.nq_boot.proofs.starting.keep_heads.Goals as goal
+use Rattle.nq_files.proofs.HeadsChange.{heads-within, names-none}
+use Rattle.nq_files.proofs.boot.starting.keep_heads.Goals as goal
 
 pub commit-requires-clause-host : goal.commit-requires-clause-host
 commit-requires-clause-host g c = λ h named. names-none c.args.heads c.change_to-change.result h c.change_to-change.ensures named

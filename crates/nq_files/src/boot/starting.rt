@@ -2,14 +2,14 @@
 
 ghost use Rattle.std.specs.Prelude.{◌≡◌, ◌<◌, ◌≤◌, ◌^◌, ℕ, IfOk};
 ghost use Rattle.std.specs.Option.{ForSome};
-ghost use Rattle.nq_boot.specs.Booting.{Opens, Starts, Finishes, LeavesThen, IsOfTerm, ended_at, heads_after_boot, last_boot, started_of, opened_by, start_fault};
-ghost use Rattle.nq_boot.specs.Recovery.{IsTerm};
+ghost use Rattle.nq_files.specs.Booting.{Opens, Starts, Finishes, LeavesThen, IsOfTerm, ended_at, heads_after_boot, last_boot, started_of, opened_by, start_fault};
+ghost use Rattle.nq_files.specs.Recovery.{IsTerm};
 ghost use Rattle.nq_keeper.specs.Keeping.{Commits, LeavesTwo};
 ghost use Rattle.nq_model.specs.Change.{AreHeadsWithin, Fits, IsChangeWithin, change_of_heads, heads_of};
 ghost use Rattle.nq_model.specs.Kept.{Kept};
 ghost use Rattle.nq_model.specs.ServerStep.{booted};
 
-use crate::recovering::{Finish, Recovering, Serving};
+use crate::boot::recovering::{Finish, Recovering, Serving};
 use nq_base::{Change, Heads, Ticks};
 use nq_keeper::{KeepFault, Keeper};
 

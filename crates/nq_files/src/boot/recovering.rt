@@ -1,7 +1,7 @@
 //! A boot that recovers, and one that serves.
 
 ghost use Rattle.std.specs.Prelude.{◌≡◌, ◌<◌, ◌≤◌, ◌^◌, ℕ};
-ghost use Rattle.nq_boot.specs.Recovery.{IsTerm, after_write};
+ghost use Rattle.nq_files.specs.Recovery.{IsTerm, after_write};
 
 use nq_base::Ticks;
 use std::marker::Model;
@@ -20,7 +20,7 @@ pub struct Recovering {
 }
 
 impl Model for Recovering {
-    ghost use Rattle.nq_boot.specs.Recovery.{IsTerm, Recovery};
+    ghost use Rattle.nq_files.specs.Recovery.{IsTerm, Recovery};
 
     ghost Value = { Recovery };
 
