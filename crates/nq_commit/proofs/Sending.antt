@@ -9,7 +9,7 @@ use Rattle.nq_base.specs.declared.Party.{Party}
 use Rattle.nq_datagrams.specs.Messages.{bytes_of}
 use Rattle.nq_model.specs.Message.{Packet}
 use Rattle.nq_model.specs.World.{World}
-use Rattle.nq_net.specs.Packets.{Datagram}
+use Rattle.nq_link.specs.Packets.{Datagram}
 use Rattle.nq_stage.specs.declared.Pushed.{Pushed}
 use Rattle.nq_stage.specs.Shortening.{shortening, shortened}
 use Rattle.nq_stage.specs.Staged.{Staged}

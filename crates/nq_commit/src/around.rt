@@ -5,11 +5,11 @@ ghost use Rattle.nq_base.specs.declared.Event.{Event};
 ghost use Rattle.nq_base.specs.declared.Party.{Party};
 ghost use Rattle.nq_commit.specs.Around.{counted, datagram_of, due_as, flushed, new_around, passed, passed_at, prepared, prepared_from, shown, travelling};
 ghost use Rattle.nq_model.specs.World.{World};
-ghost use Rattle.nq_net.specs.Packets.{Datagram};
+ghost use Rattle.nq_link.specs.Packets.{Datagram};
 ghost use Rattle.nq_world.specs.Shown.{datagram};
 
 use nq_base::{Host, NoMemory, Party};
-use nq_net::Packets;
+use nq_link::net::Packets;
 use nq_stage::pool::Pool;
 use nq_stage::run::StagedCounts;
 use nq_stage::stager::Stager;

@@ -15,7 +15,7 @@ ghost use Rattle.nq_world.specs.declared.NewFault.{NewFault};
 use crate::around::{Around, HostSide};
 use nq_base::{Host, Journal, NoMemory};
 use nq_keeper::Keeper;
-use nq_net::Packets;
+use nq_link::net::Packets;
 use nq_script::Schedule;
 use nq_stage::run::{StagedCounts, StagedEvent};
 use nq_stage::stager::Stager;

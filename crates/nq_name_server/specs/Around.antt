@@ -10,7 +10,7 @@ use Rattle.nq_name_cache.specs.Names.{Names}
 use Rattle.nq_name_server.specs.Sending.{all_sent}
 use Rattle.nq_name_server.specs.Served.{Served}
 use Rattle.nq_name_server.specs.Serving.{Serves}
-use Rattle.nq_net.specs.Packets.{Datagram}
+use Rattle.nq_link.specs.Packets.{Datagram}
 use Rattle.nq_name_server.specs.Outer.{Outer, Outside}
 use Rattle.nq_name_server.specs.Outside.{beside, sends, sends_all}
 

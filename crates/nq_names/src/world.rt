@@ -21,7 +21,7 @@ use nq_name_cache::{Found, NameCache};
 use nq_name_server::NameServer;
 use nq_name_server::around::Around;
 use nq_name_server::run::NameEvent;
-use nq_net::Packets;
+use nq_link::net::Packets;
 use nq_script::Schedule;
 use nq_world::{NewFault, Stepped, World};
 use std::alloc::Global;

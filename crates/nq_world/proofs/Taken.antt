@@ -15,7 +15,7 @@ use Rattle.nq_model.specs.Profile.{most_taken_by_server, shortest_term}
 use Rattle.nq_model.specs.ServerStep.{at_time, crash, receive, tick}
 use Rattle.nq_model.specs.Server.{Server, ServerStep}
 use Rattle.nq_model.specs.World.{after_server, run, sending_host}
-use Rattle.nq_net.specs.Packets.{Datagram, PacketList}
+use Rattle.nq_link.specs.Packets.{Datagram, PacketList}
 use Rattle.nq_server.specs.Holding.{Holding, IsTaken, Reboots}
 use Rattle.nq_server.specs.State.{server_of}
 use Rattle.nq_server.specs.Stepping.{next_of}

@@ -16,7 +16,7 @@ use nq_base::{FileList, Host, Inc, Journal, NoMemory, Ticks};
 use nq_client::{Client, StartClient};
 use nq_clock::Skew;
 use nq_keeper::{KeepFault, Keeper};
-use nq_net::Packets;
+use nq_link::net::Packets;
 use nq_server::{BootFault, Server};
 use std::alloc::Global;
 
