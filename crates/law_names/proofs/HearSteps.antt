@@ -8,11 +8,11 @@ use Rattle.nq_base.specs.declared.Grant.{Grant}
 use Rattle.nq_base.specs.declared.Party.{Party}
 use Rattle.nq_directory.specs.declared.FileName.{FileName}
 use Rattle.nq_directory.specs.Prefix.{directory}
-use Rattle.nq_listing.specs.declared.DirTag.{DirTag}
-use Rattle.nq_listing.specs.declared.ReadDir.{ReadDir}
-use Rattle.nq_listing.specs.Messages.{Answer, IsEntry, Listing, page, wait, dir_vacated_bytes}
+use Rattle.nq_directory.specs.declared.listing.DirTag.{DirTag}
+use Rattle.nq_directory.specs.declared.listing.ReadDir.{ReadDir}
+use Rattle.nq_directory.specs.Messages.{Answer, IsEntry, Listing, page, wait, dir_vacated_bytes}
 use Rattle.nq_wire.specs.Parts.{IsTag}
-use Rattle.nq_listing.specs.Reading.{dir_evicted_in, dir_vacated_in, read_dir_in, told_in}
+use Rattle.nq_directory.specs.Reading.{dir_evicted_in, dir_vacated_in, read_dir_in, told_in}
 use Rattle.nq_model.specs.Client.{UnderWay}
 use Rattle.nq_model.specs.Hear.{granted_lease}
 use Rattle.nq_model.specs.Profile.{same_bytes}

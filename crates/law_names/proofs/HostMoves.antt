@@ -7,7 +7,7 @@ use Rattle.nq_base.specs.declared.Grant.{Grant}
 use Rattle.nq_directory.specs.Names.{put_names}
 use Rattle.nq_directory.specs.Prefix.{directory}
 use Rattle.nq_directory.proofs.Called.{same-self}
-use Rattle.nq_listing.specs.Messages.{Listing, page, most_names}
+use Rattle.nq_directory.specs.Messages.{Listing, page, most_names}
 use Rattle.nq_model.specs.Change.{AreApart}
 use Rattle.nq_model.specs.Client.{Lease}
 use Rattle.nq_model.specs.Hear.{breaks}

@@ -7,9 +7,9 @@ use Rattle.nq_base.specs.declared.Party.{Party}
 use Rattle.nq_directory.specs.Names.{named}
 use Rattle.nq_directory.specs.Prefix.{directory}
 use Rattle.nq_directory.proofs.Called.{same-name}
-use Rattle.nq_listing.specs.declared.DirTag.{DirTag}
-use Rattle.nq_listing.specs.declared.ReadDir.{ReadDir}
-use Rattle.nq_listing.specs.Messages.{Answer, IsReadDir, answer_bytes, dir_evicted_bytes, dir_vacated_bytes, read_dir_bytes}
+use Rattle.nq_directory.specs.declared.listing.DirTag.{DirTag}
+use Rattle.nq_directory.specs.declared.listing.ReadDir.{ReadDir}
+use Rattle.nq_directory.specs.Messages.{Answer, IsReadDir, answer_bytes, dir_evicted_bytes, dir_vacated_bytes, read_dir_bytes}
 use Rattle.nq_model.proofs.Finding.{find-passes}
 use Rattle.nq_model.specs.Client.{Client, Lease, UnderWay, is_live}
 use Rattle.nq_model.specs.Kept.{File, find_name}

@@ -4,6 +4,7 @@
 
 mod fronts;
 mod listed;
+pub mod listing;
 mod names;
 mod prefix;
 

@@ -2,8 +2,8 @@
 use Rattle.std.proofs.Common.{◌≡◌, ℕ, Bool, true, false, List, Option, Some, None, refl, sym, ap, ◌∙◌}
 use Rattle.nq_base.specs.declared.Grant.{Grant}
 use Rattle.nq_directory.specs.declared.FileName.{FileName}
-use Rattle.nq_listing.specs.Messages.{Answer}
-use Rattle.nq_listing.specs.Reading.{dir_evicted_in}
+use Rattle.nq_directory.specs.Messages.{Answer}
+use Rattle.nq_directory.specs.Reading.{dir_evicted_in}
 use Rattle.nq_name_cache.specs.Asking.{Asks, answer_in, heard_as, heard_by, next_bytes, noticed, page_taken, takes_page, told}
 use Rattle.nq_name_cache.specs.Names.{Names, Request}
 

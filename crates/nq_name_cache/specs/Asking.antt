@@ -6,10 +6,10 @@ use Rattle.nq_base.specs.declared.Mode.TheVariants.{NonCaching, Reading, Writing
 use Rattle.nq_base.specs.declared.Tag.{Tag}
 use Rattle.nq_directory.specs.declared.FileName.{FileName}
 use Rattle.nq_directory.specs.Names.{put_names}
-use Rattle.nq_listing.specs.declared.DirTag.{DirTag}
-use Rattle.nq_listing.specs.declared.ReadDir.{ReadDir}
-use Rattle.nq_listing.specs.Messages.{Listing, Answer, page, wait, read_dir_bytes, dir_vacated_bytes}
-use Rattle.nq_listing.specs.Reading.{dir_evicted_in, told_in}
+use Rattle.nq_directory.specs.declared.listing.DirTag.{DirTag}
+use Rattle.nq_directory.specs.declared.listing.ReadDir.{ReadDir}
+use Rattle.nq_directory.specs.Messages.{Listing, Answer, page, wait, read_dir_bytes, dir_vacated_bytes}
+use Rattle.nq_directory.specs.Reading.{dir_evicted_in, told_in}
 use Rattle.nq_model.specs.Client.{Lease}
 use Rattle.nq_model.specs.Hear.{breaks, granted_lease}
 use Rattle.nq_model.specs.Profile.{same_bytes}

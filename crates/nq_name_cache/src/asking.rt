@@ -1,9 +1,9 @@
 //! What a host makes of datagrams.
 
 ghost use Rattle.std.specs.Prelude.{◌≡◌, ◌<◌, ◌≤◌, ◌^◌, ◌+◌, [], ◌∷◌, ◌++◌, true, false, None, Some, option_map, vec_len, vec_capacity, IfOk, IfSome, OnErr};
-ghost use Rattle.nq_listing.specs.Lent.{answer_of, answers_of, listing_of};
-ghost use Rattle.nq_listing.specs.Messages.{read_dir_bytes};
-ghost use Rattle.nq_listing.specs.Reading.{dir_evicted_in};
+ghost use Rattle.nq_directory.specs.Lent.{answer_of, answers_of, listing_of};
+ghost use Rattle.nq_directory.specs.Messages.{read_dir_bytes};
+ghost use Rattle.nq_directory.specs.Reading.{dir_evicted_in};
 ghost use Rattle.nq_name_cache.specs.Asking.{answer_in, evicted, gone_on, heard, is_later, last_id, lease_by, next_bytes, noticed, page_taken, takes_page, told};
 ghost use Rattle.nq_name_cache.specs.Names.{Request, list_of};
 
@@ -11,7 +11,7 @@ use crate::cache::{Asked, NameCache};
 use crate::listed::{Listed, list_of};
 use nq_base::{FileId, Grant, NoMemory, Ticks};
 use nq_directory::FileName;
-use nq_listing::{
+use nq_directory::listing::{
     DirTag, Page, Told, dir_vacated_bytes, read_dir_bytes, read_dir_evicted, read_told,
 };
 use std::alloc::Global;

@@ -9,7 +9,7 @@ use crate::found::Found;
 use crate::listed::{Listed, forget, list_of};
 use nq_base::{Call, FileId, Name, NoMemory, Ticks, Who};
 use nq_directory::{Prefix, directory_of};
-use nq_listing::{ReadDir, read_dir_bytes};
+use nq_directory::listing::{ReadDir, read_dir_bytes};
 use std::alloc::Global;
 use std::marker::Model;
 

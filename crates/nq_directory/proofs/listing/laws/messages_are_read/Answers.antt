@@ -1,5 +1,5 @@
-use Rattle.nq_listing.proofs.Again.{read-dirs-are-read, evicted-are-read, vacated-are-read, answers-are-read}
-use Rattle.nq_listing.proofs.laws.messages_are_read.Goals as goal
+use Rattle.nq_directory.proofs.Again.{read-dirs-are-read, evicted-are-read, vacated-are-read, answers-are-read}
+use Rattle.nq_directory.proofs.listing.laws.messages_are_read.Goals as goal
 
 pub returns-clause-read_dirs : goal.returns-clause-read_dirs
 returns-clause-read_dirs c = read-dirs-are-read

@@ -1,10 +1,10 @@
 -- What the types of the code are to the definitions.
 use Rattle.std.specs.Prelude.{ℕ, List, Option, Some, None}
-use Rattle.nq_listing.specs.declared.messages.Page.{Page}
-use Rattle.nq_listing.specs.declared.messages.Told.{Told}
-use Rattle.nq_listing.specs.declared.messages.Told.TheVariants as told
-use Rattle.nq_listing.specs.declared.reading.Asked.{Asked}
-use Rattle.nq_listing.specs.Messages.{Listing, Answer, page, wait}
+use Rattle.nq_directory.specs.declared.listing.messages.Page.{Page}
+use Rattle.nq_directory.specs.declared.listing.messages.Told.{Told}
+use Rattle.nq_directory.specs.declared.listing.messages.Told.TheVariants as told
+use Rattle.nq_directory.specs.declared.listing.reading.Asked.{Asked}
+use Rattle.nq_directory.specs.Messages.{Listing, Answer, page, wait}
 
 -- a call: its number and its arguments
 abbrev pub lent_call : Option Asked → Option (ℕ × List ℕ)

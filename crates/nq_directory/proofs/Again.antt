@@ -12,11 +12,11 @@ use Rattle.nq_wire.proofs.PartsAgain.{head_again, tag_again, name_again, grant_i
 use Rattle.nq_xdr.specs.Item.{word, boolean, opaque}
 use Rattle.nq_xdr.proofs.Numbers.{word_again}
 use Rattle.nq_xdr.proofs.Opaque.{boolean_again, opaque_again}
-use Rattle.nq_listing.specs.declared.messages.DirTag.{DirTag}
-use Rattle.nq_listing.specs.declared.messages.ReadDir.{ReadDir}
-use Rattle.nq_listing.specs.Laws.{ReadDirsAreRead, EvictedAreRead, VacatedAreRead, AnswersAreRead}
-use Rattle.nq_listing.specs.Messages.{Listing, Answer, page, wait, read_dir, dir_evicted, dir_vacated, later, most_names, head_of, read_dir_arguments, read_dir_bytes, entry_bytes, entries_bytes, front_bytes, results, answer_bytes, dir_tag_arguments, dir_evicted_bytes, dir_vacated_bytes, IsReadDir, IsDirTag, IsEntry, IsListing, IsAnswer}
-use Rattle.nq_listing.specs.Reading.{call_by, call_as, call_in, results_by, results_of, results_in, end_at, prefix_at, entry_at, entries_at, count_at, page_at, read_dir_at, dir_tag_at, page_alone, wait_alone, answer_at, told_at, read_dir_by, read_dir_in, dir_tag_by, dir_evicted_in, dir_vacated_in, told_by, told_in}
+use Rattle.nq_directory.specs.declared.listing.messages.DirTag.{DirTag}
+use Rattle.nq_directory.specs.declared.listing.messages.ReadDir.{ReadDir}
+use Rattle.nq_directory.specs.Laws.{ReadDirsAreRead, EvictedAreRead, VacatedAreRead, AnswersAreRead}
+use Rattle.nq_directory.specs.Messages.{Listing, Answer, page, wait, read_dir, dir_evicted, dir_vacated, later, most_names, head_of, read_dir_arguments, read_dir_bytes, entry_bytes, entries_bytes, front_bytes, results, answer_bytes, dir_tag_arguments, dir_evicted_bytes, dir_vacated_bytes, IsReadDir, IsDirTag, IsEntry, IsListing, IsAnswer}
+use Rattle.nq_directory.specs.Reading.{call_by, call_as, call_in, results_by, results_of, results_in, end_at, prefix_at, entry_at, entries_at, count_at, page_at, read_dir_at, dir_tag_at, page_alone, wait_alone, answer_at, told_at, read_dir_by, read_dir_in, dir_tag_by, dir_evicted_in, dir_vacated_in, told_by, told_in}
 
 -- ---- calls and replies
 

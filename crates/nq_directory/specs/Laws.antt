@@ -1,9 +1,9 @@
 -- What is said of the bytes of the messages: what is written is read again.
 use Rattle.std.specs.Prelude.{◌≡◌, ℕ, ◌^◌, ◌<◌, Some}
-use Rattle.nq_listing.specs.declared.messages.DirTag.{DirTag}
-use Rattle.nq_listing.specs.declared.messages.ReadDir.{ReadDir}
-use Rattle.nq_listing.specs.Messages.{Answer, read_dir_bytes, answer_bytes, dir_evicted_bytes, dir_vacated_bytes, IsReadDir, IsDirTag, IsAnswer}
-use Rattle.nq_listing.specs.Reading.{read_dir_in, dir_evicted_in, dir_vacated_in, told_in}
+use Rattle.nq_directory.specs.declared.listing.messages.DirTag.{DirTag}
+use Rattle.nq_directory.specs.declared.listing.messages.ReadDir.{ReadDir}
+use Rattle.nq_directory.specs.Messages.{Answer, read_dir_bytes, answer_bytes, dir_evicted_bytes, dir_vacated_bytes, IsReadDir, IsDirTag, IsAnswer}
+use Rattle.nq_directory.specs.Reading.{read_dir_in, dir_evicted_in, dir_vacated_in, told_in}
 
 -- in the bytes of a READDIRLOOK it is read
 abbrev pub ReadDirsAreRead : Type 0

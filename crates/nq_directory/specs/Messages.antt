@@ -8,9 +8,9 @@ use Rattle.nq_rpc.specs.Message.{spelling, call_with, reply_with, null}
 use Rattle.nq_wire.specs.Parts.{head, tag_bytes, grant_bytes, optional, IsWho, IsTag, IsGrant}
 use Rattle.nq_xdr.specs.Item.{word, boolean, opaque}
 use Rattle.nq_directory.specs.Prefix.{IsPrefix}
-use Rattle.nq_listing.specs.declared.messages.DirTag.{DirTag}
+use Rattle.nq_directory.specs.declared.listing.messages.DirTag.{DirTag}
 use Rattle.nq_directory.specs.declared.FileName.{FileName}
-use Rattle.nq_listing.specs.declared.messages.ReadDir.{ReadDir}
+use Rattle.nq_directory.specs.declared.listing.messages.ReadDir.{ReadDir}
 
 -- the number of the procedure READDIRLOOK
 abbrev pub read_dir : ℕ

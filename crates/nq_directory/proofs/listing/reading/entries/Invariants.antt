@@ -1,6 +1,6 @@
 use Rattle.std.proofs.Common.{◌≡◌, ◌≤◌, ◌-◌, [], length, vec_capacity}
-use Rattle.nq_listing.specs.Reading.{entries_at}
-use Rattle.nq_listing.proofs.reading.entries.Given as goal
+use Rattle.nq_directory.specs.Reading.{entries_at}
+use Rattle.nq_directory.proofs.listing.reading.entries.Given as goal
 
 abbrev pub invariant-loop-place : goal.invariant-loop-place
 invariant-loop-place l = record {

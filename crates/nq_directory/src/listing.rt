@@ -5,7 +5,6 @@
 //!
 //! Each message has one spelling with AUTH_NULL (`specs/Messages.antt`). What any bytes are as such a message, says
 //! `specs/Reading.antt`.
-#![tactic(auto)]
 
 mod laws;
 mod messages;

@@ -3,8 +3,8 @@ use Rattle.std.proofs.Common.{◌≡◌, ◌<◌, ◌≤◌, ℕ, ◌+◌, List,
 use Rattle.std.proofs.lemmas.List.{drop_all}
 use Rattle.nq_directory.specs.declared.FileName.{FileName}
 use Rattle.nq_wire.specs.declared.Garbage.{Garbage}
-use Rattle.nq_listing.specs.Messages.{entry_bytes, entries_bytes}
-use Rattle.nq_listing.specs.Reading.{entry_at, entries_at}
+use Rattle.nq_directory.specs.Messages.{entry_bytes, entries_bytes}
+use Rattle.nq_directory.specs.Reading.{entry_at, entries_at}
 
 -- one is read, and so many are left
 pub entries_more : (done : List FileName) (n m : ℕ) (bytes : List ℕ) (e : FileName) (rest : List ℕ) → n ≡ m + 1 → entry_at bytes ≡ Ok (e, rest) → entries_at done n bytes ≡ entries_at (done ++ e ∷ []) m rest
