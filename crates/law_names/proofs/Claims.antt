@@ -18,8 +18,8 @@ use Rattle.nq_model.specs.Kept.{File, Kept, host_row}
 use Rattle.nq_model.specs.LeaseInterval.{cover_end}
 use Rattle.nq_model.specs.Server.{Phase, serving, recovering}
 use Rattle.nq_model.specs.Table.{tag_below}
-use Rattle.nq_name_cache.specs.Asking.{is_reading}
-use Rattle.nq_name_cache.specs.Names.{DirList, Names, Request}
+use Rattle.nq_directory.specs.Asking.{is_reading}
+use Rattle.nq_directory.specs.NameCacheNames.{DirList, Names, Request}
 use Rattle.nq_name_server.specs.Served.{Served, names_behind}
 use Rattle.nq_name_server.specs.Outer.{Outer}
 use Rattle.walk_steps.proofs.Packets.{In}

@@ -15,7 +15,7 @@ use Rattle.nq_wire.specs.Parts.{IsGrant, IsTag}
 use Rattle.nq_directory.specs.Reading.{dir_evicted_in, dir_vacated_in, read_dir_in, told_in}
 use Rattle.nq_model.specs.Kept.{File, Kept, find_file}
 use Rattle.nq_model.specs.Message.{call}
-use Rattle.nq_name_cache.specs.Asking.{is_reading}
+use Rattle.nq_directory.specs.Asking.{is_reading}
 use Rattle.nq_name_server.specs.Outside.{changes_as}
 
 -- the numbers of a READDIRLOOK but its term are words

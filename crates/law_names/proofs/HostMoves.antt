@@ -14,8 +14,8 @@ use Rattle.nq_model.specs.Hear.{breaks}
 use Rattle.nq_model.specs.Kept.{File, find_name}
 use Rattle.nq_model.specs.Profile.{same_bytes}
 use Rattle.nq_model.specs.Table.{tag_below}
-use Rattle.nq_name_cache.specs.Asking.{goes_on, is_reading, last_id}
-use Rattle.nq_name_cache.specs.Names.{DirList, Names, Request, before_call, forgets, forgets_all, other_request}
+use Rattle.nq_directory.specs.Asking.{goes_on, is_reading, last_id}
+use Rattle.nq_directory.specs.NameCacheNames.{DirList, Names, Request, before_call, forgets, forgets_all, other_request}
 use Rattle.walk_steps.proofs.ClientMoves.{some-same, none-some}
 use Rattle.walk_steps.proofs.Packets.{In}
 use Rattle.law_names.proofs.Chains.{Chained}

@@ -12,7 +12,7 @@ use Rattle.nq_directory.specs.Reading.{read_dir_in}
 use Rattle.nq_model.specs.Client.{Client, UnderWay}
 use Rattle.nq_model.specs.Stepped.{most_events}
 use Rattle.nq_model.specs.World.{World}
-use Rattle.nq_name_cache.specs.Names.{DirList, Names, Request, first_number, number_after}
+use Rattle.nq_directory.specs.NameCacheNames.{DirList, Names, Request, first_number, number_after}
 use Rattle.nq_name_server.specs.Served.{Served}
 use Rattle.nq_name_server.specs.Outer.{Outer}
 use Rattle.nq_name_server.specs.Outside.{beside}

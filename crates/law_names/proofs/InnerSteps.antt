@@ -8,7 +8,7 @@ use Rattle.nq_directory.specs.declared.listing.ReadDir.{ReadDir}
 use Rattle.nq_directory.specs.Messages.{Answer}
 use Rattle.nq_model.specs.Client.{Client, UnderWay}
 use Rattle.nq_model.specs.World.{World}
-use Rattle.nq_name_cache.specs.Names.{Names, first_number}
+use Rattle.nq_directory.specs.NameCacheNames.{Names, first_number}
 use Rattle.nq_name_server.specs.Served.{Served}
 use Rattle.nq_name_server.specs.Outer.{Outer}
 use Rattle.walk_steps.proofs.ClientMoves.{none-some, some-same}

@@ -19,8 +19,8 @@ use Rattle.nq_model.specs.Profile.{same_bytes}
 use Rattle.nq_model.specs.Server.{Phase, serving, recovering}
 use Rattle.nq_model.specs.World.{World}
 use Rattle.nq_client_parts.specs.HoldingLeases.{passes}
-use Rattle.nq_name_cache.specs.declared.Found.{Found}
-use Rattle.nq_name_cache.specs.Names.{DirList, Names, Request, first_number, found_as, found_in, list_of}
+use Rattle.nq_directory.specs.declared.name_cache.Found.{Found}
+use Rattle.nq_directory.specs.NameCacheNames.{DirList, Names, Request, first_number, found_as, found_in, list_of}
 use Rattle.nq_name_server.specs.Served.{Served}
 use Rattle.nq_name_server.specs.Lasting.{IsCovered, IsLive, Lasts, id_of}
 use Rattle.nq_name_server.specs.Outer.{Outer, Outside}

@@ -17,7 +17,7 @@ use Rattle.nq_model.specs.Kept.{File, find_file}
 use Rattle.nq_model.specs.LeaseInterval.{claim_of, HasFitting}
 use Rattle.nq_model.specs.Profile.{skew, granted_term}
 use Rattle.nq_model.specs.Table.{Table, caches, tag_below, is_row_of, find_row, drop_row, put_row, with_rows, after_draw}
-use Rattle.nq_name_cache.specs.Asking.{is_reading}
+use Rattle.nq_directory.specs.Asking.{is_reading}
 use Rattle.nq_name_server.specs.Served.{Served, Leaf, most_directories, number_of}
 use Rattle.nq_name_server.specs.Serving.{Serves, ToHost, lists_for, tells, puts_off, notice_to, evicting, delays, answers, leased, own_again, for_asker, reads_numbered, reads_as, reads_dir}
 use Rattle.walk_steps.proofs.ClientMoves.{some-same, none-some}

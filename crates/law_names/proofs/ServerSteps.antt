@@ -24,8 +24,8 @@ use Rattle.nq_model.specs.Skew.{ticks_of}
 use Rattle.nq_model.specs.Stepped.{most_events}
 use Rattle.nq_model.specs.Table.{Table}
 use Rattle.nq_model.specs.World.{Head, World}
-use Rattle.nq_name_cache.specs.Asking.{is_reading}
-use Rattle.nq_name_cache.specs.Names.{Names, Request}
+use Rattle.nq_directory.specs.Asking.{is_reading}
+use Rattle.nq_directory.specs.NameCacheNames.{Names, Request}
 use Rattle.nq_name_server.specs.Served.{Leaf, Served, is_behind, leaf_behind, names_behind, names_of, number_of}
 use Rattle.nq_name_server.specs.Serving.{Serves, ToHost, gives_up, holds_as, holds_up, puts_off, reads_dir, vacates}
 use Rattle.nq_name_server.specs.Outer.{Outer}

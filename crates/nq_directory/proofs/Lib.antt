@@ -4,5 +4,7 @@ pub mod Called
 pub mod Dots
 pub mod Entries
 pub mod Halving
+pub mod Heard
 pub mod Order
+pub mod Pages
 pub mod Putting

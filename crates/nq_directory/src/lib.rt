@@ -5,6 +5,7 @@
 mod fronts;
 mod listed;
 pub mod listing;
+pub mod name_cache;
 mod names;
 mod prefix;
 

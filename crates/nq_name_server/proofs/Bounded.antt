@@ -13,8 +13,8 @@ use Rattle.nq_model.specs.Kept.{host_row}
 use Rattle.nq_model.specs.Message.{Packet}
 use Rattle.nq_model.specs.Server.{Phase, serving, recovering}
 use Rattle.nq_model.specs.World.{Head, World, start, step}
-use Rattle.nq_name_cache.specs.Asking.{Asks, heard, lists_dir}
-use Rattle.nq_name_cache.specs.Names.{Names}
+use Rattle.nq_directory.specs.Asking.{Asks, heard, lists_dir}
+use Rattle.nq_directory.specs.NameCacheNames.{Names}
 use Rattle.nq_name_server.specs.Served.{leaf_behind}
 use Rattle.nq_name_server.specs.Serving.{Serves, ToHost, holds_up, puts_off, reads_dir, vacates}
 use Rattle.nq_name_server.specs.declared.run.event.NameEvent.{NameEvent}

@@ -5,7 +5,7 @@ ghost use Rattle.nq_naming.specs.Finding.{find_line, found_word};
 ghost use Rattle.nq_words.specs.Words.{spaced};
 
 use nq_base::{Host, Name, NoMemory};
-use nq_name_cache::Found;
+use nq_directory::name_cache::Found;
 use nq_words::{push_bytes, push_command, push_numbers, push_word};
 
 /// Appends the line of a find behind so many inner events.

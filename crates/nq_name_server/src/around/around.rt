@@ -11,7 +11,7 @@ ghost use Rattle.nq_link.specs.Packets.{Datagram};
 use crate::around::packets::{Travelling, inner_at, push};
 use crate::server::NameServer;
 use nq_base::{Host, Name, NoMemory, Party, Ticks};
-use nq_name_cache::{Found, NameCache};
+use nq_directory::name_cache::{Found, NameCache};
 use nq_link::net::Packets;
 use nq_wire::Outbox;
 use std::alloc::Global;

@@ -7,7 +7,7 @@ use Rattle.nq_client_parts.specs.declared.holding.taken.Take.TheVariants.{Same, 
 use Rattle.nq_directory.specs.declared.FileName.{FileName}
 use Rattle.nq_model.specs.Client.{Lease}
 use Rattle.nq_model.specs.Hear.{breaks}
-use Rattle.nq_name_cache.specs.Asking.{last_id}
+use Rattle.nq_directory.specs.Asking.{last_id}
 
 -- a chain is broken where the grant breaks it
 pub broken_breaks : (g : Grant) (l : Option Lease) → is_broken (taking g l) ≡ breaks g l

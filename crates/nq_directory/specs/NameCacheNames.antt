@@ -8,7 +8,7 @@ use Rattle.nq_directory.specs.Names.{named}
 use Rattle.nq_directory.specs.Prefix.{directory}
 use Rattle.nq_model.specs.Client.{Lease, is_live}
 use Rattle.nq_model.specs.Profile.{same_bytes, xid_end}
-use Rattle.nq_name_cache.specs.declared.found.Found.{Found}
+use Rattle.nq_directory.specs.declared.name_cache.found.Found.{Found}
 
 -- the names of a directory: its prefix, the lease under which they are held, and the files with their names, in order of the names
 pub record DirList : Type 0 where

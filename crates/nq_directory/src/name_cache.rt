@@ -3,7 +3,6 @@
 //! A [`NameCache`] asks for a list page by page, gives a list up when the server wants its lease back, and forgets the lists that
 //! calls of its own host are about to change. It stands beside the client and changes nothing of it. What it does is in the
 //! definitions: `specs/Names.antt`, and `specs/Asking.antt` for what it makes of datagrams.
-#![tactic(auto)]
 
 mod asking;
 mod cache;

@@ -7,13 +7,13 @@ ghost use Rattle.nq_client_parts.specs.Takes.{is_broken};
 ghost use Rattle.nq_model.specs.Client.{is_live};
 ghost use Rattle.nq_model.specs.Profile.{same_bytes};
 ghost use Rattle.nq_model.specs.Table.{tag_below};
-ghost use Rattle.nq_name_cache.specs.Asking.{goes_on, is_later, is_reading, with_page};
-ghost use Rattle.nq_name_cache.specs.Names.{empty_list, found_as, list_of, other_lists};
+ghost use Rattle.nq_directory.specs.Asking.{goes_on, is_later, is_reading, with_page};
+ghost use Rattle.nq_directory.specs.NameCacheNames.{empty_list, found_as, list_of, other_lists};
 
-use crate::found::Found;
+use crate::name_cache::found::Found;
 use nq_base::{FileId, Grant, Mode, Name, NoMemory, Tag, Ticks};
 use nq_client_parts::holding::{Held, Take, Taken};
-use nq_directory::{DirNames, FileName, Prefix};
+use crate::{DirNames, FileName, Prefix};
 use std::alloc::Global;
 use std::marker::Model;
 use std::mem;
@@ -28,7 +28,7 @@ pub(crate) struct Listed {
 
 impl Model for Listed {
     ghost use Rattle.nq_client_parts.specs.HoldingLeases.{lease_of};
-    ghost use Rattle.nq_name_cache.specs.Names.{DirList};
+    ghost use Rattle.nq_directory.specs.NameCacheNames.{DirList};
 
     ghost Value = { DirList };
 

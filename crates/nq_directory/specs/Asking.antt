@@ -14,7 +14,7 @@ use Rattle.nq_model.specs.Client.{Lease}
 use Rattle.nq_model.specs.Hear.{breaks, granted_lease}
 use Rattle.nq_model.specs.Profile.{same_bytes}
 use Rattle.nq_model.specs.Table.{same_who, tag_below}
-use Rattle.nq_name_cache.specs.Names.{DirList, Request, Names, most_lists, empty_list, number_after, list_of, other_lists, forgets}
+use Rattle.nq_directory.specs.NameCacheNames.{DirList, Request, Names, most_lists, empty_list, number_after, list_of, other_lists, forgets}
 
 -- what a host keeps then, and the bytes that it sends, if any
 pub record Asks : Type 0 where

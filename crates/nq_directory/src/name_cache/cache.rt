@@ -2,14 +2,14 @@
 
 ghost use Rattle.std.specs.Prelude.{◌≡◌, ◌<◌, ◌^◌, [], None, Some, if◌then◌else◌, IfOk, OnErr};
 ghost use Rattle.nq_directory.specs.Prefix.{directory};
-ghost use Rattle.nq_name_cache.specs.Asking.{asks_behind, cleared, request_of};
-ghost use Rattle.nq_name_cache.specs.Names.{before_call, empty_list, finds, forgets, forgets_all, new_names, number_after, other_request};
+ghost use Rattle.nq_directory.specs.Asking.{asks_behind, cleared, request_of};
+ghost use Rattle.nq_directory.specs.NameCacheNames.{before_call, empty_list, finds, forgets, forgets_all, new_names, number_after, other_request};
 
-use crate::found::Found;
-use crate::listed::{Listed, forget, list_of};
+use crate::name_cache::found::Found;
+use crate::name_cache::listed::{Listed, forget, list_of};
 use nq_base::{Call, FileId, Name, NoMemory, Ticks, Who};
-use nq_directory::{Prefix, directory_of};
-use nq_directory::listing::{ReadDir, read_dir_bytes};
+use crate::{Prefix, directory_of};
+use crate::listing::{ReadDir, read_dir_bytes};
 use std::alloc::Global;
 use std::marker::Model;
 
@@ -31,7 +31,7 @@ pub(crate) struct Asked {
 
 impl Model for Asked {
     ghost use Rattle.std.specs.Prelude.{◌<◌, ◌^◌};
-    ghost use Rattle.nq_name_cache.specs.Names.{Request};
+    ghost use Rattle.nq_directory.specs.NameCacheNames.{Request};
 
     ghost Value = { Request };
 
@@ -52,7 +52,7 @@ pub struct NameCache {
 }
 
 impl Model for NameCache {
-    ghost use Rattle.nq_name_cache.specs.Names.{Names};
+    ghost use Rattle.nq_directory.specs.NameCacheNames.{Names};
 
     ghost Value = { Names };
 

@@ -4,14 +4,14 @@ ghost use Rattle.std.specs.Prelude.{◌≡◌, ◌<◌, ◌≤◌, ◌^◌, ◌+
 ghost use Rattle.nq_directory.specs.Lent.{answer_of, answers_of, listing_of};
 ghost use Rattle.nq_directory.specs.Messages.{read_dir_bytes};
 ghost use Rattle.nq_directory.specs.Reading.{dir_evicted_in};
-ghost use Rattle.nq_name_cache.specs.Asking.{answer_in, evicted, gone_on, heard, is_later, last_id, lease_by, next_bytes, noticed, page_taken, takes_page, told};
-ghost use Rattle.nq_name_cache.specs.Names.{Request, list_of};
+ghost use Rattle.nq_directory.specs.Asking.{answer_in, evicted, gone_on, heard, is_later, last_id, lease_by, next_bytes, noticed, page_taken, takes_page, told};
+ghost use Rattle.nq_directory.specs.NameCacheNames.{Request, list_of};
 
-use crate::cache::{Asked, NameCache};
-use crate::listed::{Listed, list_of};
+use crate::name_cache::cache::{Asked, NameCache};
+use crate::name_cache::listed::{Listed, list_of};
 use nq_base::{FileId, Grant, NoMemory, Ticks};
-use nq_directory::FileName;
-use nq_directory::listing::{
+use crate::FileName;
+use crate::listing::{
     DirTag, Page, Told, dir_vacated_bytes, read_dir_bytes, read_dir_evicted, read_told,
 };
 use std::alloc::Global;

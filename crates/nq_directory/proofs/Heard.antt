@@ -4,8 +4,8 @@ use Rattle.nq_base.specs.declared.Grant.{Grant}
 use Rattle.nq_directory.specs.declared.FileName.{FileName}
 use Rattle.nq_directory.specs.Messages.{Answer}
 use Rattle.nq_directory.specs.Reading.{dir_evicted_in}
-use Rattle.nq_name_cache.specs.Asking.{Asks, answer_in, heard_as, heard_by, next_bytes, noticed, page_taken, takes_page, told}
-use Rattle.nq_name_cache.specs.Names.{Names, Request}
+use Rattle.nq_directory.specs.Asking.{Asks, answer_in, heard_as, heard_by, next_bytes, noticed, page_taken, takes_page, told}
+use Rattle.nq_directory.specs.NameCacheNames.{Names, Request}
 
 -- bytes that are no reply to the request under way may be a notice
 pub heard_notice : (n : Names) (asked : Option Request) (bytes : List ℕ) (term now : ℕ) → answer_in n asked bytes ≡ None → heard_as n asked bytes term now ≡ noticed n (dir_evicted_in bytes)
