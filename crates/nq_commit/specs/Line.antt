@@ -1,7 +1,7 @@
 -- The line of an offer.
 use Rattle.std.specs.Prelude.{ℕ, ◌-◌, List, Option, Some, None, codes, nat_lt, if◌then◌else◌}
 use Rattle.nq_script.specs.Reading.{after}
-use Rattle.nq_words.specs.Reading.{number_of}
+use Rattle.nq_script.specs.WordsReading.{number_of}
 
 -- the host that a word writes, below so many hosts
 abbrev pub host_of : (hosts : ℕ) → Option (List ℕ) → Option ℕ

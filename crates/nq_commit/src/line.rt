@@ -4,7 +4,7 @@ ghost use Rattle.std.specs.Prelude.{◌≡◌};
 ghost use Rattle.nq_commit.specs.Line.{stage_line};
 
 use nq_base::Host;
-use nq_words::number;
+use nq_script::words::number;
 
 /// The host of a line `stage H`, H below the number of hosts; None exactly where the line is not of that form.
 #[tactic(auto, unfolding(crate::specs::Line::stage_line))]

@@ -5,7 +5,7 @@ use Rattle.std.specs.List.{All}
 use Rattle.nq_base.specs.declared.Entry.{Entry}
 use Rattle.nq_base.specs.declared.Told.{Told}
 use Rattle.nq_journal.specs.Text.{Has}
-use Rattle.nq_words.specs.Forms.{HasTold}
+use Rattle.nq_script.specs.Forms.{HasTold}
 
 second_call : (told : Told) → HasTold 2 told
 second_call (Told.Resize file blocks) = refl

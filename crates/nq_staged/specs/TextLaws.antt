@@ -9,7 +9,7 @@ use Rattle.nq_script.proofs.Numbers.{number-found}
 use Rattle.nq_script.specs.Reading.{after}
 use Rattle.nq_staged.specs.Text.{IsOfHost, offer_by, offer_of}
 use Rattle.nq_staged.specs.declared.offer.Offer.{Offer}
-use Rattle.nq_words.specs.Reading.{number_of}
+use Rattle.nq_script.specs.WordsReading.{number_of}
 
 -- ---- the host of a line
 
