@@ -1,11 +1,11 @@
 //! The packets and the bars.
 
-use crate::chart::{Bar, Chart, Packet, Side, Tint};
-use crate::columns::Post;
-use crate::layout::Layout;
-use crate::pages::Page;
-use crate::parts::Part;
-use crate::style::{BAR, LANE};
+use crate::chart::chart::{Bar, Chart, Packet, Side, Tint};
+use crate::chart::columns::Post;
+use crate::chart::layout::Layout;
+use crate::chart::pages::Page;
+use crate::chart::parts::Part;
+use crate::chart::style::{BAR, LANE};
 
 /// How long the arrow of a lost packet is, in pixels.
 const LOST: u64 = 44;

@@ -1,5 +1,5 @@
 -- The text of a page.
-use Rattle.nq_chart.specs.declared.parts.Part.{Part}
+use Rattle.nq_record.specs.declared.chart.parts.Part.{Part}
 use Rattle.std.specs.Fmt.{decimal}
 use Rattle.std.specs.Prelude.{◌≡◌, ℕ, List, ◌++◌, ◌∷◌, [], codes, Option, Some, None, ◌==◌, if◌then◌else◌}
 

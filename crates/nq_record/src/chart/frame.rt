@@ -1,12 +1,12 @@
 //! What stands around the rows.
 
-use crate::chart::Chart;
-use crate::columns::edge;
-use crate::layout::Layout;
-use crate::legend::{ENTRIES, Entry, Place, SAMPLE, Sample};
-use crate::pages::Page;
-use crate::parts::Part;
-use crate::style::{CLOCK, HEADS, STYLE};
+use crate::chart::chart::Chart;
+use crate::chart::columns::edge;
+use crate::chart::layout::Layout;
+use crate::chart::legend::{ENTRIES, Entry, Place, SAMPLE, Sample};
+use crate::chart::pages::Page;
+use crate::chart::parts::Part;
+use crate::chart::style::{CLOCK, HEADS, STYLE};
 
 /// Begins the page.
 pub(crate) fn open(page: &mut Page, chart: &Chart, layout: &Layout) {

@@ -1,9 +1,9 @@
 //! Where the parties stand.
 
-use crate::NoMemory;
-use crate::bars::Lanes;
-use crate::chart::{Chart, Side};
-use crate::style::{CLOCK, LANE, LETTER};
+use crate::chart::NoMemory;
+use crate::chart::bars::Lanes;
+use crate::chart::chart::{Chart, Side};
+use crate::chart::style::{CLOCK, LANE, LETTER};
 use std::alloc::Global;
 
 /// How far from its line the first thing beside a party stands, in pixels.

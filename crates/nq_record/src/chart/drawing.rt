@@ -1,15 +1,15 @@
 //! Charts as pages.
 
-ghost use Rattle.nq_chart.specs.Page.{Extends};
+ghost use Rattle.nq_record.specs.Page.{Extends};
 
-use crate::NoMemory;
-use crate::chart::Chart;
-use crate::frame::{legend, open, parties};
-use crate::layout::Layout;
-use crate::notes::{names, notes};
-use crate::packets::{bars, packets};
-use crate::pages::Page;
-use crate::parts::Part;
+use crate::chart::NoMemory;
+use crate::chart::chart::Chart;
+use crate::chart::frame::{legend, open, parties};
+use crate::chart::layout::Layout;
+use crate::chart::notes::{names, notes};
+use crate::chart::packets::{bars, packets};
+use crate::chart::pages::Page;
+use crate::chart::parts::Part;
 use std::alloc::Global;
 
 /// Appends a chart as one file of SVG (SVG 2), which needs no other file. What stood in the page before stays in front of it.

@@ -2,9 +2,9 @@
 
 ghost use Rattle.std.specs.Prelude.{◌≡◌, ◌++◌, OnOk, option_map};
 ghost use Rattle.std.specs.List.{flat_map};
-ghost use Rattle.nq_chart.specs.Page.{entity_or, escaped_byte};
+ghost use Rattle.nq_record.specs.Page.{entity_or, escaped_byte};
 
-use crate::NoMemory;
+use crate::chart::NoMemory;
 
 /// Appends text so that a reader of XML reads it again, whatever stands in it: each `&`, `<`, `>` and `"` is written by its name
 /// (XML 1.0 section 4.6).

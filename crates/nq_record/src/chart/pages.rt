@@ -2,11 +2,11 @@
 
 ghost use Rattle.std.specs.Prelude.{◌≡◌, ◌++◌, ◌⊎◌, [], IfSome, None, OnErr, OnOk, Some, length};
 ghost use Rattle.std.specs.List.{flat_map};
-ghost use Rattle.nq_chart.specs.Page.{Closes, Extends, added, escaped_byte, spelled};
+ghost use Rattle.nq_record.specs.Page.{Closes, Extends, added, escaped_byte, spelled};
 
-use crate::NoMemory;
-use crate::parts::{Part, text_of};
-use crate::text::escape;
+use crate::chart::NoMemory;
+use crate::chart::parts::{Part, text_of};
+use crate::chart::text::escape;
 use std::alloc::Global;
 use std::marker::Model;
 

@@ -1,7 +1,7 @@
 //! Bars beside each other.
 
-use crate::NoMemory;
-use crate::chart::{Bar, Chart};
+use crate::chart::NoMemory;
+use crate::chart::chart::{Bar, Chart};
 use std::alloc::Global;
 
 /// A lane beside a party, in which bars stand one below the other.

@@ -1,11 +1,11 @@
 //! Where all stands.
 
-use crate::NoMemory;
-use crate::bars::Lanes;
-use crate::chart::Chart;
-use crate::columns::Posts;
-use crate::legend::Legend;
-use crate::rows::Steps;
+use crate::chart::NoMemory;
+use crate::chart::bars::Lanes;
+use crate::chart::chart::Chart;
+use crate::chart::columns::Posts;
+use crate::chart::legend::Legend;
+use crate::chart::rows::Steps;
 use std::alloc::Global;
 
 /// Where all of a chart stands on the page.

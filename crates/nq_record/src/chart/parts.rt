@@ -3,9 +3,9 @@
 ghost use Rattle.std.specs.Fmt.{decimal};
 ghost use Rattle.std.specs.Prelude.{◌≡◌, ◌++◌, IfOk, OnOk, string_bytes};
 ghost use Rattle.std.specs.List.{flat_map};
-ghost use Rattle.nq_chart.specs.Page.{spelled};
+ghost use Rattle.nq_record.specs.Page.{spelled};
 
-use crate::NoMemory;
+use crate::chart::NoMemory;
 use std::alloc::Global;
 
 /// A part of a text.

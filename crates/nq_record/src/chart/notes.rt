@@ -1,13 +1,13 @@
 //! The moments: their names, clocks and notes.
 
-use crate::chart::{Chart, Note, Row, Side, Sign};
-use crate::columns::Post;
-use crate::frame::clock_at;
-use crate::layout::Layout;
-use crate::pages::Page;
-use crate::parts::Part;
-use crate::rows::Step;
-use crate::style::LINE;
+use crate::chart::chart::{Chart, Note, Row, Side, Sign};
+use crate::chart::columns::Post;
+use crate::chart::frame::clock_at;
+use crate::chart::layout::Layout;
+use crate::chart::pages::Page;
+use crate::chart::parts::Part;
+use crate::chart::rows::Step;
+use crate::chart::style::LINE;
 
 /// The class of a note.
 fn class(sign: Sign) -> &'static str {

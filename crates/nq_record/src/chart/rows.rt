@@ -1,8 +1,8 @@
 //! Where the moments stand.
 
-use crate::NoMemory;
-use crate::chart::{Chart, Row, Side};
-use crate::style::LINE;
+use crate::chart::NoMemory;
+use crate::chart::chart::{Chart, Row, Side};
+use crate::chart::style::LINE;
 use std::alloc::Global;
 
 /// A moment on the page. All is in pixels from the upper edge.

@@ -1,7 +1,7 @@
 //! What the colours and arrows mean.
 
-use crate::NoMemory;
-use crate::style::LETTER;
+use crate::chart::NoMemory;
+use crate::chart::style::LETTER;
 use std::alloc::Global;
 
 /// What a sample in the legend shows.

@@ -2,7 +2,6 @@
 //!
 //! A [`Chart`] says what stands in the chart, in rows and columns. `draw` gives each of these its place on the page, so that
 //! nothing lies over anything else, and appends the page to a text.
-#![tactic(auto)]
 
 mod bars;
 mod chart;
