@@ -2,7 +2,6 @@ mod Appending
 mod Endings
 mod Joining
 pub mod AsidesOnward
-pub mod Begun
 pub mod Dropping
 pub mod Ending
 pub mod FirstRuns

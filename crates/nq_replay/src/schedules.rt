@@ -17,7 +17,7 @@ ghost use Rattle.nq_world.specs.Playing.{CountsFaults, HasSettings, Plays};
 ghost use Rattle.nq_world.specs.declared.stepped.Stepped.{Stepped};
 
 use crate::finished::Finished;
-use crate::play::{Played, begin, play};
+use crate::play::{Played, play};
 use crate::printing::{Bound, limit_text, put_line, script_text, skew_text};
 use nq_base::ending::Ending;
 use nq_base::{Journal, SkewBroken};
@@ -25,7 +25,7 @@ use nq_io::Sink;
 use nq_journal::{Printed, is_in, print};
 use nq_keeper::Keeper;
 use nq_script::Script;
-use nq_world::{Limit, MOST_EVENTS, NewFault, Stepped, World};
+use nq_world::{Limit, MOST_EVENTS, NewFault, Stepped, World, begin};
 use std::alloc::Global;
 
 /// Plays a schedule that was read over a keeper that keeps nothing yet, and prints the journal of its run in the version of the

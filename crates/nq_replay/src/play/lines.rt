@@ -106,7 +106,7 @@ fn stopped(first: u32, place: usize, answer: Stepped) -> Played
 
 /// Plays lines over a world of so many hosts, in which nothing was played before. The first line has this number in its text, and
 /// a flow may have so many deliveries.
-pub fn play<K: Keeper>(
+pub(crate) fn play<K: Keeper>(
     alloc: Global,
     world: &mut World<K>,
     hosts: u32,
