@@ -30,9 +30,9 @@ use nq_base::ending::Ending;
 use nq_io::{Sink, Source, Whole, read_all};
 use nq_keeper::{Keeper, ListKeeper};
 use nq_names::NameWorld;
-use nq_replay::asides::{MixedScript, print_parts, read_script};
+use nq_replay::asides::{MixedScript, read_script};
 use nq_replay::play::Played;
-use nq_replay::{schedule_text, tell_over, tell_script, tell_stop};
+use nq_replay::{print_parts, schedule_text, tell_over, tell_script, tell_stop};
 use nq_script::{Head, ScriptFault};
 use nq_world::{MOST_EVENTS, NewFault, begin_surely};
 use std::alloc::Global;
@@ -228,5 +228,5 @@ fn print_run<L: Keeper, K: Sink>(
     let Ok(text) = schedule_text(alloc, head, world.ran()) else {
         return Ending::Memory;
     };
-    print_parts(alloc, &text, world.journal(), found, out)
+    print_parts(alloc, 2, &text, world.journal(), found, out)
 }

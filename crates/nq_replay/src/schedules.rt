@@ -22,7 +22,7 @@ use crate::printing::{Bound, limit_text, put_line, script_text, skew_text};
 use nq_base::ending::Ending;
 use nq_base::{Journal, SkewBroken};
 use nq_io::Sink;
-use nq_journal::{Printed, is_in, print};
+use nq_journal::{Printed, print};
 use nq_keeper::Keeper;
 use nq_script::Script;
 use nq_world::{Limit, MOST_EVENTS, NewFault, Stepped, World, begin};
@@ -162,24 +162,6 @@ fn print_entries<K: Sink>(alloc: Global, journal: &Journal, version: u32, out: &
         Printed::All => Ending::Done,
         Printed::Failed => Ending::WriteFault,
         Printed::Memory => Ending::Memory,
-    }
-}
-
-/// Prints a journal in a version. `Memory` is the answer too where the version has no spelling for one of its entries.
-pub(crate) fn print_journal<K: Sink>(
-    alloc: Global,
-    journal: &Journal,
-    version: u32,
-    out: &mut K,
-) -> Ending
-    requires { IsVersion version }
-    ensures { (entries : List Entry) → map plain journal.now.entries ≡ entries
-        → PrintsEntries result version entries (K.held out.old) (K.held out.new) (K.faults out.old) (K.faults out.new) }
-{
-    if is_in(journal, version) {
-        print_entries(alloc, journal, version, out)
-    } else {
-        Ending::Memory
     }
 }
 
