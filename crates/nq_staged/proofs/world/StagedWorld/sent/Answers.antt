@@ -11,3 +11,6 @@ returns-clause-packets g c = λ head events told plays.
 
 pub returns-clause-same : goal.returns-clause-same
 returns-clause-same g c = c.in_ok-settle.ensures.same
+
+pub returns-in_err-settle-clause-same : goal.returns-in_err-settle-clause-same
+returns-in_err-settle-clause-same g c = λ head events told plays. ((c.settle.ensures.same head events told plays).0, tt)
