@@ -16,9 +16,8 @@ use nq_base::{Entry, NoMemory};
 use nq_record::chart::draw;
 use nq_keeper::{Keeper, ListKeeper};
 use nq_record::{Record, picture, tell, why};
-use nq_replay::play::begin;
 use nq_script::{Script, ScriptFault, parse};
-use nq_world::{NewFault, World};
+use nq_world::{NewFault, World, begin};
 use std::alloc::Global;
 
 /// How a run is shown.

@@ -13,8 +13,8 @@ use nq_script::{Script, ScriptFault, parse, parse_head};
 use nq_script::words::cut;
 use std::alloc::Global;
 
-/// The version in which all is read and printed.
-pub const VERSION: u32 = 2;
+/// The version in which all is read.
+const VERSION: u32 = 2;
 
 /// A schedule with asides as its text gives it.
 #[derive(Drop)]
