@@ -7,7 +7,7 @@ ghost use Rattle.nq_staged.specs.TextLaws.{is-long, is-of-host};
 
 use nq_base::Host;
 use nq_replay::asides::AsideLine;
-use nq_words::number;
+use nq_script::words::number;
 
 /// A host's side offers a body: what a line `stage H` says.
 #[derive(Clone, Copy)]
