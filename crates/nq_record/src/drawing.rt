@@ -1,7 +1,5 @@
 //! A run as a chart.
 
-ghost use Rattle.std.specs.Prelude.{◌≡◌, ◌+◌, vec_len, IfOk};
-
 use crate::NoMemory;
 use crate::lists::Growing;
 use crate::picture_rows::{Rows, packet_words, rows_of};
@@ -48,7 +46,6 @@ pub fn picture(
     from: usize,
     to: usize,
 ) -> Result<Chart, NoMemory>
-    ensures { IfOk result (λ chart. vec_len chart.columns ≡ «record».now.hosts + 1) }
 {
     let columns = columns(alloc, record.hosts)?;
     let shown = rows_of(alloc, record, from, to)?;
@@ -65,16 +62,13 @@ pub fn picture(
 }
 
 /// The parties: the server stands between the hosts.
-fn columns(alloc: Global, hosts: u32) -> Result<Vec<Column>, NoMemory>
-    ensures { IfOk result (λ columns. vec_len columns ≡ hosts + 1) }
-{
-    let mut columns = Vec::new(alloc);
+fn columns(alloc: Global, hosts: u32) -> Result<Vec<Column>, NoMemory> {
+    let mut columns = Growing::new(alloc);
     let left = hosts_left(hosts);
-    for place in 0..hosts {
-        columns.push(column(alloc, hosts, &party_at(left, place))?)?;
+    for place in 0..hosts.saturating_add(1) {
+        columns.add(column(alloc, hosts, &party_at(left, place)));
     }
-    columns.push(column(alloc, hosts, &party_at(left, hosts))?)?;
-    Ok(columns)
+    columns.finish()
 }
 
 /// A party.
