@@ -1,14 +1,9 @@
 //! Looking at the run of a schedule.
 
-ghost use Rattle.std.specs.Prelude.{◌≡◌, ◌<◌, ◌^◌, List, Some, length};
+ghost use Rattle.std.specs.Prelude.{◌≡◌, ◌<◌, ◌^◌, Some, length};
 ghost use Rattle.nq_chart.specs.Page.{Extends};
 ghost use Rattle.nq_keeper.specs.StoredKeeper.{empty_kept};
-ghost use Rattle.nq_observe.specs.Looking.{ShowsRun};
-ghost use Rattle.nq_observe.specs.declared.looking.View.{View};
 ghost use Rattle.nq_replay.specs.Schedules.{IsReady};
-ghost use Rattle.nq_script.specs.Schedule.{SpellsSchedule};
-ghost use Rattle.nq_script.specs.declared.heads.Head.{Head};
-ghost use Rattle.nq_script.specs.declared.lines.Line.{Line};
 
 use crate::playing::play;
 use nq_base::{Entry, NoMemory};
@@ -48,8 +43,7 @@ pub enum Shown {
 /// Only want of memory. Then a front of what is to be shown was appended.
 pub fn look(alloc: Global, text: &[u8], view: View, page: &mut Vec<u8>) -> Result<Shown, NoMemory>
     requires { length text.now < 2 ^ 31 }
-    ensures extends { Extends page.old.items page.new.items }
-    ensures shows { (head : Head) (lines : List Line) → SpellsSchedule head lines text.now → ShowsRun result view }
+    ensures { Extends page.old.items page.new.items }
 {
     match parse(alloc, text) {
         Ok(script) => {
@@ -71,8 +65,7 @@ fn look_over<L: Keeper + Drop>(
 ) -> Result<Shown, NoMemory>
     requires ready { IsReady script.now }
     requires empty { L.content keeper ≡ Some empty_kept }
-    ensures extends { Extends page.old.items page.new.items }
-    ensures shows { ShowsRun result view }
+    ensures { Extends page.old.items page.new.items }
 {
     let mut world = match begin(alloc, &script.head, keeper) {
         Ok(world) => world,
@@ -93,8 +86,7 @@ fn show(
     view: View,
     page: &mut Vec<u8>,
 ) -> Result<Shown, NoMemory>
-    ensures extends { Extends page.old.items page.new.items }
-    ensures shows { ShowsRun result view }
+    ensures { Extends page.old.items page.new.items }
 {
     let record = seen?;
     match view {
@@ -120,8 +112,7 @@ fn show_why(
     line: usize,
     page: &mut Vec<u8>,
 ) -> Result<Shown, NoMemory>
-    ensures extends { Extends page.old.items page.new.items }
-    ensures shows { ShowsRun result (View.Why line) }
+    ensures { Extends page.old.items page.new.items }
 {
     match line.checked_sub(2) {
         Some(place) if place < entries.len() => {
