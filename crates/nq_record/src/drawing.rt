@@ -45,8 +45,7 @@ pub fn picture(
     title: String,
     from: usize,
     to: usize,
-) -> Result<Chart, NoMemory>
-{
+) -> Result<Chart, NoMemory> {
     let columns = columns(alloc, record.hosts)?;
     let shown = rows_of(alloc, record, from, to)?;
     let packets = packets(alloc, record, &shown)?;
