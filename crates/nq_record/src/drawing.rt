@@ -20,8 +20,17 @@ pub(crate) fn place_of(hosts: u32, party: Party) -> usize {
     let left = hosts_left(hosts);
     match party {
         Party::Server => left as usize,
-        Party::Client(host) if host.0 < left => host.0 as usize,
-        Party::Client(host) => (host.0 as usize).saturating_add(1),
+        Party::Client(host) => place_of_host(left, host.0),
+    }
+}
+
+/// The place of a host, where so many stand left of the server.
+fn place_of_host(left: u32, host: u32) -> usize {
+    let place = host as usize;
+    if host < left {
+        place
+    } else {
+        place.saturating_add(1)
     }
 }
 

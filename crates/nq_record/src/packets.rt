@@ -225,7 +225,7 @@ fn granted(alloc: Global, status: &str, rev: u64, grant: Option<Grant>) -> Resul
 }
 
 /// A status, a revision and a grant of so many ticks.
-#[tactic(auto, using(nq_chart::proofs::Joined::ended), unfolding(crate::specs::Words::with_grant))]
+#[tactic(auto, unfolding(crate::specs::Words::with_grant))]
 fn with_grant(
     alloc: Global,
     status: &str,
@@ -235,18 +235,8 @@ fn with_grant(
 ) -> Result<String, NoMemory>
     ensures { IfOk result (λ text. string_bytes text ≡ with_grant status.now rev mode term) }
 {
-    text_of(
-        alloc,
-        &[
-            Part::Text(status),
-            Part::Text(" rev "),
-            Part::Number(rev),
-            Part::Text(", grant "),
-            Part::Text(mode_word(mode)),
-            Part::Text(" "),
-            Part::Number(term as u64),
-        ],
-    )
+    let word = mode_word(mode);
+    Ok(format!(in alloc; "{status} rev {rev}, grant {word} {term}")?)
 }
 
 /// The reply to a GETLEASE.
