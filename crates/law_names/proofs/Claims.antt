@@ -9,17 +9,17 @@ use Rattle.nq_base.specs.declared.Tag.{Tag}
 use Rattle.nq_base.specs.declared.Who.{Who}
 use Rattle.nq_directory.specs.declared.FileName.{FileName}
 use Rattle.nq_directory.specs.Prefix.{directory}
-use Rattle.nq_listing.specs.declared.DirTag.{DirTag}
-use Rattle.nq_listing.specs.declared.ReadDir.{ReadDir}
-use Rattle.nq_listing.specs.Messages.{Answer, Listing, page, most_names}
-use Rattle.nq_listing.specs.Reading.{read_dir_in, dir_vacated_in, dir_evicted_in, told_in}
+use Rattle.nq_directory.specs.declared.listing.DirTag.{DirTag}
+use Rattle.nq_directory.specs.declared.listing.ReadDir.{ReadDir}
+use Rattle.nq_directory.specs.Messages.{Answer, Listing, page, most_names}
+use Rattle.nq_directory.specs.Reading.{read_dir_in, dir_vacated_in, dir_evicted_in, told_in}
 use Rattle.nq_model.specs.Client.{Lease}
 use Rattle.nq_model.specs.Kept.{File, Kept, host_row}
 use Rattle.nq_model.specs.LeaseInterval.{cover_end}
 use Rattle.nq_model.specs.Server.{Phase, serving, recovering}
 use Rattle.nq_model.specs.Table.{tag_below}
-use Rattle.nq_name_cache.specs.Asking.{is_reading}
-use Rattle.nq_name_cache.specs.Names.{DirList, Names, Request}
+use Rattle.nq_directory.specs.Asking.{is_reading}
+use Rattle.nq_directory.specs.NameCacheNames.{DirList, Names, Request}
 use Rattle.nq_name_server.specs.Served.{Served, names_behind}
 use Rattle.nq_name_server.specs.Outer.{Outer}
 use Rattle.walk_steps.proofs.Packets.{In}

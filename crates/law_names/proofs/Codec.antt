@@ -8,14 +8,14 @@ use Rattle.nq_base.specs.declared.Who.{Who}
 use Rattle.nq_datagrams.specs.Incoming.{datagram_in}
 use Rattle.nq_datagrams.specs.Messages.{bytes_of}
 use Rattle.nq_directory.specs.Prefix.{IsPrefix, directory}
-use Rattle.nq_listing.specs.declared.DirTag.{DirTag}
-use Rattle.nq_listing.specs.declared.ReadDir.{ReadDir}
-use Rattle.nq_listing.specs.Messages.{Answer, IsEntry, IsReadDir, Listing, page, wait, most_names, answer_bytes, dir_evicted_bytes, dir_vacated_bytes, read_dir_bytes}
+use Rattle.nq_directory.specs.declared.listing.DirTag.{DirTag}
+use Rattle.nq_directory.specs.declared.listing.ReadDir.{ReadDir}
+use Rattle.nq_directory.specs.Messages.{Answer, IsEntry, IsReadDir, Listing, page, wait, most_names, answer_bytes, dir_evicted_bytes, dir_vacated_bytes, read_dir_bytes}
 use Rattle.nq_wire.specs.Parts.{IsGrant, IsTag}
-use Rattle.nq_listing.specs.Reading.{dir_evicted_in, dir_vacated_in, read_dir_in, told_in}
+use Rattle.nq_directory.specs.Reading.{dir_evicted_in, dir_vacated_in, read_dir_in, told_in}
 use Rattle.nq_model.specs.Kept.{File, Kept, find_file}
 use Rattle.nq_model.specs.Message.{call}
-use Rattle.nq_name_cache.specs.Asking.{is_reading}
+use Rattle.nq_directory.specs.Asking.{is_reading}
 use Rattle.nq_name_server.specs.Outside.{changes_as}
 
 -- the numbers of a READDIRLOOK but its term are words

@@ -9,14 +9,14 @@ use Rattle.nq_datagrams.proofs.Readers.{server-reads-messages}
 use Rattle.nq_datagrams.specs.Incoming.{datagram_in}
 use Rattle.nq_datagrams.specs.Messages.{bytes_of}
 use Rattle.nq_directory.specs.Prefix.{directory}
-use Rattle.nq_listing.proofs.Again.{answers-are-read, evicted-are-read, read-dirs-are-read, vacated-are-read}
-use Rattle.nq_listing.specs.declared.DirTag.{DirTag}
-use Rattle.nq_listing.specs.declared.ReadDir.{ReadDir}
-use Rattle.nq_listing.specs.Messages.{Answer, IsAnswer, IsDirTag, IsReadDir, answer_bytes, dir_evicted, dir_evicted_bytes, dir_tag_arguments, dir_vacated, dir_vacated_bytes, front_bytes, head_of, page, read_dir, read_dir_arguments, read_dir_bytes, results, wait}
-use Rattle.nq_listing.specs.Reading.{call_as, call_by, call_in, dir_evicted_in, dir_tag_by, dir_vacated_in, read_dir_by, read_dir_in, results_by, results_in, results_of, told_at, told_by, told_for, told_in}
+use Rattle.nq_directory.proofs.Again.{answers-are-read, evicted-are-read, read-dirs-are-read, vacated-are-read}
+use Rattle.nq_directory.specs.declared.listing.DirTag.{DirTag}
+use Rattle.nq_directory.specs.declared.listing.ReadDir.{ReadDir}
+use Rattle.nq_directory.specs.Messages.{Answer, IsAnswer, IsDirTag, IsReadDir, answer_bytes, dir_evicted, dir_evicted_bytes, dir_tag_arguments, dir_vacated, dir_vacated_bytes, front_bytes, head_of, page, read_dir, read_dir_arguments, read_dir_bytes, results, wait}
+use Rattle.nq_directory.specs.Reading.{call_as, call_by, call_in, dir_evicted_in, dir_tag_by, dir_vacated_in, read_dir_by, read_dir_in, results_by, results_in, results_of, told_at, told_by, told_for, told_in}
 use Rattle.nq_model.specs.Kept.{File, Kept, find_file}
 use Rattle.nq_model.specs.Message.{call, request}
-use Rattle.nq_name_cache.specs.Asking.{is_reading}
+use Rattle.nq_directory.specs.Asking.{is_reading}
 use Rattle.nq_name_server.specs.Outside.{Changes, changes_as, changes_of, own_changes}
 use Rattle.nq_rpc.proofs.Messages.{message_again, null_fits}
 use Rattle.nq_rpc.specs.Message.{call_with, null, numbers, reply_with, spelling}

@@ -10,7 +10,7 @@ use Rattle.nq_model.specs.ServerStep.{boot}
 use Rattle.nq_model.specs.Skew.{IsWithinSkew}
 use Rattle.nq_model.specs.Table.{empty_table}
 use Rattle.nq_model.specs.World.{Head, first_clients, start}
-use Rattle.nq_name_cache.specs.Names.{Names, first_number, new_names}
+use Rattle.nq_directory.specs.NameCacheNames.{Names, first_number, new_names}
 use Rattle.nq_name_server.specs.Served.{Served}
 use Rattle.nq_name_server.proofs.Inner.{core-listing, delivery-cases, inner-ran, runs-inside}
 use Rattle.nq_name_server.specs.declared.run.event.NameEvent.{NameEvent}

@@ -12,7 +12,7 @@ use Rattle.nq_model.specs.ClientStep.{client_call, client_tick, fresh_client, ne
 use Rattle.nq_model.specs.Hear.{hear}
 use Rattle.nq_model.specs.Message.{Packet}
 use Rattle.nq_model.specs.World.{Head, World, after_client, after_hearing, at_client, deliver, deliver_to, deliver_to_client, step}
-use Rattle.nq_name_cache.specs.Names.{Names, before_call, new_names}
+use Rattle.nq_directory.specs.NameCacheNames.{Names, before_call, new_names}
 use Rattle.nq_name_server.specs.Served.{Served}
 use Rattle.nq_name_server.specs.Outer.{Outer}
 use Rattle.nq_name_server.specs.Outside.{at_side}

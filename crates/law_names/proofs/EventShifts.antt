@@ -19,7 +19,7 @@ use Rattle.nq_model.specs.Server.{serving, Server, ServerStep}
 use Rattle.nq_model.specs.ServerStep.{receive}
 use Rattle.nq_model.specs.Skew.{ticks_of}
 use Rattle.nq_model.specs.World.{Head, World, from_host, sending_host}
-use Rattle.nq_name_cache.specs.Names.{Names}
+use Rattle.nq_directory.specs.NameCacheNames.{Names}
 use Rattle.nq_name_server.specs.Served.{Served}
 use Rattle.nq_name_server.specs.Outer.{Outer}
 use Rattle.walk_steps.proofs.ClientFacts.{fits_job}

@@ -16,7 +16,7 @@ use Rattle.nq_model.specs.ServerStep.{boot, crash, receive}
 use Rattle.nq_model.specs.Skew.{ticks_of}
 use Rattle.nq_model.specs.Table.{empty_table}
 use Rattle.nq_model.specs.World.{Head, World, after_server, sending_host, step}
-use Rattle.nq_name_cache.specs.Names.{Names, new_names}
+use Rattle.nq_directory.specs.NameCacheNames.{Names, new_names}
 use Rattle.nq_name_server.specs.Served.{Served}
 use Rattle.nq_name_server.specs.Outer.{Outer, of_boot}
 use Rattle.nq_name_server.specs.Outside.{new_side}

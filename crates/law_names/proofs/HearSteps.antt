@@ -8,19 +8,19 @@ use Rattle.nq_base.specs.declared.Grant.{Grant}
 use Rattle.nq_base.specs.declared.Party.{Party}
 use Rattle.nq_directory.specs.declared.FileName.{FileName}
 use Rattle.nq_directory.specs.Prefix.{directory}
-use Rattle.nq_listing.specs.declared.DirTag.{DirTag}
-use Rattle.nq_listing.specs.declared.ReadDir.{ReadDir}
-use Rattle.nq_listing.specs.Messages.{Answer, IsEntry, Listing, page, wait, dir_vacated_bytes}
+use Rattle.nq_directory.specs.declared.listing.DirTag.{DirTag}
+use Rattle.nq_directory.specs.declared.listing.ReadDir.{ReadDir}
+use Rattle.nq_directory.specs.Messages.{Answer, IsEntry, Listing, page, wait, dir_vacated_bytes}
 use Rattle.nq_wire.specs.Parts.{IsTag}
-use Rattle.nq_listing.specs.Reading.{dir_evicted_in, dir_vacated_in, read_dir_in, told_in}
+use Rattle.nq_directory.specs.Reading.{dir_evicted_in, dir_vacated_in, read_dir_in, told_in}
 use Rattle.nq_model.specs.Client.{UnderWay}
 use Rattle.nq_model.specs.Hear.{granted_lease}
 use Rattle.nq_model.specs.Profile.{same_bytes}
 use Rattle.nq_model.specs.Stepped.{most_events}
 use Rattle.nq_model.specs.Table.{same_who}
 use Rattle.nq_model.specs.World.{World}
-use Rattle.nq_name_cache.specs.Asking.{Asks, asks_behind, cleared, evicted, gives_up, goes_on, grown, heard, heard_as, heard_by, is_later, last_id, lease_by, lists_dir, noticed, request_of, silent, takes_page, told, vacated_of, with_page, with_room}
-use Rattle.nq_name_cache.specs.Names.{DirList, Names, Request, empty_list, forgets, list_of, most_lists, number_after, other_lists}
+use Rattle.nq_directory.specs.Asking.{Asks, asks_behind, cleared, evicted, gives_up, goes_on, grown, heard, heard_as, heard_by, is_later, last_id, lease_by, lists_dir, noticed, request_of, silent, takes_page, told, vacated_of, with_page, with_room}
+use Rattle.nq_directory.specs.NameCacheNames.{DirList, Names, Request, empty_list, forgets, list_of, most_lists, number_after, other_lists}
 use Rattle.nq_name_server.specs.Served.{Served}
 use Rattle.nq_name_server.specs.Outer.{Outer}
 use Rattle.nq_name_server.specs.Outside.{beside, is_change, is_changing}

@@ -5,14 +5,14 @@ use Rattle.nq_base.specs.declared.Event.{Event}
 use Rattle.nq_base.specs.declared.Party.{Party}
 use Rattle.nq_base.specs.declared.Tag.{Tag}
 use Rattle.nq_base.specs.declared.Who.{Who}
-use Rattle.nq_listing.specs.declared.DirTag.{DirTag}
-use Rattle.nq_listing.specs.declared.ReadDir.{ReadDir}
-use Rattle.nq_listing.specs.Messages.{Answer, page, read_dir_bytes}
-use Rattle.nq_listing.specs.Reading.{read_dir_in}
+use Rattle.nq_directory.specs.declared.listing.DirTag.{DirTag}
+use Rattle.nq_directory.specs.declared.listing.ReadDir.{ReadDir}
+use Rattle.nq_directory.specs.Messages.{Answer, page, read_dir_bytes}
+use Rattle.nq_directory.specs.Reading.{read_dir_in}
 use Rattle.nq_model.specs.Client.{Client, UnderWay}
 use Rattle.nq_model.specs.Stepped.{most_events}
 use Rattle.nq_model.specs.World.{World}
-use Rattle.nq_name_cache.specs.Names.{DirList, Names, Request, first_number, number_after}
+use Rattle.nq_directory.specs.NameCacheNames.{DirList, Names, Request, first_number, number_after}
 use Rattle.nq_name_server.specs.Served.{Served}
 use Rattle.nq_name_server.specs.Outer.{Outer}
 use Rattle.nq_name_server.specs.Outside.{beside}

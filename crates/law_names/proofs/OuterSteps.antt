@@ -12,10 +12,10 @@ use Rattle.nq_base.specs.declared.Who.{Who}
 use Rattle.nq_datagrams.specs.Incoming.{datagram_in}
 use Rattle.nq_datagrams.specs.Messages.{bytes_of}
 use Rattle.nq_directory.specs.Prefix.{IsPrefix, directory}
-use Rattle.nq_listing.specs.declared.DirTag.{DirTag}
-use Rattle.nq_listing.specs.declared.ReadDir.{ReadDir}
-use Rattle.nq_listing.specs.Messages.{IsReadDir}
-use Rattle.nq_listing.specs.Reading.{dir_vacated_in, read_dir_in}
+use Rattle.nq_directory.specs.declared.listing.DirTag.{DirTag}
+use Rattle.nq_directory.specs.declared.listing.ReadDir.{ReadDir}
+use Rattle.nq_directory.specs.Messages.{IsReadDir}
+use Rattle.nq_directory.specs.Reading.{dir_vacated_in, read_dir_in}
 use Rattle.law_bounds.specs.Within.{CarriesText}
 use Rattle.law_bounds.proofs.OneHost.{of-one-host}
 use Rattle.nq_model.specs.Change.{IsFileWithin}
@@ -26,8 +26,8 @@ use Rattle.nq_model.specs.Profile.{most_ids, same_bytes}
 use Rattle.nq_model.specs.Server.{Phase, serving, recovering}
 use Rattle.nq_model.specs.Stepped.{most_events}
 use Rattle.nq_model.specs.World.{Head, sending_host, step}
-use Rattle.nq_name_cache.specs.Asking.{Asks, heard, lists_dir}
-use Rattle.nq_name_cache.specs.Names.{Names, before_call}
+use Rattle.nq_directory.specs.Asking.{Asks, heard, lists_dir}
+use Rattle.nq_directory.specs.NameCacheNames.{Names, before_call}
 use Rattle.nq_name_server.specs.Served.{Served, leaf_behind}
 use Rattle.nq_name_server.specs.Serving.{Serves, ToHost, holds_up, puts_off, reads_dir, vacates}
 use Rattle.nq_name_server.proofs.Inner.{inner-ran}

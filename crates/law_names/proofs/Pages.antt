@@ -14,7 +14,7 @@ use Rattle.nq_model.proofs.Finding.{decided}
 use Rattle.nq_model.specs.Change.{AreApart}
 use Rattle.nq_model.specs.Kept.{File, find_name}
 use Rattle.nq_model.specs.Profile.{same_bytes}
-use Rattle.nq_name_cache.specs.Asking.{last_id}
+use Rattle.nq_directory.specs.Asking.{last_id}
 use Rattle.nq_name_server.specs.Served.{is_behind, names_of, names_behind}
 use Rattle.nq_name_server.specs.Lasting.{id_of}
 

@@ -5,15 +5,15 @@ use Rattle.nq_base.specs.declared.Event.{Event}
 use Rattle.nq_base.specs.declared.Grant.{Grant}
 use Rattle.nq_base.specs.declared.Party.{Party}
 use Rattle.nq_base.specs.declared.Tag.{Tag}
-use Rattle.nq_listing.specs.declared.DirTag.{DirTag}
-use Rattle.nq_listing.specs.declared.ReadDir.{ReadDir}
-use Rattle.nq_listing.specs.Messages.{Answer, Listing, page}
+use Rattle.nq_directory.specs.declared.listing.DirTag.{DirTag}
+use Rattle.nq_directory.specs.declared.listing.ReadDir.{ReadDir}
+use Rattle.nq_directory.specs.Messages.{Answer, Listing, page}
 use Rattle.nq_model.specs.Kept.{host_row}
 use Rattle.nq_model.specs.LeaseInterval.{cover_end}
 use Rattle.nq_model.specs.Table.{tag_below}
 use Rattle.nq_model.specs.World.{World}
-use Rattle.nq_name_cache.specs.Asking.{is_reading}
-use Rattle.nq_name_cache.specs.Names.{Names, Request}
+use Rattle.nq_directory.specs.Asking.{is_reading}
+use Rattle.nq_directory.specs.NameCacheNames.{Names, Request}
 use Rattle.nq_name_server.specs.Served.{Served}
 use Rattle.nq_name_server.specs.Outer.{Outer}
 use Rattle.walk_steps.proofs.ClientMoves.{none-some}

@@ -9,11 +9,11 @@ use Rattle.nq_base.specs.declared.Grant.{Grant}
 use Rattle.nq_base.specs.declared.Party.{Party}
 use Rattle.nq_base.specs.declared.Tag.{Tag}
 use Rattle.nq_base.specs.declared.Who.{Who}
-use Rattle.nq_listing.specs.declared.DirTag.{DirTag}
-use Rattle.nq_listing.specs.declared.ReadDir.{ReadDir}
-use Rattle.nq_listing.specs.Messages.{Answer, IsEntry, IsReadDir, Listing, page, wait, most_names}
+use Rattle.nq_directory.specs.declared.listing.DirTag.{DirTag}
+use Rattle.nq_directory.specs.declared.listing.ReadDir.{ReadDir}
+use Rattle.nq_directory.specs.Messages.{Answer, IsEntry, IsReadDir, Listing, page, wait, most_names}
 use Rattle.nq_wire.specs.Parts.{IsTag}
-use Rattle.nq_listing.specs.Reading.{told_in}
+use Rattle.nq_directory.specs.Reading.{told_in}
 use Rattle.nq_directory.specs.declared.FileName.{FileName}
 use Rattle.nq_model.specs.Change.{IsFileWithin}
 use Rattle.nq_model.specs.Kept.{File, host_row}
@@ -24,8 +24,8 @@ use Rattle.nq_model.specs.Skew.{ticks_of}
 use Rattle.nq_model.specs.Stepped.{most_events}
 use Rattle.nq_model.specs.Table.{Table}
 use Rattle.nq_model.specs.World.{Head, World}
-use Rattle.nq_name_cache.specs.Asking.{is_reading}
-use Rattle.nq_name_cache.specs.Names.{Names, Request}
+use Rattle.nq_directory.specs.Asking.{is_reading}
+use Rattle.nq_directory.specs.NameCacheNames.{Names, Request}
 use Rattle.nq_name_server.specs.Served.{Leaf, Served, is_behind, leaf_behind, names_behind, names_of, number_of}
 use Rattle.nq_name_server.specs.Serving.{Serves, ToHost, gives_up, holds_as, holds_up, puts_off, reads_dir, vacates}
 use Rattle.nq_name_server.specs.Outer.{Outer}

@@ -7,15 +7,15 @@ use Rattle.nq_base.specs.declared.Event.{Event}
 use Rattle.nq_base.specs.declared.Mode.{Mode}
 use Rattle.nq_base.specs.declared.Who.{Who}
 use Rattle.nq_directory.specs.Names.{name_before}
-use Rattle.nq_listing.specs.Messages.{read_dir_arguments, read_dir_bytes, entry_bytes, front_bytes, results, answer_bytes}
-use Rattle.nq_listing.specs.Reading.{call_as, call_in, results_of, results_in, end_at, prefix_at, entry_at, count_at, page_at, read_dir_at, page_alone, wait_alone, answer_at, told_at, read_dir_in, dir_tag_at, dir_evicted_in, dir_vacated_in, told_in}
+use Rattle.nq_directory.specs.Messages.{read_dir_arguments, read_dir_bytes, entry_bytes, front_bytes, results, answer_bytes}
+use Rattle.nq_directory.specs.Reading.{call_as, call_in, results_of, results_in, end_at, prefix_at, entry_at, count_at, page_at, read_dir_at, page_alone, wait_alone, answer_at, told_at, read_dir_in, dir_tag_at, dir_evicted_in, dir_vacated_in, told_in}
 use Rattle.nq_model.proofs.SkewTest.{skew-test-is-sound}
 use Rattle.nq_model.specs.Client.{Client, Lease}
 use Rattle.nq_model.specs.ClientStep.{attached_client, fresh_client}
 use Rattle.nq_model.specs.Skew.{IsWithinSkew}
 use Rattle.nq_model.specs.World.{Head}
-use Rattle.nq_name_cache.specs.declared.Found.{Found}
-use Rattle.nq_name_cache.specs.Names.{DirList, Names}
+use Rattle.nq_directory.specs.declared.name_cache.Found.{Found}
+use Rattle.nq_directory.specs.NameCacheNames.{DirList, Names}
 use Rattle.nq_name_server.specs.declared.run.event.NameEvent.{NameEvent}
 use Rattle.nq_name_server.specs.Lasting.{IsLive}
 use Rattle.nq_name_server.specs.Outer.{Outside, outside_start}

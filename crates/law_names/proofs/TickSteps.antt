@@ -14,7 +14,7 @@ use Rattle.nq_model.specs.ServerStep.{boot, end_reading, fence, tick}
 use Rattle.nq_model.specs.Skew.{ticks_of}
 use Rattle.nq_model.specs.Table.{Table, with_rows}
 use Rattle.nq_model.specs.World.{Head, World, step}
-use Rattle.nq_name_cache.specs.Names.{Names}
+use Rattle.nq_directory.specs.NameCacheNames.{Names}
 use Rattle.nq_name_server.specs.Served.{Served, names_of, number_of}
 use Rattle.nq_name_server.specs.Serving.{ticks}
 use Rattle.nq_name_server.specs.Outer.{Outer}

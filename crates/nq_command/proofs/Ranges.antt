@@ -6,7 +6,7 @@ use Rattle.std.proofs.lemmas.Bool.Decides.{nat_tests}
 use Rattle.nq_base.specs.Steps.{◌>>=◌}
 use Rattle.nq_command.specs.Commands.{AreHosts, IsRanged, IsTerm, alone_of, client_of, command_of, counted_of, kind_of, loop_of, numbered_of, paired_of, ranged_of, serve_of, storm_of}
 use Rattle.nq_command.specs.declared.commands.Command.{Command}
-use Rattle.nq_words.specs.Reading.{number_of, only_if, u64_of}
+use Rattle.nq_script.specs.WordsReading.{number_of, only_if, u64_of}
 
 -- the first of two, or the other
 one_of : (test : Bool) (one other : Option Command) → IfSome one IsRanged → IfSome other IsRanged → IfSome (if test then one else other) IsRanged

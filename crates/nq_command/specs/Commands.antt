@@ -3,7 +3,7 @@ use Rattle.std.specs.Prelude.{◌≡◌, ◌≤◌, ℕ, nat_lt, List, [], ◌�
 use Rattle.std.specs.Str.{bytes_eq}
 use Rattle.nq_base.specs.Steps.{◌>>=◌}
 use Rattle.nq_command.specs.declared.commands.Command.{Command}
-use Rattle.nq_words.specs.Reading.{number_of}
+use Rattle.nq_script.specs.WordsReading.{number_of}
 
 -- the one word of a replay
 abbrev pub IsReplay : List (List ℕ) → Type 0

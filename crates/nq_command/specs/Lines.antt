@@ -4,7 +4,7 @@ use Rattle.nq_base.specs.Name.{IsName}
 use Rattle.nq_base.specs.declared.Call.{Call}
 use Rattle.nq_command.specs.declared.prompt.lines.Line.{Line}
 use Rattle.nq_script.specs.Calls.{SpellsCall}
-use Rattle.nq_words.specs.Reading.{words_of}
+use Rattle.nq_script.specs.WordsReading.{words_of}
 
 -- a line tells to put a file of the machine under a name
 abbrev pub TellsToPut : (path name text : List ℕ) → Type 0

@@ -2,7 +2,7 @@
 use Rattle.std.specs.Fmt.{decimal}
 use Rattle.std.specs.Prelude.{ℕ, ◌+◌, List, [], ◌∷◌, ◌++◌, Option, Some, None}
 use Rattle.nq_base.specs.Steps.{◌>>=◌}
-use Rattle.nq_words.specs.Reading.{cut, number_of}
+use Rattle.nq_script.specs.WordsReading.{cut, number_of}
 
 -- the text that tells a start
 abbrev pub start_line : (start : ℕ) → List ℕ

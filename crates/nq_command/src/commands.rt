@@ -3,7 +3,7 @@
 ghost use Rattle.std.specs.Prelude.{◌≡◌};
 ghost use Rattle.nq_command.specs.Commands.{alone_of, client_of, counted_of, kind_of, loop_of, numbered_of, paired_of, ranged_of, serve_of, storm_of};
 
-use nq_words::number;
+use nq_script::words::number;
 
 /// What to run.
 #[derive(Clone, Copy)]

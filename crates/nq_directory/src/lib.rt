@@ -4,6 +4,8 @@
 
 mod fronts;
 mod listed;
+pub mod listing;
+pub mod name_cache;
 mod names;
 mod prefix;
 

@@ -5,6 +5,7 @@
 #![tactic(auto)]
 
 mod asking;
+pub mod boot;
 mod deciding;
 mod effects;
 mod laws;

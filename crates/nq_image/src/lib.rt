@@ -12,6 +12,7 @@ mod ids;
 mod image;
 mod kept;
 mod order;
+pub mod plan;
 mod ranges;
 mod rows;
 mod spelling;

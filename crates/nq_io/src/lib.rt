@@ -10,6 +10,7 @@ mod mem_sink;
 mod mem_source;
 mod sink;
 mod source;
+pub mod streams;
 mod whole;
 
 pub use calls::Calls;

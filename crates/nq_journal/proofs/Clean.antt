@@ -3,9 +3,9 @@ use Rattle.std.proofs.Common.{ℕ, ◌<◌, ◌^◌, Bool, true, false, Option, 
 use Rattle.std.proofs.lemmas.Bool.Decides.{eqb_tells}
 use Rattle.nq_base.specs.declared.Entry.{Entry}
 use Rattle.nq_base.specs.declared.Mode.{Mode}
-use Rattle.nq_words.proofs.Clean.{AreWords, literal, small, of_told, of_said}
-use Rattle.nq_words.proofs.LineWords.{IsWord}
-use Rattle.nq_words.proofs.Numerals.{word_decimal}
+use Rattle.nq_script.proofs.Clean.{AreWords, literal, small, of_told, of_said}
+use Rattle.nq_script.proofs.LineWords.{IsWord}
+use Rattle.nq_script.proofs.Numerals.{word_decimal}
 use Rattle.nq_journal.specs.Text.{mode_word, way_word, source_words, longest_words, entry_words, FitsSource, Fits}
 
 of_mode : (mode : Mode) → IsWord (mode_word mode)

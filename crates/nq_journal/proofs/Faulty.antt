@@ -9,7 +9,7 @@ use Rattle.nq_base.specs.declared.Entry.{Entry}
 use Rattle.nq_journal.specs.Fault.{IsUnbroken, ended, AreLines, IsJournal, IsFaultyAt}
 use Rattle.nq_journal.specs.Parsing.{AreEntries, IsWrong, IsTooLong}
 use Rattle.nq_journal.specs.Text.{Has, Fits, end_line, journal_text, IsVersion}
-use Rattle.nq_words.proofs.LineWords.{IsFree}
+use Rattle.nq_script.proofs.LineWords.{IsFree}
 use Rattle.nq_journal.proofs.Tails.{free_end, lines, IsLine, left_line, nothing_after, head_free, text_split, IsTail, journal_tail}
 use Rattle.nq_journal.proofs.TextLines.{first_line, head, end_is, IsEntry, each, body, entry_is, body_free}
 

@@ -7,12 +7,12 @@ use Rattle.std.proofs.lemmas.List.Elements.{All-push}
 use Rattle.nq_base.specs.declared.Entry.{Entry}
 use Rattle.nq_journal.specs.Fault.{IsUnbroken, ended}
 use Rattle.nq_journal.specs.Parsing.{named, IsFault, IsTextOf, AreEntries, StopsAt, Ends}
-use Rattle.nq_words.specs.Reading.{cut, words_of}
+use Rattle.nq_script.specs.WordsReading.{cut, words_of}
 use Rattle.nq_journal.specs.ReadingEntries.{entry_of}
 use Rattle.nq_journal.specs.Text.{Has, Fits, entry_words, entry_line, head_line, IsVersion}
-use Rattle.nq_words.specs.Words.{joined}
+use Rattle.nq_script.specs.Words.{joined}
 use Rattle.nq_journal.proofs.Faulty.{free, wrong_line, long_text}
-use Rattle.nq_words.proofs.LineWords.{IsFree, IsCut, cut_found, joined-words_of}
+use Rattle.nq_script.proofs.LineWords.{IsFree, IsCut, cut_found, joined-words_of}
 use Rattle.nq_journal.proofs.Tails.{lines, text_split}
 use Rattle.nq_journal.proofs.TextLines.{line_in_front, first_line, head, head_is, end_is, body, entry_is, body_again}
 

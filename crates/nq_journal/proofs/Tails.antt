@@ -6,12 +6,12 @@ use Rattle.nq_base.specs.declared.Entry.{Entry}
 use Rattle.nq_journal.specs.Fault.{ended, IsJournal}
 use Rattle.nq_base.specs.Plain.{plain}
 use Rattle.nq_journal.specs.Parsing.{AreEntries}
-use Rattle.nq_words.specs.Reading.{words_of}
+use Rattle.nq_script.specs.WordsReading.{words_of}
 use Rattle.nq_journal.specs.ReadingEntries.{entry_of}
 use Rattle.nq_journal.specs.Text.{entry_line, head_line, end_line, journal_text, IsVersion, IsText}
-use Rattle.nq_words.proofs.Clean.{literal}
-use Rattle.nq_words.proofs.LineWords.{IsFree, free_joined}
-use Rattle.nq_words.proofs.Numerals.{word_decimal}
+use Rattle.nq_script.proofs.Clean.{literal}
+use Rattle.nq_script.proofs.LineWords.{IsFree, free_joined}
+use Rattle.nq_script.proofs.Numerals.{word_decimal}
 use Rattle.nq_journal.proofs.TextLines.{first_line, head, head_is, head_1, head_2, end_is, IsEntry, each, body, entry_is, body_free, body_again, body_no_end}
 
 abbrev pub lines : ℕ → List Entry → List ℕ

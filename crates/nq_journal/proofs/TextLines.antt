@@ -8,14 +8,14 @@ use Rattle.nq_base.specs.declared.Entry.{Entry}
 use Rattle.nq_journal.specs.Fault.{ended}
 use Rattle.nq_base.specs.Plain.{plain}
 use Rattle.nq_journal.specs.Parsing.{AreEntries}
-use Rattle.nq_words.specs.Reading.{cut, words_of}
+use Rattle.nq_script.specs.WordsReading.{cut, words_of}
 use Rattle.nq_journal.specs.ReadingEntries.{kind_of, entry_of}
 use Rattle.nq_journal.specs.Text.{Has, Fits, entry_words, entry_line, head_line, end_line}
-use Rattle.nq_words.specs.Words.{joined, line}
+use Rattle.nq_script.specs.Words.{joined, line}
 use Rattle.nq_journal.proofs.Again.{entry_again}
-use Rattle.nq_words.proofs.Clean.{AreWords}
+use Rattle.nq_script.proofs.Clean.{AreWords}
 use Rattle.nq_journal.proofs.Clean.{of_entry}
-use Rattle.nq_words.proofs.LineWords.{IsFree, cut_again, free_joined, words_of-joined}
+use Rattle.nq_script.proofs.LineWords.{IsFree, cut_again, free_joined, words_of-joined}
 
 -- the first lines of two texts
 

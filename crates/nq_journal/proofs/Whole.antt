@@ -4,18 +4,18 @@ use Rattle.std.specs.List.{AllByRecursion}
 use Rattle.nq_base.specs.declared.Entry.{Entry}
 use Rattle.nq_base.specs.declared.Said.{Said}
 use Rattle.std.specs.Fmt.{decimal}
-use Rattle.nq_words.specs.Words.{line}
+use Rattle.nq_script.specs.Words.{line}
 use Rattle.nq_base.specs.declared.Journal.{Journal}
 use Rattle.nq_journal.specs.declared.parsing.JournalFault.{JournalFault}
 use Rattle.nq_journal.specs.declared.parsing.JournalFault.TheVariants as fault
 use Rattle.nq_journal.specs.Fault.{ended, IsJournal, IsFaultyAt}
 use Rattle.nq_base.specs.Plain.{plain, plain_said}
 use Rattle.nq_journal.specs.Parsing.{named, IsFault, Parses, GivesEntries, GivesFault, ParsesRest}
-use Rattle.nq_words.specs.Reading.{cut}
+use Rattle.nq_script.specs.WordsReading.{cut}
 use Rattle.nq_journal.specs.Text.{entry_words, entry_line, journal_text, of_who, IsText, IsVersion, head_line, end_line}
-use Rattle.nq_words.specs.Forms.{said_words}
+use Rattle.nq_script.specs.Forms.{said_words}
 use Rattle.nq_journal.proofs.Faulty.{no_head, one_fault}
-use Rattle.nq_words.proofs.LineWords.{IsFree, IsCut, cut_found}
+use Rattle.nq_script.proofs.LineWords.{IsFree, IsCut, cut_found}
 use Rattle.nq_journal.proofs.Rests.{cut_line, not_free, stops, ends}
 use Rattle.nq_journal.proofs.Tails.{lines, same_entries, text_split, text_tail}
 use Rattle.nq_journal.proofs.TextLines.{line_in_front, first_line, head_is, IsEntry, each}

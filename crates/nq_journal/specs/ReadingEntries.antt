@@ -6,9 +6,9 @@ use Rattle.nq_base.specs.declared.Mode.{Mode}
 use Rattle.nq_base.specs.Steps.{◌>>=◌}
 use Rattle.nq_journal.specs.Text.{entry_words, Fits}
 use Rattle.nq_journal.specs.declared.read_entries.Kind.{Kind}
-use Rattle.nq_words.specs.Reading.{only_if, word_at, u64_at, u32_at, who_at, place_at, is_done, tag_at}
-use Rattle.nq_words.specs.ReadingCalls.{told_at, has_told}
-use Rattle.nq_words.specs.ReadingAnswers.{said_at}
+use Rattle.nq_script.specs.WordsReading.{only_if, word_at, u64_at, u32_at, who_at, place_at, is_done, tag_at}
+use Rattle.nq_script.specs.ReadingCalls.{told_at, has_told}
+use Rattle.nq_script.specs.ReadingAnswers.{said_at}
 
 -- the mode that a word names
 unfoldable pub mode_of : List ℕ → Option Mode

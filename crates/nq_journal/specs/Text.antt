@@ -5,8 +5,8 @@ use Rattle.std.specs.List.{flat_map}
 use Rattle.nq_base.specs.declared.Entry.{Entry}
 use Rattle.nq_base.specs.declared.Mode.{Mode}
 use Rattle.nq_base.specs.declared.Who.{Who}
-use Rattle.nq_words.specs.Forms.{told_words, said_words, HasTold, FitsWho, FitsTold, FitsSaid}
-use Rattle.nq_words.specs.Words.{line}
+use Rattle.nq_script.specs.Forms.{told_words, said_words, HasTold, FitsWho, FitsTold, FitsSaid}
+use Rattle.nq_script.specs.Words.{line}
 
 abbrev pub mode_word : Mode → List ℕ
 mode_word Mode.NonCaching = codes "noncaching"

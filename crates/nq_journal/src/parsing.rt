@@ -9,7 +9,7 @@ ghost use Rattle.nq_journal.specs.declared.parsing.JournalFault.TheVariants.{Mem
 
 use crate::read_entries::entry_of;
 use nq_base::{Journal, NoMemory};
-use nq_words::{cut, is};
+use nq_script::words::{cut, is};
 use std::alloc::Global;
 
 /// Why a text was not parsed.

@@ -8,7 +8,7 @@ use crate::read_entries::has;
 use crate::write_entries::push_line;
 use nq_base::{Journal, NoMemory};
 use nq_io::{Put, Sink};
-use nq_words::push_numbers;
+use nq_script::words::push_numbers;
 use std::alloc::Global;
 
 // A sink is given as many bytes at once, or more, but for the last time.
@@ -66,7 +66,7 @@ pub fn print<K: Sink>(alloc: Global, journal: &Journal, version: u32, out: &mut 
 }
 
 // Appends the first line.
-#[tactic(auto, unfolding(nq_words::specs::Words::joined, nq_words::specs::Words::line, crate::specs::Text::head_line))]
+#[tactic(auto, unfolding(nq_script::specs::Words::joined, nq_script::specs::Words::line, crate::specs::Text::head_line))]
 fn push_head(out: &mut Vec<u8>, version: u32) -> Result<(), NoMemory>
     ensures { OnOk result (out.new.items ≡ out.old.items ++ head_line version) }
 {
@@ -77,7 +77,7 @@ fn push_head(out: &mut Vec<u8>, version: u32) -> Result<(), NoMemory>
 }
 
 // Appends the last line.
-#[tactic(auto, unfolding(nq_words::specs::Words::joined, nq_words::specs::Words::line, crate::specs::Text::end_line))]
+#[tactic(auto, unfolding(nq_script::specs::Words::joined, nq_script::specs::Words::line, crate::specs::Text::end_line))]
 fn push_end(out: &mut Vec<u8>) -> Result<(), NoMemory>
     ensures { OnOk result (out.new.items ≡ out.old.items ++ end_line) }
 {

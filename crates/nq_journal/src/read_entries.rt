@@ -2,13 +2,13 @@
 
 ghost use Rattle.std.specs.Prelude.{◌≡◌, ◌↔◌, ℕ, ◌<◌, ◌^◌, [], ◌∷◌, ◌++◌, codes, option_map, IsTrue, IfSome, IfOk};
 ghost use Rattle.nq_base.specs.Plain.{plain};
-ghost use Rattle.nq_words.specs.Reading.{Takes, words_of};
+ghost use Rattle.nq_script.specs.WordsReading.{Takes, words_of};
 ghost use Rattle.nq_journal.specs.ReadingEntries.{Spells, kind_of, kind_word, entry_by, entry_of, has, mode_of, mode_at, way_of, way_at, source_at, longest_at, c_at, w_at, r_at, s_at, l_at, g_at, f_at, o_at, b_at, x_at, z_at, a_at};
 ghost use Rattle.nq_journal.specs.Text.{mode_word, way_word, source_words, longest_words, FitsSource, Has};
-ghost use Rattle.nq_words.specs.Forms.{HasTold};
+ghost use Rattle.nq_script.specs.Forms.{HasTold};
 
 use nq_base::{Entry, FileId, Mode, NoMemory, Number, Ticks};
-use nq_words::{Words, has_told, is, take_said, take_told};
+use nq_script::words::{Words, has_told, is, take_said, take_told};
 use std::alloc::Global;
 
 // The kinds of entry, by their letters.

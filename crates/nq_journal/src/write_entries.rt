@@ -3,13 +3,13 @@
 ghost use Rattle.std.specs.Prelude.{◌≡◌, ◌<◌, ◌^◌, ℕ, [], ◌++◌, true, OnOk};
 ghost use Rattle.std.specs.Fmt.{decimal};
 ghost use Rattle.std.specs.List.{AllByRecursion, flat_map};
-ghost use Rattle.nq_words.specs.Words.{joined, spaced};
+ghost use Rattle.nq_script.specs.Words.{joined, spaced};
 ghost use Rattle.nq_journal.specs.Groups.{is_of_block, is_of_call, is_of_lease, is_of_span, is_of_start};
 ghost use Rattle.nq_journal.specs.Text.{Fits, FitsSource, entry_words, entry_line, of_who, way_word, mode_word, source_words, longest_words};
-ghost use Rattle.nq_words.specs.Forms.{FitsWho, FitsTold, FitsSaid, told_words, said_words};
+ghost use Rattle.nq_script.specs.Forms.{FitsWho, FitsTold, FitsSaid, told_words, said_words};
 
 use nq_base::{Entry, Mode, NoMemory, Said, Told, Who};
-use nq_words::{push_bytes, push_command, push_numbers, push_said, push_told, push_word};
+use nq_script::words::{push_bytes, push_command, push_numbers, push_said, push_told, push_word};
 
 // Appends the letter of a line, the incarnation of which it tells, and numbers with a blank before each.
 fn push_of_who(out: &mut Vec<u8>, letter: &[u8], who: &Who, numbers: &[u64]) -> Result<(), NoMemory>
@@ -82,7 +82,7 @@ fn push_answer(out: &mut Vec<u8>, said: &Said) -> Result<(), NoMemory>
 }
 
 // Appends the words of an entry of a call.
-#[tactic(auto, unfolding(nq_words::specs::Words::joined))]
+#[tactic(auto, unfolding(nq_script::specs::Words::joined))]
 fn push_of_call(out: &mut Vec<u8>, entry: &Entry) -> Result<(), NoMemory>
     requires { is_of_call entry.now ≡ true }
     ensures written { (version : ℕ) → OnOk result (out.new.items ≡ out.old.items ++ joined (entry_words version entry.now)) }
@@ -114,7 +114,7 @@ fn push_of_call(out: &mut Vec<u8>, entry: &Entry) -> Result<(), NoMemory>
 }
 
 // Appends the words of a write or a read.
-#[tactic(auto, unfolding(nq_words::specs::Words::joined))]
+#[tactic(auto, unfolding(nq_script::specs::Words::joined))]
 fn push_of_block(out: &mut Vec<u8>, entry: &Entry) -> Result<(), NoMemory>
     requires { is_of_block entry.now ≡ true }
     ensures written { (version : ℕ) → OnOk result (out.new.items ≡ out.old.items ++ joined (entry_words version entry.now)) }
@@ -163,7 +163,7 @@ fn push_of_block(out: &mut Vec<u8>, entry: &Entry) -> Result<(), NoMemory>
 }
 
 // Appends the words of delayed writes that were stored or lost.
-#[tactic(auto, unfolding(nq_words::specs::Words::joined))]
+#[tactic(auto, unfolding(nq_script::specs::Words::joined))]
 fn push_of_span(out: &mut Vec<u8>, entry: &Entry) -> Result<(), NoMemory>
     requires { is_of_span entry.now ≡ true }
     ensures written { (version : ℕ) → OnOk result (out.new.items ≡ out.old.items ++ joined (entry_words version entry.now)) }
@@ -206,7 +206,7 @@ fn push_of_span(out: &mut Vec<u8>, entry: &Entry) -> Result<(), NoMemory>
 }
 
 // Appends the words of a grant, or of a lease that ended in silence.
-#[tactic(auto, unfolding(nq_words::specs::Words::joined))]
+#[tactic(auto, unfolding(nq_script::specs::Words::joined))]
 fn push_of_lease(out: &mut Vec<u8>, entry: &Entry) -> Result<(), NoMemory>
     requires { is_of_lease entry.now ≡ true }
     ensures written { (version : ℕ) → OnOk result (out.new.items ≡ out.old.items ++ joined (entry_words version entry.now)) }
@@ -245,7 +245,7 @@ fn push_of_lease(out: &mut Vec<u8>, entry: &Entry) -> Result<(), NoMemory>
 }
 
 // Appends the words of a beginning, or of the end of a recovery.
-#[tactic(auto, unfolding(nq_words::specs::Words::joined))]
+#[tactic(auto, unfolding(nq_script::specs::Words::joined))]
 fn push_of_start(out: &mut Vec<u8>, version: u32, entry: &Entry) -> Result<(), NoMemory>
     requires { is_of_start entry.now ≡ true }
     ensures written { OnOk result (out.new.items ≡ out.old.items ++ joined (entry_words version entry.now)) }
@@ -286,7 +286,7 @@ fn push_words(out: &mut Vec<u8>, version: u32, entry: &Entry) -> Result<(), NoMe
 }
 
 // Appends the line of an entry.
-#[tactic(auto, unfolding(nq_words::specs::Words::line, crate::specs::Text::entry_line))]
+#[tactic(auto, unfolding(nq_script::specs::Words::line, crate::specs::Text::entry_line))]
 pub(crate) fn push_line(out: &mut Vec<u8>, version: u32, entry: &Entry) -> Result<(), NoMemory>
     ensures written { OnOk result (out.new.items ≡ out.old.items ++ entry_line version entry.now) }
     ensures fits { OnOk result (Fits entry.now) }

@@ -6,6 +6,7 @@
 
 mod link;
 mod mem_link;
+pub mod net;
 mod socket;
 mod udp_link;
 

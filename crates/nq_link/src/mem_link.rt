@@ -9,7 +9,7 @@ ghost use Rattle.nq_link.specs.MemLink.{after_receive, after_send, answer_of, ca
 
 use crate::{Came, Link, NoMemory, Party, Sent};
 use nq_io::Calls;
-use nq_net::Packets;
+use crate::net::Packets;
 use std::alloc::Global;
 use std::marker::Model;
 

@@ -10,7 +10,7 @@ use nq_directory::Prefix;
 use nq_lease::Table;
 use nq_lease::evict::vacated;
 use nq_lease::grant::ask;
-use nq_listing::DirTag;
+use nq_directory::listing::DirTag;
 use std::alloc::Global;
 use std::marker::Model;
 

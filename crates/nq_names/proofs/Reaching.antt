@@ -20,7 +20,7 @@ use Rattle.law_bounds.specs.Within.{AreGiven}
 use Rattle.law_names.proofs.Codecs.{codec}
 use Rattle.law_names.proofs.EachFind.{each-find-is-kept}
 use Rattle.law_bounds.proofs.OneRequests.{one-open-in-every-run}
-use Rattle.nq_name_cache.specs.Names.{Names, new_names}
+use Rattle.nq_directory.specs.NameCacheNames.{Names, new_names}
 use Rattle.nq_name_server.specs.Served.{Served, new_served}
 use Rattle.nq_name_server.specs.declared.run.event.NameEvent.{NameEvent}
 use Rattle.nq_name_server.specs.Outer.{Outside, of_boot, outside_start}

@@ -2,7 +2,7 @@
 
 use nq_base::{NoMemory, Party, Reply, Request, Spare};
 use nq_datagrams::{Awaited, Heard, Incoming, read_heard, read_incoming};
-use nq_net::{Packet, Packets};
+use nq_link::net::{Packet, Packets};
 use nq_record::{reply_words, request_words};
 use nq_wire::Procedure;
 use std::alloc::Global;

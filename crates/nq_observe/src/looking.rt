@@ -1,7 +1,7 @@
 //! Looking at the run of a schedule.
 
 ghost use Rattle.std.specs.Prelude.{◌≡◌, ◌<◌, ◌^◌, List, Some, length};
-ghost use Rattle.nq_chart.specs.Page.{Extends};
+ghost use Rattle.nq_record.specs.Page.{Extends};
 ghost use Rattle.nq_keeper.specs.StoredKeeper.{empty_kept};
 ghost use Rattle.nq_observe.specs.Looking.{ShowsRun};
 ghost use Rattle.nq_observe.specs.declared.looking.View.{View};
@@ -13,12 +13,11 @@ ghost use Rattle.nq_script.specs.declared.lines.Line.{Line};
 use crate::playing::{Bounds, play};
 use crate::seeing::Seer;
 use nq_base::{Entry, NoMemory};
-use nq_chart::draw;
+use nq_record::chart::draw;
 use nq_keeper::{Keeper, ListKeeper};
 use nq_record::{Record, picture, tell, why};
-use nq_replay::play::begin;
 use nq_script::{Script, ScriptFault, parse};
-use nq_world::{NewFault, World};
+use nq_world::{NewFault, World, begin};
 use std::alloc::Global;
 
 /// How a run is shown.

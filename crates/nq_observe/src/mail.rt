@@ -4,7 +4,7 @@ use crate::decoding::{Read, awaited, read_packet};
 use crate::memory::Memory;
 use nq_base::{Event, Party};
 use nq_datagrams::Awaited;
-use nq_net::Packets;
+use nq_link::net::Packets;
 use nq_record::{Act, Moment, Sent};
 use std::alloc::Global;
 

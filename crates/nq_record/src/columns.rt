@@ -1,6 +1,6 @@
 //! Columns of a fixed width.
 
-use nq_chart::{Page, Part};
+use crate::chart::{Page, Part};
 
 /// Puts a number behind so many blanks that it fills a column, and an end behind it.
 pub(crate) fn put_right(page: &mut Page, number: u64, width: usize, end: &str) {

@@ -9,7 +9,7 @@ use crate::record::{Record, Sent};
 use crate::spans::{Kind, Span};
 use crate::text::{owned, party_name};
 use nq_base::{Host, Mode, Party};
-use nq_chart::{Bar, Chart, Column, Packet, Part, Side, Tint, text_of};
+use crate::chart::{Bar, Chart, Column, Packet, Part, Side, Tint, text_of};
 use std::alloc::Global;
 
 /// How many hosts stand left of the server.

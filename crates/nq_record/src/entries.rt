@@ -7,7 +7,7 @@ use crate::NoMemory;
 use crate::record::Noted;
 use crate::text::{filled, mode_word, named, owned};
 use nq_base::{Entry, Mode, Said, Spans, Told};
-use nq_chart::{Part, Sign, text_of};
+use crate::chart::{Part, Sign, text_of};
 use std::alloc::Global;
 
 /// An entry in words.

@@ -6,7 +6,7 @@ use crate::lists::Growing;
 use crate::record::{Act, Moment, Record, Sent};
 use crate::text::{filled, owned};
 use nq_base::Party;
-use nq_chart::{Note, Part, Row, Side, Sign, text_of};
+use crate::chart::{Note, Part, Row, Side, Sign, text_of};
 use std::alloc::Global;
 
 /// The rows of a chart, and in which of them each event stands.

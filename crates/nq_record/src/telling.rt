@@ -1,13 +1,13 @@
 //! A run, told line by line.
 
-ghost use Rattle.nq_chart.specs.Page.{Extends};
+ghost use Rattle.nq_record.specs.Page.{Extends};
 
 use crate::NoMemory;
 use crate::columns::{put_left, put_right};
 use crate::record::{Act, Moment, Record, Sent};
 use crate::spans::{Change, Kind};
 use crate::text::{mode_word, party_parts};
-use nq_chart::{Page, Part};
+use crate::chart::{Page, Part};
 use std::alloc::Global;
 
 /// Appends a line for each event: its number, who acts and what the clock of that party shows, what happens, how many rows the server

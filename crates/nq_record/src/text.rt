@@ -1,12 +1,12 @@
 //! Text.
 
 ghost use Rattle.std.specs.Prelude.{◌≡◌, string_bytes, IfOk};
-ghost use Rattle.nq_chart.specs.Page.{Extends};
+ghost use Rattle.nq_record.specs.Page.{Extends};
 ghost use Rattle.nq_record.specs.Words.{mode_word};
 
 use crate::NoMemory;
 use nq_base::{Mode, Name, Party};
-use nq_chart::{Part, text_of};
+use crate::chart::{Part, text_of};
 use std::alloc::Global;
 
 /// Appends a name, which is printable ASCII, behind a word.

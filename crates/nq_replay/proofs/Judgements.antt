@@ -20,7 +20,7 @@ use Rattle.nq_journal.specs.Text.{IsText, entry_line, entry_words, end_line, hea
 use Rattle.nq_replay.specs.Ending.{IsUnlessFault, TellsOver}
 use Rattle.nq_replay.specs.Judging.{IsJudged, IsSaidUnlessFault, Judges, JudgesText, PrintsWrong, TellsVerdict, yes_line}
 use Rattle.nq_replay.specs.Lines.{PrintsLine, script_line}
-use Rattle.nq_words.specs.Words.{line, joined}
+use Rattle.nq_script.specs.Words.{line, joined}
 
 -- ---- the place of a fault
 

@@ -1,8 +1,13 @@
 pub mod Calls
 pub mod Faults
+pub mod Forms
 pub mod Heads
 pub mod Lines
 pub mod Progress
 pub mod Reading
+pub mod ReadingAnswers
+pub mod ReadingCalls
 pub mod Schedule
 pub mod Text
+pub mod Words
+pub mod WordsReading

@@ -9,7 +9,7 @@ ghost use Rattle.nq_script.specs.declared.faults.ScriptFault.{ScriptFault};
 
 use crate::faults::ScriptFault;
 use nq_base::{Block, Call, Told};
-use nq_words::read_told;
+use crate::words::read_told;
 use std::alloc::Global;
 
 /// The call that is told, with its body.

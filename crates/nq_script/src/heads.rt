@@ -14,7 +14,7 @@ ghost use Rattle.nq_script.specs.Text.{text_of};
 use crate::faults::ScriptFault;
 use crate::words::{ranged, rest_after};
 use nq_base::{FileList, Name};
-use nq_words::cut;
+use crate::words::cut;
 use std::alloc::Global;
 
 /// What a run begins with.

@@ -15,6 +15,7 @@ mod print;
 mod schedules;
 mod scripts;
 mod words;
+pub mod words;
 
 pub use calls::parse_call;
 pub use faults::ScriptFault;

@@ -9,7 +9,7 @@ use crate::calls::call_of;
 use crate::heads::Head;
 use crate::words::{number_then, ranged, rest_after};
 use nq_base::{Event, Host, Told};
-use nq_words::{number, number32, read_told};
+use crate::words::{number, number32, read_told};
 
 /// A line after the head.
 #[derive(Drop)]

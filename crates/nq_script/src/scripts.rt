@@ -14,7 +14,7 @@ use crate::faults::ScriptFault;
 use crate::heads::{Head, HeadOut, parse_head};
 use crate::lines::{Line, ToldLine, line_of, read_line};
 use nq_base::NoMemory;
-use nq_words::cut;
+use crate::words::cut;
 use std::alloc::Global;
 use std::marker::Model;
 

@@ -1,3 +1,11 @@
+pub mod Travelling
+pub mod Sending
+pub mod TakenIn
+pub mod Growing
+pub mod Bounded
+pub mod Agreeing
+pub mod Reaching
+pub mod Leading
 pub mod Steps
 pub mod Onward
 pub mod Tellable

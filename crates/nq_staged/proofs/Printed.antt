@@ -4,7 +4,7 @@ use Rattle.std.proofs.lemmas.List.{reverse-reverse}
 use Rattle.nq_base.specs.Plain.{plain}
 use Rattle.nq_base.specs.declared.Entry.{Entry}
 use Rattle.nq_base.specs.declared.Event.{Event}
-use Rattle.nq_commit.specs.Playing.{PlaysOutside, StagedOver}
+use Rattle.nq_staged.specs.Worlds.{PlaysOutside, StagedOver}
 use Rattle.nq_journal.specs.Text.{journal_text}
 use Rattle.nq_model.specs.Kept.{Kept}
 use Rattle.nq_model.specs.World.{Head as Beginning}
@@ -32,6 +32,7 @@ pub is-printed : {K : Type 0} (head : Head) (events : List StagedEvent) (w : Sta
     → SpellsSchedule head (map once ran) text → line ≡ count_line counts
     → IsPrinted head events (text ++ (journal_text 2 entries ++ line))
 is-printed head events w told ran entries counts text line plays are shown counted spelled said = record {
+  faithful = plays.reaches.faithful;
   lawful = lawful (beginning head) events w told plays;
   text = text;
   spelled = subst (λ es. SpellsSchedule head (map once es) text) (sym (reverse-reverse ran) ∙ ap reverse are) spelled;

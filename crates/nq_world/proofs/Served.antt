@@ -18,7 +18,7 @@ use Rattle.nq_model.specs.ServerStep.{at_time, crash, receive}
 use Rattle.nq_model.specs.SkewBroken.{skew_broken}
 use Rattle.nq_model.specs.Stepped.{done, stepped}
 use Rattle.nq_model.specs.World.{Head, World, after_server, run, sending_host, step}
-use Rattle.nq_net.specs.Packets.{Datagram, PacketList}
+use Rattle.nq_link.specs.Packets.{Datagram, PacketList}
 use Rattle.nq_server.specs.Holding.{Holding, IsTaken, Reboots, TakesIn}
 use Rattle.nq_server.specs.State.{Beside, beside, server_of}
 use Rattle.nq_server.specs.declared.received.Received.{Received}

@@ -1,5 +1,6 @@
 pub mod Answering
 pub mod Shown
+pub mod Beginning
 pub mod First
 pub mod Stepping
 pub mod Counting

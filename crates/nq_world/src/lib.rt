@@ -17,7 +17,7 @@ mod testing;
 mod world;
 
 pub use laws::{bytes_show_the_run, events_send_little, worlds_run};
-pub use starting::NewFault;
+pub use starting::{NewFault, begin, begin_surely};
 pub use stepped::{Limit, Stepped};
 pub use testing::{MOST_EVENTS, MOST_SENT};
 pub use world::World;

@@ -15,7 +15,7 @@ use nq_clock::StdClock;
 use nq_disk::{Disk, FileDisk, MemDisk, Room};
 use nq_link::UdpLink;
 use nq_run::{Command, CutFate, Fate, HostileFate, LossyFate, NoMemory, SteadyFate, Words, run};
-use nq_streams::{StdSink, StdSource};
+use nq_io::streams::{StdSink, StdSource};
 use std::io::ErrorKind;
 use std::process::ExitCode;
 use std::{env, io};

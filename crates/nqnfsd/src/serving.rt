@@ -12,7 +12,7 @@ use nq_hosts::traffic::{CountedLink, Report};
 use nq_link::{Came, Link, UdpLink};
 use nq_service::mount::{Greeter, Survey, serve_image};
 use nq_store::OpenFault;
-use nq_streams::StdSink;
+use nq_io::streams::StdSink;
 use std::alloc::AllocError;
 use std::io;
 

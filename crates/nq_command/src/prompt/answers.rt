@@ -5,7 +5,7 @@ ghost use Rattle.std.specs.Prelude.{◌≡◌, ◌<◌, ◌++◌, IfOk, IfSome, 
 ghost use Rattle.nq_command.specs.Answers.{answer_words, loss_words, lost_words, reason_of, value_words};
 
 use nq_base::{Answer, Losses, NoMemory, Value};
-use nq_words::{push_bytes, push_digits};
+use nq_script::words::{push_bytes, push_digits};
 use std::alloc::Global;
 
 /// An answer in words, without an end of line: its first word is that of a journal, and the reason stands behind it.

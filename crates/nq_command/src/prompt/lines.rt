@@ -5,7 +5,7 @@ ghost use Rattle.nq_command.specs.Lines.{NamesNoFile, Says};
 
 use nq_base::{Call, Name};
 use nq_script::parse_call;
-use nq_words::{Words, is};
+use nq_script::words::{Words, is};
 use std::alloc::Global;
 
 /// What a line at a prompt says.

@@ -7,7 +7,7 @@ ghost use Rattle.nq_base.specs.Seen.{seen_bytes};
 ghost use Rattle.nq_command.specs.Pieces.{blocks_for, first_of, head_of, joined_pieces, length_in, length_told, most_bytes, piece_of};
 
 use nq_base::{Block, NoMemory, Seen};
-use nq_words::{is, push_bytes};
+use nq_script::words::{is, push_bytes};
 use nq_xdr::push_words;
 use std::alloc::Global;
 

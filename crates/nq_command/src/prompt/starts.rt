@@ -4,7 +4,7 @@ ghost use Rattle.std.specs.Prelude.{◌≡◌, IfOk};
 ghost use Rattle.nq_command.specs.Starts.{next_start, start_line};
 
 use nq_base::NoMemory;
-use nq_words::{cut, number, push_digits};
+use nq_script::words::{cut, number, push_digits};
 use std::alloc::Global;
 
 /// The first start of a host.

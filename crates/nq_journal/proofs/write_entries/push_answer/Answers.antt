@@ -1,9 +1,9 @@
 use Rattle.std.proofs.Common.{[], ◌∷◌, ◌++◌, ap, sym, ◌∙◌, append_assoc}
 use Rattle.std.proofs.lemmas.Result.{on_ok_weaker}
 use Rattle.nq_journal.proofs.write_entries.push_answer.Goals as goal
-use Rattle.nq_words.proofs.Blanks.{said_blank}
-use Rattle.nq_words.specs.Forms.{said_words}
-use Rattle.nq_words.specs.Words.{joined}
+use Rattle.nq_script.proofs.Blanks.{said_blank}
+use Rattle.nq_script.specs.Forms.{said_words}
+use Rattle.nq_script.specs.Words.{joined}
 
 pub returns-clause-written : goal.returns-clause-written
 returns-clause-written c =

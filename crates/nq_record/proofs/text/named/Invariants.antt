@@ -1,5 +1,5 @@
 use Rattle.std.proofs.Common.{string_bytes}
-use Rattle.nq_chart.specs.Page.{Extends}
+use Rattle.nq_record.specs.Page.{Extends}
 use Rattle.nq_record.proofs.text.named.Given as goal
 
 abbrev pub invariant-loop-byte : goal.invariant-loop-byte
