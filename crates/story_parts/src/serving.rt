@@ -134,7 +134,7 @@ fn take_in<K: Keeper>(
 
 /// Tells each datagram that was sent, or how an event was taken in.
 fn tell(received: Received, out: &Outbox, answer: &mut Page) {
-    if out.is_empty() || received != Received::Done {
+    if out.len() == 0 || received != Received::Done {
         answer.say(word_of(received));
     }
     for place in 0..out.len() {
