@@ -11,11 +11,12 @@ use Rattle.nq_model.specs.Profile.{shortest_term, longest_term, most_hosts}
 use Rattle.nq_model.specs.ServerStep.{boot}
 use Rattle.nq_model.specs.World.{Head, first_clients, first_kept}
 use Rattle.nq_io.specs.Faults.{Rose}
+use Rattle.nq_keeper.specs.StoredKeeper.{empty_kept}
 use Rattle.nq_server.specs.Holding.{Boots, Holding, IsServer}
 use Rattle.nq_script.specs.Heads.{FitFiles, AreDistinct as Differ, IsNew as IsOther}
 use Rattle.nq_world.proofs.Going.{runs-begin, servers-begin}
 use Rattle.nq_world.specs.Beginning.{CountsBegin}
-use Rattle.nq_world.specs.First.{AreFirstFiles}
+use Rattle.nq_world.specs.First.{AreFirstFiles, told_as}
 use Rattle.nq_world.specs.Moving.{clients_in}
 use Rattle.nq_world.specs.Playing.{WorldOver, Begins, HasSettings, IsNew, Plays, keeper_in, seen_of}
 use Rattle.nq_world.specs.declared.starting.NewFault.{NewFault}
@@ -94,12 +95,13 @@ over-begins head content faults (Err e) server skew told before within boots hos
 
 -- ---- a world over a keeper that kept what is found first
 
-pub begun-plays : {K : Type 0} (head : Head) (r : Result (WorldOver K) (NewFault K)) (content : K → Option Kept) (told : Option Kept) (before count : ℕ)
-    → told ≡ Some (first_kept head)
-    → Begins head (first_kept head) r told (content (keeper_in r)) before count
+pub begun-plays : {K : Type 0} (head : Head) (r : Result (WorldOver K) (NewFault K)) (content : K → Option Kept) (told middle : Option Kept) (before count : ℕ)
+    → middle ≡ told_as (first_kept head) told
+    → told ≡ Some empty_kept
+    → Begins head (first_kept head) r middle (content (keeper_in r)) before count
     → IfOk r (λ w. Plays head [] w (content w.server.keeper))
-begun-plays head (Ok w) content told before count kept begins = begins.0 kept
-begun-plays head (Err e) content told before count kept begins = tt
+begun-plays head (Ok w) content told middle before count kept is begins = begins.0 (kept ∙ ap (told_as (first_kept head)) is)
+begun-plays head (Err e) content told middle before count kept is begins = tt
 
 pub begun-settings : {K : Type 0} (head : Head) (first : Kept) (r : Result (WorldOver K) (NewFault K)) (told tells : Option Kept) (before count : ℕ) → Begins head first r told tells before count → IfOk r (λ w. HasSettings head.hosts head.longest head.term w)
 begun-settings head first (Ok w) told tells before count begins = begins.1

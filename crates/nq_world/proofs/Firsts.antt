@@ -1,7 +1,6 @@
 -- The changes by which the files and the hosts of a head are kept.
 use Rattle.std.proofs.Common.{◌≡◌, ◌≢◌, ◌≤◌, ◌<◌, ℕ, zero, suc, ◌+◌, ◌-◌, List, [], ◌∷◌, ◌++◌, Option, Some, None, length, take, refl, sym, subst, ap, ◌∙◌, arith, length-append}
 use Rattle.std.proofs.lemmas.List.Elements.{All-nil, All-cons}
-use Rattle.std.proofs.lemmas.Option.{same_Some}
 use Rattle.std.specs.List.{All, AllByRecursion}
 use Rattle.std.specs.Prelude.{slice_get, slice_set, replicate, Result, Ok, Err, OnOk}
 use Rattle.nq_base.specs.declared.Change.{Change}
@@ -18,7 +17,7 @@ use Rattle.nq_keeper.specs.declared.keeper.KeepFault.{KeepFault}
 use Rattle.nq_keeper.specs.declared.keeper.KeepFault.TheVariants.{Failed, Memory}
 use Rattle.law_bounds.specs.Within.{IsFirstFile, IsNew, AreDistinct}
 use Rattle.law_bounds.proofs.FirstNumbers.{first-unnamed, first-length, first-blocks}
-use Rattle.nq_world.specs.First.{kept_first, heads_change, file_change, host_change, AreFirstFiles, Counts}
+use Rattle.nq_world.specs.First.{kept_first, heads_change, file_change, host_change, AreFirstFiles, Tells, told_as, Counts}
 use Rattle.nq_world.proofs.Outboxes.{sum-take-below}
 
 -- ---- the numbers of the server
@@ -186,12 +185,21 @@ host-fits longest files host below = record { file = tt; block = tt; host = belo
 
 -- ---- what is told
 
-pub told-next : (told : Option Kept) (before after : Kept) (change : Change) → told ≡ Some before → applied before change ≡ after → told_after change told ≡ Some after
-told-next told before after change tells is = ap (told_after change) tells ∙ ap Some is
+pub told-next : (told : Option Kept) (before after : Kept) (change : Change) → Tells before told → applied before change ≡ after → told_after change told ≡ told_as after told
+told-next None before after change tells is = refl
+told-next (Some found) before after change tells is = ap Some (ap (λ k. applied k change) (tells found refl) ∙ is)
 
--- two things that are told are one
-pub told-one : (told : Option Kept) (one other : Kept) → told ≡ Some one → told ≡ Some other → other ≡ one
-told-one told one other first second = same_Some other one (sym second ∙ first)
+pub told-told : (told tells : Option Kept) (kept : Kept) → tells ≡ told_as kept told → Tells kept tells
+told-told None tells kept is found e = absurd (cc)
+told-told (Some k) tells kept is found e = cc
+
+pub told-on : (told middle tells : Option Kept) (first second : Kept) → middle ≡ told_as first told → tells ≡ told_as second middle → tells ≡ told_as second told
+told-on None middle tells first second one two = two ∙ ap (told_as second) one
+told-on (Some k) middle tells first second one two = two ∙ ap (told_as second) one
+
+pub told-same : (told : Option Kept) (kept : Kept) → Tells kept told → told ≡ told_as kept told
+told-same None kept tells = refl
+told-same (Some found) kept tells = ap Some (tells found refl)
 
 -- a commit that was made leads from what was told to what is told
 pub commit-told : (r : Result Unit KeepFault) (change : Change) (told tells : Option Kept) (before count : ℕ) (next : Option Kept) → Commits r change told tells before count → told_after change told ≡ next → OnOk r (tells ≡ next)
@@ -206,3 +214,8 @@ commit-counts (Err Failed) change told tells before count commits = commits.1
 -- a fault after calls that met none
 pub counts-on : (fault : KeepFault) (before middle count : ℕ) → middle ≡ before → Counts (Err fault) middle count → Counts (Err fault) before count
 counts-on fault before middle count same counts = subst (λ n. Counts (Err fault) n count) same counts
+
+-- what holds after a call that was made
+pub made-so : {X : Type 0} (r : Result X KeepFault) (P Q : Type 0) → (P → Q) → OnOk r P → OnOk r Q
+made-so (Ok done) P Q so p = so p
+made-so (Err fault) P Q so p = tt

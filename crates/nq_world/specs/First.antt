@@ -1,6 +1,8 @@
--- What is kept before the first boot of a world. Below, `before` and `count` are the keeper's counts of faults.
-use Rattle.std.specs.Prelude.{◌≡◌, ◌≤◌, ℕ, ◌+◌, ◌-◌, ◌++◌, List, Some, None, Result, Ok, Err, length, replicate}
+-- What is kept before the first boot of a world. Below, `told` is what the keeper told of its content before a call; `before` and
+-- `count` are its counts of faults.
+use Rattle.std.specs.Prelude.{◌≡◌, ◌≤◌, ℕ, ◌+◌, ◌-◌, ◌++◌, List, Option, Some, None, Result, Ok, Err, length, replicate}
 use Rattle.std.specs.List.{AllByRecursion, sum_by}
+use Rattle.std.specs.Option.{ForSome}
 use Rattle.nq_base.specs.declared.Change.{Change}
 use Rattle.nq_io.specs.Faults.{Rose}
 use Rattle.nq_keeper.specs.declared.keeper.KeepFault.{KeepFault}
@@ -27,6 +29,15 @@ pub record AreFirstFiles (files : List (List ℕ × ℕ)) : Type 0 where
   pub few_files : length files ≤ most_files
   pub few_blocks : sum_by (λ f. f.1) files ≤ most_blocks
   pub distinct : AreDistinct files
+
+-- a keeper that tells its content tells this
+abbrev pub Tells : Kept → Option Kept → Type 0
+Tells kept told = ForSome told (λ found. found ≡ kept)
+
+-- this is told where something was told
+abbrev pub told_as : Kept → (told : Option Kept) → Option Kept
+told_as kept None = None
+told_as kept (Some found) = Some kept
 
 -- a call that failed raised the count of faults, and no other did
 abbrev pub Counts : Result Unit KeepFault → (before count : ℕ) → Type 0

@@ -1,10 +1,10 @@
 //! What is kept before the first boot of a world.
 
-ghost use Rattle.std.specs.Prelude.{◌≡◌, ◌≤◌, ◌<◌, ◌^◌, ◌+◌, ℕ, List, [], Some, length, take, OnOk};
+ghost use Rattle.std.specs.Prelude.{◌≡◌, ◌≤◌, ◌<◌, ◌^◌, ◌+◌, ℕ, List, [], length, take, OnOk};
 ghost use Rattle.nq_keeper.specs.StoredKeeper.{empty_kept};
 ghost use Rattle.nq_model.specs.Profile.{most_hosts, shortest_term, longest_term};
 ghost use Rattle.nq_model.specs.World.{first_kept};
-ghost use Rattle.nq_world.specs.First.{AreFirstFiles, Counts, file_change, heads_change, host_change, kept_first};
+ghost use Rattle.nq_world.specs.First.{AreFirstFiles, Counts, Tells, file_change, heads_change, host_change, kept_first, told_as};
 
 use nq_base::{
     Change, FileId, FileList, FileRow, Heads, Host, HostChange, HostRow, Inc, Name, Rev, Seq,
@@ -82,8 +82,8 @@ fn host_change(host: u32) -> Change
 fn keep_longest<K: Keeper>(keeper: &mut K, longest: u32) -> Result<(), KeepFault>
     requires long { shortest_term ≤ longest }
     requires short { longest ≤ longest_term }
-    requires told { K.content keeper.old ≡ Some (kept_first 60 [] 0) }
-    ensures told { OnOk result (K.content keeper.new ≡ Some (kept_first longest [] 0)) }
+    requires told { Tells (kept_first 60 [] 0) (K.content keeper.old) }
+    ensures told { OnOk result (K.content keeper.new ≡ told_as (kept_first longest [] 0) (K.content keeper.old)) }
     ensures counts { Counts result (K.faults keeper.old) (K.faults keeper.new) }
     ensures follows { K.follows keeper.old keeper.new }
 {
@@ -102,8 +102,8 @@ fn keep_file<K: Keeper>(
     requires short { longest ≤ longest_term }
     requires below { place < length files.now }
     requires fine { AreFirstFiles files.now }
-    requires told { K.content keeper.old ≡ Some (kept_first longest (take place files.now) 0) }
-    ensures told { OnOk result (K.content keeper.new ≡ Some (kept_first longest (take (place + 1) files.now) 0)) }
+    requires told { Tells (kept_first longest (take place files.now) 0) (K.content keeper.old) }
+    ensures told { OnOk result (K.content keeper.new ≡ told_as (kept_first longest (take (place + 1) files.now) 0) (K.content keeper.old)) }
     ensures counts { Counts result (K.faults keeper.old) (K.faults keeper.new) }
     ensures follows { K.follows keeper.old keeper.new }
 {
@@ -121,8 +121,8 @@ fn keep_files<K: Keeper>(keeper: &mut K, longest: u32, files: &FileList) -> Resu
     requires long { shortest_term ≤ longest }
     requires short { longest ≤ longest_term }
     requires fine { AreFirstFiles files.now }
-    requires told { K.content keeper.old ≡ Some (kept_first longest [] 0) }
-    ensures told { OnOk result (K.content keeper.new ≡ Some (kept_first longest files.now 0)) }
+    requires told { Tells (kept_first longest [] 0) (K.content keeper.old) }
+    ensures told { OnOk result (K.content keeper.new ≡ told_as (kept_first longest files.now 0) (K.content keeper.old)) }
     ensures counts { Counts result (K.faults keeper.old) (K.faults keeper.new) }
     ensures follows { K.follows keeper.old keeper.new }
 {
@@ -135,8 +135,8 @@ fn keep_files<K: Keeper>(keeper: &mut K, longest: u32, files: &FileList) -> Resu
 /// Keeps that the first incarnation of each host is attached.
 fn keep_hosts<K: Keeper>(keeper: &mut K, hosts: u32) -> Result<(), KeepFault>
     requires { hosts ≤ most_hosts }
-    ensures told { (longest : ℕ) (files : List (List ℕ × ℕ)) → K.content keeper.old ≡ Some (kept_first longest files 0)
-        → OnOk result (K.content keeper.new ≡ Some (kept_first longest files hosts)) }
+    ensures told { (longest : ℕ) (files : List (List ℕ × ℕ)) → Tells (kept_first longest files 0) (K.content keeper.old)
+        → OnOk result (K.content keeper.new ≡ told_as (kept_first longest files hosts) (K.content keeper.old)) }
     ensures counts { Counts result (K.faults keeper.old) (K.faults keeper.new) }
     ensures follows { K.follows keeper.old keeper.new }
 {
@@ -163,9 +163,9 @@ pub(crate) fn keep_head<K: Keeper>(
     requires long { shortest_term ≤ longest }
     requires short { longest ≤ longest_term }
     requires fine { AreFirstFiles files.now }
-    requires empty { K.content keeper.old ≡ Some empty_kept }
+    requires empty { Tells empty_kept (K.content keeper.old) }
     ensures told { (term : ℕ) → OnOk result (K.content keeper.new
-        ≡ Some (first_kept (record { hosts = hosts; term = term; longest = longest; files = files.now }))) }
+        ≡ told_as (first_kept (record { hosts = hosts; term = term; longest = longest; files = files.now })) (K.content keeper.old)) }
     ensures counts { Counts result (K.faults keeper.old) (K.faults keeper.new) }
     ensures follows { K.follows keeper.old keeper.new }
 {

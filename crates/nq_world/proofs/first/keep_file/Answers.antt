@@ -1,9 +1,9 @@
-use Rattle.std.proofs.Common.{◌≡◌, ◌+◌, [], ◌∷◌, ◌++◌, Some, suc, length, take, sym, subst, ap, ◌∙◌, arith}
+use Rattle.std.proofs.Common.{◌≡◌, ◌+◌, [], ◌∷◌, ◌++◌, suc, length, take, sym, subst, ap, ◌∙◌, arith}
 use Rattle.std.proofs.lemmas.List.{length-take}
 use Rattle.nq_keeper.specs.Keeping.{told_after}
 use Rattle.nq_model.specs.Change.{Fits, IsChangeWithin}
-use Rattle.nq_world.proofs.Firsts.{file-applied, file-fits, file-within, take-more, taken-fine, told-next, told-one, commit-told}
-use Rattle.nq_world.specs.First.{AreFirstFiles, file_change, kept_first}
+use Rattle.nq_world.proofs.Firsts.{file-applied, file-fits, file-within, take-more, taken-fine, told-next, commit-told}
+use Rattle.nq_world.specs.First.{AreFirstFiles, file_change, kept_first, told_as}
 use Rattle.nq_world.proofs.first.keep_file.Goals as goal
 
 pub commit-requires-clause-fits : goal.commit-requires-clause-fits
@@ -16,7 +16,7 @@ commit-requires-clause-fits g c = λ kept told.
     let is : c.file_change-change.result ≡ file_change c.args.longest (length (take place files) + 1) (c.in-Some.name.now, c.in-Some.blocks) =
     c.file_change-change.ensures ∙ ap (λ n. file_change c.args.longest (n + 1) (c.in-Some.name.now, c.in-Some.blocks)) (sym size) in
     subst (Fits kept) (sym is)
-    (subst (λ k. Fits k (file_change c.args.longest (length (take place files) + 1) (c.in-Some.name.now, c.in-Some.blocks))) (sym (told-one _ _ kept c.requires.told told))
+    (subst (λ k. Fits k (file_change c.args.longest (length (take place files) + 1) (c.in-Some.name.now, c.in-Some.blocks))) (sym (c.requires.told kept told))
     (file-fits c.args.longest (take place files) (c.in-Some.name.now, c.in-Some.blocks) (subst AreFirstFiles front (taken-fine (suc place) files c.requires.fine))))
 
 pub commit-requires-clause-within : goal.commit-requires-clause-within
@@ -29,7 +29,7 @@ commit-requires-clause-within g c = λ kept told.
     let is : c.file_change-change.result ≡ file_change c.args.longest (length (take place files) + 1) (c.in-Some.name.now, c.in-Some.blocks) =
     c.file_change-change.ensures ∙ ap (λ n. file_change c.args.longest (n + 1) (c.in-Some.name.now, c.in-Some.blocks)) (sym size) in
     subst (IsChangeWithin kept) (sym is)
-    (subst (λ k. IsChangeWithin k (file_change c.args.longest (length (take place files) + 1) (c.in-Some.name.now, c.in-Some.blocks))) (sym (told-one _ _ kept c.requires.told told))
+    (subst (λ k. IsChangeWithin k (file_change c.args.longest (length (take place files) + 1) (c.in-Some.name.now, c.in-Some.blocks))) (sym (c.requires.told kept told))
     (file-within c.args.longest (take place files) (c.in-Some.name.now, c.in-Some.blocks) c.requires.long c.requires.short (subst AreFirstFiles front (taken-fine (suc place) files c.requires.fine))))
 
 pub returns-clause-told : goal.returns-clause-told
@@ -43,7 +43,7 @@ returns-clause-told g c =
     let same : suc place ≡ place + 1 = omega arith in
     let is : c.file_change-change.result ≡ file_change c.args.longest (length (take place files) + 1) (c.in-Some.name.now, c.in-Some.blocks) =
     c.file_change-change.ensures ∙ ap (λ n. file_change c.args.longest (n + 1) (c.in-Some.name.now, c.in-Some.blocks)) (sym size) in
-    commit-told c.commit.result c.file_change-change.result told (g.K.Keeper.content c.commit.new.self) (g.K.Keeper.faults c.args.keeper.now) (g.K.Keeper.faults c.commit.new.self) (Some (kept_first c.args.longest (take (place + 1) files) 0)) c.commit.ensures.commits
-    (subst (λ change. told_after change told ≡ Some (kept_first c.args.longest (take (place + 1) files) 0)) (sym is)
+    commit-told c.commit.result c.file_change-change.result told (g.K.Keeper.content c.commit.new.self) (g.K.Keeper.faults c.args.keeper.now) (g.K.Keeper.faults c.commit.new.self) (told_as (kept_first c.args.longest (take (place + 1) files) 0) told) c.commit.ensures.commits
+    (subst (λ change. told_after change told ≡ told_as (kept_first c.args.longest (take (place + 1) files) 0) told) (sym is)
     (told-next told (kept_first c.args.longest (take place files) 0) (kept_first c.args.longest (take (place + 1) files) 0) (file_change c.args.longest (length (take place files) + 1) (c.in-Some.name.now, c.in-Some.blocks)) c.requires.told
     (file-applied c.args.longest (take place files) (c.in-Some.name.now, c.in-Some.blocks) ∙ ap (λ fs. kept_first c.args.longest fs 0) (sym front ∙ ap (λ n. take n files) same))))
