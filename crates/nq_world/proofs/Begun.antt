@@ -93,24 +93,30 @@ over-begins head content faults (Ok w) server skew told before within boots host
 over-begins head content faults (Err e) server skew told before within boots hosts window clocks new refused =
     subst (λ f. Begins head (first_kept head) (Err f) told (content (keeper_in (Err f))) before (faults (keeper_in (Err f)))) (sym refused) boots.1
 
--- ---- a world over a keeper that kept what is found first
-
-pub begun-plays : {K : Type 0} (head : Head) (r : Result (WorldOver K) (NewFault K)) (content : K → Option Kept) (told middle : Option Kept) (before count : ℕ)
+-- a world over a keeper that kept what is found first begins over what it kept before
+pub kept-begins : {K : Type 0} (head : Head) (r : Result (WorldOver K) (NewFault K)) (told middle tells : Option Kept) (before counted count : ℕ)
     → middle ≡ told_as (first_kept head) told
-    → told ≡ Some empty_kept
-    → Begins head (first_kept head) r middle (content (keeper_in r)) before count
-    → IfOk r (λ w. Plays head [] w (content w.server.keeper))
-begun-plays head (Ok w) content told middle before count kept is begins = begins.0 (kept ∙ ap (told_as (first_kept head)) is)
-begun-plays head (Err e) content told middle before count kept is begins = tt
+    → counted ≡ before
+    → Begins head (first_kept head) r middle tells counted count
+    → Begins head empty_kept r told tells before count
+kept-begins head (Ok w) told middle tells before counted count kept same x = (λ is. x.0 (kept ∙ ap (told_as (first_kept head)) is), x.1, x.2 ∙ same)
+kept-begins head (Err (fault.Failed keeper)) told middle tells before counted count kept same x = subst (λ n. Rose n count) same x
+kept-begins head (Err (fault.Memory keeper)) told middle tells before counted count kept same x = x ∙ same
+
+-- ---- what a world that begins says of its run, its settings and its keeper
+
+pub begun-plays : {K : Type 0} (head : Head) (first : Kept) (r : Result (WorldOver K) (NewFault K)) (content : K → Option Kept) (told : Option Kept) (before count : ℕ) → Begins head first r told (content (keeper_in r)) before count → told ≡ Some first → IfOk r (λ w. Plays head [] w (content w.server.keeper))
+begun-plays head first (Ok w) content told before count begins is = begins.0 is
+begun-plays head first (Err e) content told before count begins is = tt
 
 pub begun-settings : {K : Type 0} (head : Head) (first : Kept) (r : Result (WorldOver K) (NewFault K)) (told tells : Option Kept) (before count : ℕ) → Begins head first r told tells before count → IfOk r (λ w. HasSettings head.hosts head.longest head.term w)
 begun-settings head first (Ok w) told tells before count begins = begins.1
 begun-settings head first (Err e) told tells before count begins = tt
 
-pub begun-counts : {K : Type 0} (head : Head) (first : Kept) (r : Result (WorldOver K) (NewFault K)) (told tells : Option Kept) (before counted count : ℕ) → counted ≡ before → Begins head first r told tells counted count → CountsBegin r before count
-begun-counts head first (Ok w) told tells before counted count same begins = begins.2 ∙ same
-begun-counts head first (Err (fault.Failed keeper)) told tells before counted count same begins = subst (λ n. Rose n count) same begins
-begun-counts head first (Err (fault.Memory keeper)) told tells before counted count same begins = begins ∙ same
+pub begun-counts : {K : Type 0} (head : Head) (first : Kept) (r : Result (WorldOver K) (NewFault K)) (told tells : Option Kept) (before count : ℕ) → Begins head first r told tells before count → CountsBegin r before count
+begun-counts head first (Ok w) told tells before count begins = begins.2
+begun-counts head first (Err (fault.Failed keeper)) told tells before count begins = begins
+begun-counts head first (Err (fault.Memory keeper)) told tells before count begins = begins
 
 -- ---- the files of a head
 

@@ -7,7 +7,7 @@ ghost use Rattle.nq_model.specs.World.{first_clients, first_kept};
 ghost use Rattle.nq_script.specs.Heads.{FitsHead};
 ghost use Rattle.nq_world.specs.Beginning.{CountsBegin, NeverFails, beginning};
 ghost use Rattle.nq_world.specs.Counting.{TookIn};
-ghost use Rattle.nq_world.specs.First.{AreFirstFiles};
+ghost use Rattle.nq_world.specs.First.{AreFirstFiles, Tells};
 ghost use Rattle.nq_world.specs.Moving.{clients_in};
 ghost use Rattle.nq_world.specs.Playing.{Begins, HasSettings, IsNew, Plays, keeper_in};
 ghost use Rattle.nq_world.specs.declared.starting.NewFault.{NewFault};
@@ -115,8 +115,37 @@ fn boot<K: Keeper>(
     }
 }
 
-/// The world before the first event of a schedule with this head, over a keeper that keeps nothing yet: the files are kept with ids
-/// from 1 on, the server serves its first boot, and each client is attached with its first incarnation. The keeper is handed back
+impl<K: Keeper> World<K> {
+    /// The world at the start: the files are kept with ids from 1 on, the server serves its first boot, and each client is
+    /// attached with its first incarnation. There are 1 to 64 hosts; clients want leases of `term` ticks, and `longest` is
+    /// the longest term that a boot grants, 5 to 600 ticks. The keeper keeps nothing before.
+    pub fn new(
+        alloc: Global,
+        hosts: u32,
+        term: u32,
+        longest: u32,
+        files: &FileList,
+        keeper: K,
+    ) -> Result<World<K>, NewFault<K>>
+        requires some { 1 ≤ hosts }
+        requires hosts { hosts ≤ most_hosts }
+        requires long { shortest_term ≤ longest }
+        requires short { longest ≤ longest_term }
+        requires fine { AreFirstFiles files.now }
+        requires empty { Tells empty_kept (K.content keeper) }
+        ensures begins { Begins (record { hosts = hosts; term = term; longest = longest; files = files.now }) empty_kept result (K.content keeper) (K.content (keeper_in result)) (K.faults keeper) (K.faults (keeper_in result)) }
+        ensures follows { K.follows keeper (keeper_in result) }
+    {
+        let mut keeper = keeper;
+        match keep_head(&mut keeper, hosts, longest, files) {
+            Ok(()) => boot(alloc, hosts, term, longest, keeper),
+            Err(KeepFault::Failed) => Err(NewFault::Failed(keeper)),
+            Err(KeepFault::Memory) => Err(NewFault::Memory(keeper)),
+        }
+    }
+}
+
+/// The world before the first event of a schedule with this head, over a keeper that keeps nothing yet. The keeper is handed back
 /// where it failed, which it has counted, and where memory was wanting.
 pub fn begin<K: Keeper>(alloc: Global, head: &Head, keeper: K) -> Result<World<K>, NewFault<K>>
     requires fits { FitsHead head.now }
@@ -126,12 +155,14 @@ pub fn begin<K: Keeper>(alloc: Global, head: &Head, keeper: K) -> Result<World<K
     ensures faults { CountsBegin result (K.faults keeper) (K.faults (keeper_in result)) }
     ensures follows { K.follows keeper (keeper_in result) }
 {
-    let mut keeper = keeper;
-    match keep_head(&mut keeper, head.hosts, head.longest, &head.files) {
-        Ok(()) => boot(alloc, head.hosts, head.term, head.longest, keeper),
-        Err(KeepFault::Failed) => Err(NewFault::Failed(keeper)),
-        Err(KeepFault::Memory) => Err(NewFault::Memory(keeper)),
-    }
+    World::new(
+        alloc,
+        head.hosts,
+        head.term,
+        head.longest,
+        &head.files,
+        keeper,
+    )
 }
 
 /// The world before the first event of a schedule with this head, over a keeper that keeps nothing yet and never fails.
