@@ -6,8 +6,8 @@ ghost use Rattle.nq_link.specs.Packets.{Datagram};
 
 use crate::turns::Halt;
 use nq_base::Party;
-use nq_link::{Link, Sent};
 use nq_link::net::{Packet, Packets};
+use nq_link::{Link, Sent};
 use std::alloc::Global;
 
 /// Sends the packets from this number on, in their order, each on its sender's link. The server's link is the first; those of the hosts

@@ -4,8 +4,8 @@ ghost use Rattle.std.specs.Prelude.{◌≡◌, IfOk};
 ghost use Rattle.nq_name_server.specs.Pages.{ReadsOn, nothing_read};
 
 use nq_base::{FileId, FileRow, NoMemory};
-use nq_directory::{FileName, Prefix, directory_of};
 use nq_directory::listing::MOST_NAMES;
+use nq_directory::{FileName, Prefix, directory_of};
 use std::alloc::Global;
 use std::marker::Model;
 

@@ -12,9 +12,9 @@ ghost use Rattle.nq_name_server.specs.Serving.{changes_for, holds_up, notice_aft
 use crate::server::NameServer;
 use nq_base::{Access, FileId, Host, NoMemory, Party, Question, Rev, Row, Who};
 use nq_directory::Prefix;
+use nq_directory::listing::{DirTag, dir_evicted_bytes};
 use nq_lease::grant::conflict;
 use nq_lease::is_in_the_way;
-use nq_directory::listing::{DirTag, dir_evicted_bytes};
 use nq_wire::Outbox;
 use std::alloc::Global;
 

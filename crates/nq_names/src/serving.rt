@@ -13,8 +13,8 @@ ghost use Rattle.nq_world.specs.Playing.{GoesOn, Plays};
 
 use crate::world::NameWorld;
 use nq_base::{Host, NoMemory};
-use nq_keeper::{KeepFault, Keeper};
 use nq_directory::listing::{ReadDir, read_read_dir};
+use nq_keeper::{KeepFault, Keeper};
 use nq_name_server::{BegunLeaf, DirChange};
 
 impl<K: Keeper> NameWorld<K> {

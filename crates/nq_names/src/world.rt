@@ -16,12 +16,12 @@ ghost use Rattle.nq_world.specs.Playing.{CountsFaults, HasSettings, Plays};
 ghost use Rattle.nq_world.specs.declared.NewFault.{NewFault};
 
 use nq_base::{Host, Journal, Name, NoMemory, Party};
-use nq_keeper::Keeper;
 use nq_directory::name_cache::{Found, NameCache};
+use nq_keeper::Keeper;
+use nq_link::net::Packets;
 use nq_name_server::NameServer;
 use nq_name_server::around::Around;
 use nq_name_server::run::NameEvent;
-use nq_link::net::Packets;
 use nq_script::Schedule;
 use nq_world::{NewFault, Stepped, World};
 use std::alloc::Global;

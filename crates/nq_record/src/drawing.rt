@@ -3,13 +3,13 @@
 ghost use Rattle.std.specs.Prelude.{◌≡◌, ◌+◌, vec_len, IfOk};
 
 use crate::NoMemory;
+use crate::chart::{Bar, Chart, Column, Packet, Part, Side, Tint, text_of};
 use crate::lists::Growing;
 use crate::picture_rows::{Rows, packet_words, rows_of};
 use crate::record::{Record, Sent};
 use crate::spans::{Kind, Span};
 use crate::text::{owned, party_name};
 use nq_base::{Host, Mode, Party};
-use crate::chart::{Bar, Chart, Column, Packet, Part, Side, Tint, text_of};
 use std::alloc::Global;
 
 /// How many hosts stand left of the server.

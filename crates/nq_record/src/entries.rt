@@ -4,10 +4,10 @@ ghost use Rattle.std.specs.Prelude.{◌≡◌, IfOk};
 ghost use Rattle.nq_record.specs.Words.{sign_of};
 
 use crate::NoMemory;
+use crate::chart::{Part, Sign, text_of};
 use crate::record::Noted;
 use crate::text::{filled, mode_word, named, owned};
 use nq_base::{Entry, Mode, Said, Spans, Told};
-use crate::chart::{Part, Sign, text_of};
 use std::alloc::Global;
 
 /// An entry in words.

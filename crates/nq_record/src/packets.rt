@@ -5,9 +5,9 @@ ghost use Rattle.std.specs.Prelude.{◌≡◌, ◌++◌, codes, string_bytes, So
 ghost use Rattle.nq_record.specs.Words.{SaysRequest, filed, granted, lease_granted, lease_words, plain_read, read_words, refusal_word, reply_text, resize_words, revised, wanting_read, with_grant, write_words};
 
 use crate::NoMemory;
+use crate::chart::{Part, text_of};
 use crate::text::{mode_word, named, owned};
 use nq_base::{Grant, Mode, Refusal, Reply, Request, Want};
-use crate::chart::{Part, text_of};
 use std::alloc::Global;
 
 /// A request or a notice in words: its procedure, and the fields that matter.

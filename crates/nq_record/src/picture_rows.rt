@@ -1,12 +1,12 @@
 //! Events as the rows of a chart.
 
 use crate::NoMemory;
+use crate::chart::{Note, Part, Row, Side, Sign, text_of};
 use crate::drawing::{outer, place_of};
 use crate::lists::Growing;
 use crate::record::{Act, Moment, Record, Sent};
 use crate::text::{filled, owned};
 use nq_base::Party;
-use crate::chart::{Note, Part, Row, Side, Sign, text_of};
 use std::alloc::Global;
 
 /// The rows of a chart, and in which of them each event stands.

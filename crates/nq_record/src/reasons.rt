@@ -3,11 +3,11 @@
 ghost use Rattle.nq_record.specs.Page.{Extends};
 
 use crate::NoMemory;
+use crate::chart::Page;
 use crate::lists::Growing;
 use crate::record::{Act, Record};
 use crate::telling::tell_moment;
 use nq_base::{BlockNo, Entry, FileId, Number, Said, Who};
-use crate::chart::Page;
 use std::alloc::Global;
 
 /// Appends the events that led to an entry, newest first, each as `tell` tells it. What stood in the text before stays in

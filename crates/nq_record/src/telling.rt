@@ -3,11 +3,11 @@
 ghost use Rattle.nq_record.specs.Page.{Extends};
 
 use crate::NoMemory;
+use crate::chart::{Page, Part};
 use crate::columns::{put_left, put_right};
 use crate::record::{Act, Moment, Record, Sent};
 use crate::spans::{Change, Kind};
 use crate::text::{mode_word, party_parts};
-use crate::chart::{Page, Part};
 use std::alloc::Global;
 
 /// Appends a line for each event: its number, who acts and what the clock of that party shows, what happens, how many rows the server

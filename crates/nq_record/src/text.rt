@@ -5,8 +5,8 @@ ghost use Rattle.nq_record.specs.Page.{Extends};
 ghost use Rattle.nq_record.specs.Words.{mode_word};
 
 use crate::NoMemory;
-use nq_base::{Mode, Name, Party};
 use crate::chart::{Part, text_of};
+use nq_base::{Mode, Name, Party};
 use std::alloc::Global;
 
 /// Appends a name, which is printable ASCII, behind a word.

@@ -16,8 +16,8 @@ use crate::loading::{ROWS_SIZE, load, read_piece};
 use crate::migrating::migrate;
 use nq_disk::Disk;
 use nq_disk::redo::{Area, Redo, RedoOpen};
-use nq_image::{Version, version_of};
 use nq_image::plan::Tables;
+use nq_image::{Version, version_of};
 use std::alloc::Global;
 
 /// The record of a change, and the end of the largest image.

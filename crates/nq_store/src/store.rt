@@ -22,9 +22,9 @@ use crate::writing::{carry_out, fresh_blocks, read_body};
 use nq_base::{Block, BlockNo, Change, FileId, FileRow, Heads, Host, HostRow, Name, Space};
 use nq_disk::redo::Redo;
 use nq_disk::{Disk, DiskFault};
+use nq_image::plan::{Plan, Tables};
 use nq_keeper::{KeepFault, Keeper};
 use nq_memory::NoMemory;
-use nq_image::plan::{Plan, Tables};
 use std::alloc::Global;
 use std::marker::Model;
 

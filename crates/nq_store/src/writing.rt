@@ -19,8 +19,8 @@ use nq_base::Block;
 use nq_disk::redo::{Batch, Redo};
 use nq_disk::{Disk, DiskFault};
 use nq_image::block_place;
-use nq_keeper::KeepFault;
 use nq_image::plan::Placed;
+use nq_keeper::KeepFault;
 use std::alloc::Global;
 
 /// Reads the body of a physical block. What the disk does not hold of it is zeros.

@@ -1,7 +1,7 @@
 //! What the messages say.
 
-use nq_base::{FileId, Grant, Tag, Who};
 use crate::{FileName, Prefix};
+use nq_base::{FileId, Grant, Tag, Who};
 
 /// The procedure READDIRLOOK. The server proper answers it as one that is not served.
 pub const READ_DIR_PROCEDURE: u32 = 13;

@@ -11,9 +11,9 @@ use crate::listing::messages::{
     DIR_EVICTED_PROCEDURE, DIR_VACATED_PROCEDURE, DirTag, LATER_STATUS, MOST_NAMES, Page,
     READ_DIR_PROCEDURE, ReadDir, Told,
 };
+use crate::{FileName, Prefix};
 use nq_base::{FileId, NoMemory};
 use nq_datagrams::{PROGRAM, RPC_VERSION, VERSION};
-use crate::{FileName, Prefix};
 use nq_rpc::{LentCall, LentMessage, LentOutcome, LentReply, decode_in_place};
 use nq_wire::Garbage;
 use nq_wire::parts::{name, optional_grant, tag, who};

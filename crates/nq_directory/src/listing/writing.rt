@@ -11,9 +11,9 @@ ghost use Rattle.nq_xdr.specs.Item.{opaque};
 use crate::listing::messages::{
     DIR_EVICTED_PROCEDURE, DIR_VACATED_PROCEDURE, DirTag, LATER_STATUS, READ_DIR_PROCEDURE, ReadDir,
 };
+use crate::{FileName, Prefix};
 use nq_base::{Grant, NoMemory};
 use nq_datagrams::{PROGRAM, VERSION};
-use crate::{FileName, Prefix};
 use nq_rpc::{Head, begin_call, begin_reply};
 use nq_wire::parts::{name_len, put_name, put_optional_grant, put_tag, put_who};
 use nq_xdr::Writer;

@@ -7,13 +7,13 @@ ghost use Rattle.nq_directory.specs.Reading.{dir_evicted_in};
 ghost use Rattle.nq_directory.specs.Asking.{answer_in, evicted, gone_on, heard, is_later, last_id, lease_by, next_bytes, noticed, page_taken, takes_page, told};
 ghost use Rattle.nq_directory.specs.NameCacheNames.{Request, list_of};
 
-use crate::name_cache::cache::{Asked, NameCache};
-use crate::name_cache::listed::{Listed, list_of};
-use nq_base::{FileId, Grant, NoMemory, Ticks};
 use crate::FileName;
 use crate::listing::{
     DirTag, Page, Told, dir_vacated_bytes, read_dir_bytes, read_dir_evicted, read_told,
 };
+use crate::name_cache::cache::{Asked, NameCache};
+use crate::name_cache::listed::{Listed, list_of};
+use nq_base::{FileId, Grant, NoMemory, Ticks};
 use std::alloc::Global;
 
 impl NameCache {

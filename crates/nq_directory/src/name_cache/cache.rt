@@ -5,11 +5,11 @@ ghost use Rattle.nq_directory.specs.Prefix.{directory};
 ghost use Rattle.nq_directory.specs.Asking.{asks_behind, cleared, request_of};
 ghost use Rattle.nq_directory.specs.NameCacheNames.{before_call, empty_list, finds, forgets, forgets_all, new_names, number_after, other_request};
 
+use crate::listing::{ReadDir, read_dir_bytes};
 use crate::name_cache::found::Found;
 use crate::name_cache::listed::{Listed, forget, list_of};
-use nq_base::{Call, FileId, Name, NoMemory, Ticks, Who};
 use crate::{Prefix, directory_of};
-use crate::listing::{ReadDir, read_dir_bytes};
+use nq_base::{Call, FileId, Name, NoMemory, Ticks, Who};
 use std::alloc::Global;
 use std::marker::Model;
 

@@ -11,9 +11,9 @@ ghost use Rattle.nq_directory.specs.Asking.{goes_on, is_later, is_reading, with_
 ghost use Rattle.nq_directory.specs.NameCacheNames.{empty_list, found_as, list_of, other_lists};
 
 use crate::name_cache::found::Found;
+use crate::{DirNames, FileName, Prefix};
 use nq_base::{FileId, Grant, Mode, Name, NoMemory, Tag, Ticks};
 use nq_client_parts::holding::{Held, Take, Taken};
-use crate::{DirNames, FileName, Prefix};
 use std::alloc::Global;
 use std::marker::Model;
 use std::mem;

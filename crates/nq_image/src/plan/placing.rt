@@ -9,8 +9,8 @@ use crate::plan::block_table::BlockTable;
 use crate::plan::finding::slot_of;
 use crate::plan::stored_file::StoredFile;
 use crate::plan::tables::Tables;
-use nq_base::{FileId, FileRow};
 use crate::{PHYSICAL_BLOCKS, TABLE_BLOCKS};
+use nq_base::{FileId, FileRow};
 use nq_memory::NoMemory;
 use std::alloc::Global;
 

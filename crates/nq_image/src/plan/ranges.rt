@@ -6,11 +6,11 @@ ghost use Rattle.nq_image.specs.Ranges.{body_range, file_ranges as ranges_of_fil
 
 use crate::plan::bodies::spell_block;
 use crate::plan::stored_file::StoredFile;
-use nq_base::{Block, FileRow, Heads, HostChange};
-use nq_disk::redo::Batch;
 use crate::{
     HEADS_PLACE, block_place, host_place, id_place, row_place, spell_heads, spell_host, spell_row,
 };
+use nq_base::{Block, FileRow, Heads, HostChange};
+use nq_disk::redo::Batch;
 use nq_memory::NoMemory;
 use std::alloc::Global;
 

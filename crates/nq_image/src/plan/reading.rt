@@ -12,11 +12,11 @@ ghost use Rattle.nq_image.specs.PlanReading.{ArePartsOf, HoldsIn, IsMoved, row_f
 use crate::plan::block_table::BlockTable;
 use crate::plan::stored_file::StoredFile;
 use crate::plan::tables::Tables;
-use nq_base::{FileId, Heads};
 use crate::{
     Front, ImageFault, PHYSICAL_BLOCKS, Slot, Version, block_place, blocks_of, check_held,
     fresh_marks, piece, read_all_rows, read_ids, read_tables,
 };
+use nq_base::{FileId, Heads};
 use nq_memory::NoMemory;
 use std::alloc::Global;
 

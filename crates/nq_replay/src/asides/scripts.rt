@@ -9,8 +9,8 @@ ghost use Rattle.nq_script.specs.declared.heads.Head.{Head};
 
 use crate::asides::aside::AsideLine;
 use nq_base::NoMemory;
-use nq_script::{Script, ScriptFault, parse, parse_head};
 use nq_script::words::cut;
+use nq_script::{Script, ScriptFault, parse, parse_head};
 use std::alloc::Global;
 
 /// The version in which all is read.
