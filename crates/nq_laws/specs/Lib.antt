@@ -3,3 +3,8 @@ pub mod LawsAreMet
 pub mod TornHeadline
 pub mod TornMet
 pub mod TornRuns
+pub mod UnwrittenFiles
+pub mod CallsByWrites
+pub mod Met
+pub mod PausedWritesAskAnew
+pub mod AskersAnswered

@@ -2,6 +2,7 @@
 //! proof stands in `proofs/`.
 #![tactic(auto)]
 
+pub mod waits;
 mod cached;
 mod met;
 mod promises;
