@@ -8,3 +8,17 @@ pub mod CallsByWrites
 pub mod Met
 pub mod PausedWritesAskAnew
 pub mod AskersAnswered
+pub mod Example
+pub mod Laws
+pub mod Worked
+pub mod MixedOne
+pub mod MixedTwo
+pub mod MixedThree
+pub mod Skews
+pub mod NotLegal
+pub mod NotOrdered
+pub mod NotOfTheirCall
+pub mod NotAccounted
+pub mod NotExcused
+pub mod NotReported
+pub mod NotSynchronized

@@ -2,6 +2,7 @@
 //! proof stands in `proofs/`.
 #![tactic(auto)]
 
+pub mod examples;
 pub mod waits;
 mod cached;
 mod met;

@@ -1,5 +1,4 @@
 //! Schedules with their journals, evaluated. The texts stand in `examples/`; `tools/terms.py` makes the terms of them.
-#![tactic(auto)]
 
 mod laws;
 mod runs;

@@ -1,8 +1,8 @@
 //! The journals of the schedules break no law, and of each law there are journals that break it alone.
 
 ghost use Rattle.std.specs.Prelude.{map};
-ghost use Rattle.nq_examples.specs.Example.{journal_given};
-ghost use Rattle.nq_examples.specs.Laws.{
+ghost use Rattle.nq_laws.specs.Example.{journal_given};
+ghost use Rattle.nq_laws.specs.Laws.{
   BreakNone,
   BreakOnly,
   accounted,
@@ -13,17 +13,17 @@ ghost use Rattle.nq_examples.specs.Laws.{
   reported,
   synchronized,
 };
-ghost use Rattle.nq_examples.specs.MixedOne.{mixed_one};
-ghost use Rattle.nq_examples.specs.MixedThree.{mixed_three};
-ghost use Rattle.nq_examples.specs.MixedTwo.{mixed_two};
-ghost use Rattle.nq_examples.specs.NotAccounted.{not_accounted};
-ghost use Rattle.nq_examples.specs.NotExcused.{not_excused};
-ghost use Rattle.nq_examples.specs.NotLegal.{not_legal};
-ghost use Rattle.nq_examples.specs.NotOfTheirCall.{not_of_their_call};
-ghost use Rattle.nq_examples.specs.NotOrdered.{not_ordered};
-ghost use Rattle.nq_examples.specs.NotReported.{not_reported};
-ghost use Rattle.nq_examples.specs.NotSynchronized.{not_synchronized};
-ghost use Rattle.nq_examples.specs.Worked.{worked};
+ghost use Rattle.nq_laws.specs.MixedOne.{mixed_one};
+ghost use Rattle.nq_laws.specs.MixedThree.{mixed_three};
+ghost use Rattle.nq_laws.specs.MixedTwo.{mixed_two};
+ghost use Rattle.nq_laws.specs.NotAccounted.{not_accounted};
+ghost use Rattle.nq_laws.specs.NotExcused.{not_excused};
+ghost use Rattle.nq_laws.specs.NotLegal.{not_legal};
+ghost use Rattle.nq_laws.specs.NotOfTheirCall.{not_of_their_call};
+ghost use Rattle.nq_laws.specs.NotOrdered.{not_ordered};
+ghost use Rattle.nq_laws.specs.NotReported.{not_reported};
+ghost use Rattle.nq_laws.specs.NotSynchronized.{not_synchronized};
+ghost use Rattle.nq_laws.specs.Worked.{worked};
 
 /// The journals of the schedules that each show one thing.
 pub fn worked_journals_break_no_law()

@@ -3,8 +3,8 @@ use Rattle.nq_base.specs.declared.Event.{Event}
 use Rattle.nq_model.proofs.SkewTest.{skew-test-is-sound}
 use Rattle.nq_model.specs.Profile.{skew}
 use Rattle.nq_model.specs.Skew.{server_ticks, ticks_of}
-use Rattle.nq_examples.specs.Skews.{some_ticks}
-use Rattle.nq_examples.proofs.skews.one_tick_more_is_not_within_skew.Goals as goal
+use Rattle.nq_laws.specs.Skews.{some_ticks}
+use Rattle.nq_laws.proofs.examples.skews.one_tick_more_is_not_within_skew.Goals as goal
 
 -- four ticks of the server's clock, and none of a host's
 four : List Event

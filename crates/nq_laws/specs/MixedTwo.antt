@@ -6,7 +6,7 @@ use Rattle.nq_base.specs.declared.Event.{Event}
 use Rattle.nq_base.specs.declared.Mode.{Mode}
 use Rattle.nq_base.specs.declared.Said.{Said}
 use Rattle.nq_base.specs.declared.Told.{Told}
-use Rattle.nq_examples.specs.Example.{Example}
+use Rattle.nq_laws.specs.Example.{Example}
 use Rattle.nq_model.specs.Lines.{one, times, round, flow}
 
 -- run 21
