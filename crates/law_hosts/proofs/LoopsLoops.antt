@@ -19,9 +19,9 @@ use Rattle.law_rounds.specs.DeliveryEnds.{calmed}
 use Rattle.law_rounds.specs.CalmRoundsAreLawful.{IsLawful}
 use Rattle.law_rounds.specs.RoundsEndQuiet.{IsSmall}
 use Rattle.walk_steps.proofs.Tests.{is-below, is-not-below}
-use Rattle.law_answered.specs.WholeCallsAnswered.{served_rounds_for}
-use Rattle.law_answered.proofs.Counts.{none-open}
-use Rattle.law_answered.proofs.Queue.{there-is}
+use Rattle.nq_laws.specs.WholeCallsAnswered.{served_rounds_for}
+use Rattle.nq_laws.proofs.Counts.{none-open}
+use Rattle.nq_laws.proofs.Queue.{there-is}
 use Rattle.law_hosts.specs.InTime.{played}
 use Rattle.law_hosts.specs.LoopTurns.{MakesTurns}
 use Rattle.law_hosts.specs.LoopsAreAnswered.{first_moment, most_due, ticks_enough, LoopsAreAnswered}

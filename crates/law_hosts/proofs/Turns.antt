@@ -19,7 +19,7 @@ use Rattle.law_rounds.specs.RoundsEndQuiet.{IsSmall}
 use Rattle.law_rounds.proofs.Flows.{small-before}
 use Rattle.law_rounds.proofs.RecoveryRounds.{delivered-now, round-now}
 use Rattle.walk_steps.proofs.Rows.{same-number}
-use Rattle.law_answered.specs.WholeCallsAnswered.{served_rounds_for}
+use Rattle.nq_laws.specs.WholeCallsAnswered.{served_rounds_for}
 use Rattle.law_hosts.specs.InTime.{played, none_under_way, comes_in_time, all_in_time}
 use Rattle.law_hosts.specs.LoopsAreAnswered.{most_due}
 use Rattle.law_hosts.proofs.Counts.{begun_all, all-same, begins-own, begins-other, one-more, due-some}

@@ -7,7 +7,7 @@ use Rattle.nq_model.specs.Profile.{most_hosts}
 use Rattle.nq_model.specs.World.{run}
 use Rattle.nq_hosts.specs.Links.{LinkTold}
 use Rattle.nq_replay.specs.Playing.{beginning}
-use Rattle.law_answered.specs.WholeCallsAnswered.{served_rounds_for}
+use Rattle.nq_laws.specs.WholeCallsAnswered.{served_rounds_for}
 use Rattle.law_rounds.specs.RoundsEndQuiet.{IsSmall}
 use Rattle.law_hosts.specs.InTime.{played, all_in_time}
 use Rattle.law_hosts.specs.LoopTurns.{MakesTurns}

@@ -23,7 +23,7 @@ use Rattle.walk_steps.proofs.Steps.{Changes, nothing, by_client, by_server, step
 use Rattle.walk_steps.proofs.Worlds.{Holds, get-set-same, get-set-other, first-client, run-holds}
 use Rattle.walk_steps.proofs.Rows.{same-number, number-same}
 use Rattle.law_rounds.proofs.EffortReplies.{Goes, start as spent, optional-goes, pushed-goes, refused-goes, read-goes, write-goes, known-goes, attached-goes, start-same}
-use Rattle.law_answered.proofs.CallRequests.{run-asks}
+use Rattle.nq_laws.proofs.CallRequests.{run-asks}
 use Rattle.nq_laws.specs.PausedWritesAskAnew.{PausedWritesAskAnew}
 
 -- whose write is to go through does not pause

@@ -23,14 +23,14 @@ use Rattle.law_rounds.proofs.Flows.{Covered, whole-small, wholes-small, wholes-c
 use Rattle.law_rounds.proofs.Orders.{whole-lawful, whole-rising}
 use Rattle.law_rounds.proofs.Quiet.{order-ends-quiet}
 use Rattle.law_rounds.proofs.RecoveryRounds.{serving-rounds}
-use Rattle.law_answered.proofs.Hosts.{all-found}
+use Rattle.nq_laws.proofs.Hosts.{all-found}
 use Rattle.walk_steps.proofs.ClientMoves.{some-same, none-some}
 use Rattle.walk_steps.proofs.Rows.{number-same}
-use Rattle.law_answered.proofs.Counts.{one_if_open, open_calls, none-open}
-use Rattle.law_answered.proofs.FourRounds.{Rounds, blocks, attached-last}
-use Rattle.law_answered.specs.SharedFilesAnswered.{file_in}
-use Rattle.law_answered.proofs.SharedRounds.{rounds-idle, rounds-call, rounds-of}
-use Rattle.law_answered.proofs.SharedAnswered.{left-over}
+use Rattle.nq_laws.proofs.Counts.{one_if_open, open_calls, none-open}
+use Rattle.nq_laws.proofs.FourRounds.{Rounds, blocks, attached-last}
+use Rattle.nq_laws.specs.SharedFilesAnswered.{file_in}
+use Rattle.nq_laws.proofs.SharedRounds.{rounds-idle, rounds-call, rounds-of}
+use Rattle.nq_laws.proofs.SharedAnswered.{left-over}
 use Rattle.nq_laws.specs.UnwrittenFiles.{written_by, WritesNotTo}
 use Rattle.nq_laws.specs.CallsByWrites.{is_file, is_write_to, is_written, may_wait, one_if_waits, waiting_of, waiting_calls, rounds_by_writes, AnsweredByWrites, FewWritesAnswered, served_rounds_by_writes, ServedByWrites}
 use Rattle.nq_laws.proofs.Fileless.{fileless-end}

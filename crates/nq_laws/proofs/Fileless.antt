@@ -18,16 +18,16 @@ use Rattle.law_rounds.specs.CalmRoundsAreLawful.{IsLawful}
 use Rattle.law_rounds.specs.QuietDeliveries.{recovers}
 use Rattle.law_rounds.proofs.CalmEnds.{IsRising, calmed-rising}
 use Rattle.law_rounds.specs.RoundsEndQuiet.{IsSmall}
-use Rattle.law_answered.proofs.Hosts.{all-found}
+use Rattle.nq_laws.proofs.Hosts.{all-found}
 use Rattle.walk_steps.proofs.ClientMoves.{none-some}
 use Rattle.walk_steps.proofs.RunCases.{Keeps, run-keeps}
 use Rattle.walk_steps.proofs.Rows.{same-number}
-use Rattle.law_answered.proofs.Hope.{file_of_call}
-use Rattle.law_answered.specs.SharedFilesAnswered.{file_in, rounds_served}
-use Rattle.law_answered.proofs.Barred.{IsGone, gone, gone-receive, gone-tick}
-use Rattle.law_answered.proofs.SharedRounds.{At, Idle}
-use Rattle.law_answered.proofs.SharedRounds as shared
-use Rattle.law_answered.proofs.Step.{IsOpen}
+use Rattle.nq_laws.proofs.Hope.{file_of_call}
+use Rattle.nq_laws.specs.SharedFilesAnswered.{file_in, rounds_served}
+use Rattle.nq_laws.proofs.Barred.{IsGone, gone, gone-receive, gone-tick}
+use Rattle.nq_laws.proofs.SharedRounds.{At, Idle}
+use Rattle.nq_laws.proofs.SharedRounds as shared
+use Rattle.nq_laws.proofs.Step.{IsOpen}
 use Rattle.nq_laws.specs.UnwrittenFiles.{HasNoFileless, FilelessAnswered}
 use Rattle.nq_laws.proofs.FiveRounds.{next, k0, k1, k2, k3, k4, none-later}
 use Rattle.nq_laws.proofs.Theorem.{lawful, serves-late, serving}

@@ -14,12 +14,12 @@ use Rattle.law_rounds.proofs.CalmEnds.{IsRising, rounds-rising}
 use Rattle.law_rounds.proofs.CalmIsLawful.{rounds}
 use Rattle.law_rounds.specs.RoundsEndQuiet.{IsSmall, all_delivered, IsQuiet}
 use Rattle.law_rounds.proofs.Flows.{round-small, rounds-small}
-use Rattle.law_answered.proofs.EndRounds.{fresh-quiet}
+use Rattle.nq_laws.proofs.EndRounds.{fresh-quiet}
 use Rattle.walk_steps.proofs.ClientMoves.{some-same, none-some}
-use Rattle.law_answered.proofs.CalmRounds.{Round, next-state}
-use Rattle.law_answered.proofs.SharedRounds.{IsCall, Idle, At, rounds-idle, rounds-of, rounds-call}
-use Rattle.law_answered.proofs.Step.{IsOpen}
-use Rattle.law_answered.proofs.SharedAnswered.{left-over}
+use Rattle.nq_laws.proofs.CalmRounds.{Round, next-state}
+use Rattle.nq_laws.proofs.SharedRounds.{IsCall, Idle, At, rounds-idle, rounds-of, rounds-call}
+use Rattle.nq_laws.proofs.Step.{IsOpen}
+use Rattle.nq_laws.proofs.SharedAnswered.{left-over}
 
 -- the play after a calm round, as its delivery and the ticks behind it
 abbrev pub next : Play → Play

@@ -14,28 +14,28 @@ use Rattle.nq_model.specs.World.{Head, World, from_host, run}
 use Rattle.law_rounds.specs.DeliveryEnds.{enough_deliveries}
 use Rattle.law_rounds.specs.CalmRoundsAreLawful.{IsLawful}
 use Rattle.law_rounds.specs.QuietDeliveries.{recovers}
-use Rattle.law_answered.proofs.NoRenewals.{CallsFirst, tick-first}
+use Rattle.nq_laws.proofs.NoRenewals.{CallsFirst, tick-first}
 use Rattle.walk_steps.proofs.ClientFacts.{Alone, fits_job}
 use Rattle.walk_steps.proofs.ClientMoves.{some-same, none-some}
 use Rattle.walk_steps.proofs.Worlds.{run-holds}
 use Rattle.walk_steps.proofs.Tests.{is-at-most, is-not-at-most}
-use Rattle.law_answered.proofs.LookTickets.{tick-opens}
-use Rattle.law_answered.proofs.Delivery.{State}
-use Rattle.law_answered.proofs.Frames.{no-hope}
-use Rattle.law_answered.proofs.Hope.{file_of_call, Hopeful, Goes, told, waits, vacated, access_of_call}
-use Rattle.law_answered.proofs.Queue.{packets_of, queue, in-comes}
-use Rattle.law_answered.proofs.Ticks.{tick-pause}
-use Rattle.law_answered.proofs.UnderWay.{WantedNow, of_call, of_row}
-use Rattle.law_answered.proofs.CalmRounds.{Round, done-lawful, done-fresh, done-serves, after-ticks, next-state, early-hopes, soon}
+use Rattle.nq_laws.proofs.LookTickets.{tick-opens}
+use Rattle.nq_laws.proofs.Delivery.{State}
+use Rattle.nq_laws.proofs.Frames.{no-hope}
+use Rattle.nq_laws.proofs.Hope.{file_of_call, Hopeful, Goes, told, waits, vacated, access_of_call}
+use Rattle.nq_laws.proofs.Queue.{packets_of, queue, in-comes}
+use Rattle.nq_laws.proofs.Ticks.{tick-pause}
+use Rattle.nq_laws.proofs.UnderWay.{WantedNow, of_call, of_row}
+use Rattle.nq_laws.proofs.CalmRounds.{Round, done-lawful, done-fresh, done-serves, after-ticks, next-state, early-hopes, soon}
 use Rattle.nq_base.specs.declared.Access.{Access}
 use Rattle.nq_model.specs.Message.{call}
 use Rattle.nq_base.specs.declared.Mode.{Mode}
 use Rattle.law_rounds.proofs.Meant.{requests-are-meant}
-use Rattle.law_answered.proofs.Begin.{FromTicket, round-tickets}
-use Rattle.law_answered.proofs.Served.{IsWant}
+use Rattle.nq_laws.proofs.Begin.{FromTicket, round-tickets}
+use Rattle.nq_laws.proofs.Served.{IsWant}
 use Rattle.walk_steps.proofs.Packets.{In, message-same, call-same}
-use Rattle.law_answered.proofs.Step.{IsOpen, Over, Calm, calm-on, Cut, Goal, over, open_on, delivers}
-use Rattle.law_answered.proofs.SharedRounds.{IsCall, flow-idle, ticks-make, tick-idle, round-idle, ticked-rows}
+use Rattle.nq_laws.proofs.Step.{IsOpen, Over, Calm, calm-on, Cut, Goal, over, open_on, delivers}
+use Rattle.nq_laws.proofs.SharedRounds.{IsCall, flow-idle, ticks-make, tick-idle, round-idle, ticked-rows}
 use Rattle.nq_laws.specs.UnwrittenFiles.{written_by}
 use Rattle.nq_laws.proofs.Unwritten as step
 use Rattle.nq_laws.proofs.Unwritten.{NoWriter, Mild, to_read, anew, Unwritten, NoWrite, WriteGoes, writing-caches, mode-of, not-other}

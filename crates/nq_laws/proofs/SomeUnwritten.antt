@@ -12,7 +12,7 @@ use Rattle.law_rounds.specs.CalmRound.{calm_rounds}
 use Rattle.law_rounds.specs.SomeNeedHalf.{is_open, late_head, late_events}
 use Rattle.law_rounds.proofs.SoonRounds.{soon_rounds, soon_ends, all-soon, late-lawful, late-rising, needs-half}
 use Rattle.law_rounds.specs.RoundsEndQuiet.{IsSmall}
-use Rattle.law_answered.proofs.Hosts.{all-found}
+use Rattle.nq_laws.proofs.Hosts.{all-found}
 use Rattle.walk_steps.proofs.ClientMoves.{some-same, none-some}
 use Rattle.walk_steps.proofs.GivenRuns.{given-run}
 use Rattle.walk_steps.proofs.Tests.{is-at-most}

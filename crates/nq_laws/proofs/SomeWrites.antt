@@ -20,7 +20,7 @@ use Rattle.law_rounds.specs.RoundsEndQuiet.{IsSmall}
 use Rattle.walk_steps.proofs.GivenRuns.{given-run}
 use Rattle.walk_steps.proofs.NoCrash.{one-first}
 use Rattle.walk_steps.proofs.Tests.{is-at-most}
-use Rattle.law_answered.specs.CallsAnswered.{open_calls}
+use Rattle.nq_laws.specs.CallsAnswered.{open_calls}
 use Rattle.nq_laws.specs.CallsByWrites.{waiting_calls}
 use Rattle.nq_laws.specs.Met.{files_head, files_events, ByWritesIsMet}
 

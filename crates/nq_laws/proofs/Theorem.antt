@@ -24,16 +24,16 @@ use Rattle.law_rounds.specs.RoundsEndQuiet.{IsSmall}
 use Rattle.law_rounds.proofs.CalmOrders.{calm_orders, calms-are}
 use Rattle.law_rounds.proofs.Flows.{rounds-small}
 use Rattle.law_rounds.proofs.RecoveryRounds.{recoveries-end, serving-rounds}
-use Rattle.law_answered.proofs.Hosts.{all-found, all-get}
+use Rattle.nq_laws.proofs.Hosts.{all-found, all-get}
 use Rattle.walk_steps.proofs.ClientMoves.{some-same, none-some}
-use Rattle.law_answered.proofs.Hope.{file_of_call, access_of_call}
-use Rattle.law_answered.proofs.Served.{Fits, read_fits, write_fits}
-use Rattle.law_answered.specs.LeaselessAnswered.{WantsNoLease, LeaselessAnswered}
-use Rattle.law_answered.specs.SharedFilesAnswered.{file_in, HasNoCallOn, rounds_served}
-use Rattle.law_answered.proofs.SharedRounds.{At, Idle, rounds-of}
-use Rattle.law_answered.proofs.SharedRounds as shared
-use Rattle.law_answered.proofs.Step.{IsOpen, NoWish}
-use Rattle.law_answered.proofs.SharedAnswered.{left-over}
+use Rattle.nq_laws.proofs.Hope.{file_of_call, access_of_call}
+use Rattle.nq_laws.proofs.Served.{Fits, read_fits, write_fits}
+use Rattle.nq_laws.specs.LeaselessAnswered.{WantsNoLease, LeaselessAnswered}
+use Rattle.nq_laws.specs.SharedFilesAnswered.{file_in, HasNoCallOn, rounds_served}
+use Rattle.nq_laws.proofs.SharedRounds.{At, Idle, rounds-of}
+use Rattle.nq_laws.proofs.SharedRounds as shared
+use Rattle.nq_laws.proofs.Step.{IsOpen, NoWish}
+use Rattle.nq_laws.proofs.SharedAnswered.{left-over}
 use Rattle.nq_laws.specs.UnwrittenFiles.{written_by, read_by, WritesNotTo, ReadsNot, WritesNothing, rounds_unwritten, UnwrittenReadsAnswered, UnwrittenFilesAnswered, WritelessInTime}
 use Rattle.nq_laws.proofs.FiveRounds.{next, k0, k1, k2, k3, k4, begun, none-later}
 use Rattle.nq_laws.proofs.ReadEnds as readers

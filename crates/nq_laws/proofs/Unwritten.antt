@@ -32,7 +32,7 @@ use Rattle.law_bounds.proofs.LeaseIntervals.{run-runs}
 use Rattle.law_bounds.proofs.NoticeCounts.{HostedBelow}
 use Rattle.law_rounds.specs.CalmRoundsAreLawful.{IsLawful}
 use Rattle.law_rounds.proofs.PacketsCome.{Comes}
-use Rattle.law_answered.proofs.NoRenewals.{CallsFirst}
+use Rattle.nq_laws.proofs.NoRenewals.{CallsFirst}
 use Rattle.law_bounds.proofs.WorldSequences.{run-draws}
 use Rattle.law_rounds.proofs.Next.{OneLink, IsNext}
 use Rattle.law_rounds.proofs.Coming.{in-map, Delivery, no_packet, at_server, at_host, ignored, no_client, delivery}
@@ -43,19 +43,19 @@ use Rattle.walk_steps.proofs.Worlds.{IsAt, Holds, IsSent, by_host, by_server, ge
 use Rattle.walk_steps.proofs.StepSends.{HearSends, hear-sends}
 use Rattle.walk_steps.proofs.Rows.{same-number, number-same, found-row}
 use Rattle.walk_steps.proofs.Tests.{is-at-most, is-not-at-most}
-use Rattle.law_answered.proofs.Calling.{hear-keeps}
-use Rattle.law_answered.proofs.CallRequests.{run-asks}
-use Rattle.law_answered.proofs.ClientHopes.{map-in, Leaves, gives_up, notes, Hearer}
-use Rattle.law_answered.proofs.ClientHopes as client
-use Rattle.law_answered.proofs.Given.{ordered, tags, served}
-use Rattle.law_answered.proofs.HearerAt.{hearer}
-use Rattle.law_answered.proofs.Hope.{file_of_call, access_of_call, Cancels, PutsOff, Hopeful, Goes, told, waits, vacated, safe-rest, safe-append, safe-none}
-use Rattle.law_answered.proofs.Queue.{packets_of, queue, queue-parts, queue-next, head-packet, rest-comes, rest-later, there-is}
-use Rattle.law_answered.proofs.Served.{IsStill, IsWant, by_read, by_lease, RowFrom, stays, shares, begins, renews, Outcome, quiet, by_own, by_others, IsServed}
-use Rattle.law_answered.proofs.UnderWay.{InOrder, TagsFit, hear-sent, serves-is}
-use Rattle.law_answered.proofs.Asking.{IsOff, Fate, all_on, off, Caller, fate, other-hopes, goes-on}
-use Rattle.law_answered.proofs.Leaving.{waits-leave, told-leaves}
-use Rattle.law_answered.proofs.Step.{IsOpen, Renewing, Calm, calm-on}
+use Rattle.nq_laws.proofs.Calling.{hear-keeps}
+use Rattle.nq_laws.proofs.CallRequests.{run-asks}
+use Rattle.nq_laws.proofs.ClientHopes.{map-in, Leaves, gives_up, notes, Hearer}
+use Rattle.nq_laws.proofs.ClientHopes as client
+use Rattle.nq_laws.proofs.Given.{ordered, tags, served}
+use Rattle.nq_laws.proofs.HearerAt.{hearer}
+use Rattle.nq_laws.proofs.Hope.{file_of_call, access_of_call, Cancels, PutsOff, Hopeful, Goes, told, waits, vacated, safe-rest, safe-append, safe-none}
+use Rattle.nq_laws.proofs.Queue.{packets_of, queue, queue-parts, queue-next, head-packet, rest-comes, rest-later, there-is}
+use Rattle.nq_laws.proofs.Served.{IsStill, IsWant, by_read, by_lease, RowFrom, stays, shares, begins, renews, Outcome, quiet, by_own, by_others, IsServed}
+use Rattle.nq_laws.proofs.UnderWay.{InOrder, TagsFit, hear-sent, serves-is}
+use Rattle.nq_laws.proofs.Asking.{IsOff, Fate, all_on, off, Caller, fate, other-hopes, goes-on}
+use Rattle.nq_laws.proofs.Leaving.{waits-leave, told-leaves}
+use Rattle.nq_laws.proofs.Step.{IsOpen, Renewing, Calm, calm-on}
 use Rattle.nq_laws.specs.UnwrittenFiles.{written_by}
 
 -- ---- what is under way

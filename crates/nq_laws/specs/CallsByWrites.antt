@@ -11,7 +11,7 @@ use Rattle.law_rounds.specs.CallsAreAnswered.{IsAnswered, rounds_enough}
 use Rattle.law_rounds.specs.CalmRound.{calm_rounds}
 use Rattle.law_rounds.specs.QuietDeliveries.{recovers}
 use Rattle.law_rounds.specs.RoundsEndQuiet.{IsSmall}
-use Rattle.law_answered.specs.SharedFilesAnswered.{file_in}
+use Rattle.nq_laws.specs.SharedFilesAnswered.{file_in}
 use Rattle.nq_laws.specs.UnwrittenFiles.{written_by}
 
 -- whether an optional file is this one

@@ -10,8 +10,8 @@ use Rattle.law_rounds.specs.CalmRoundsAreLawful.{IsLawful}
 use Rattle.law_rounds.specs.QuietDeliveries.{recovers}
 use Rattle.law_rounds.specs.SomeNeedHalf.{is_open, late_head, late_events}
 use Rattle.law_rounds.specs.RoundsEndQuiet.{IsSmall}
-use Rattle.law_answered.specs.CallsAnswered.{open_calls}
-use Rattle.law_answered.specs.SharedFilesAnswered.{rounds_served}
+use Rattle.nq_laws.specs.CallsAnswered.{open_calls}
+use Rattle.nq_laws.specs.SharedFilesAnswered.{rounds_served}
 use Rattle.nq_laws.specs.CallsByWrites.{waiting_calls, rounds_by_writes, served_rounds_by_writes}
 use Rattle.nq_laws.specs.UnwrittenFiles.{WritesNothing, rounds_unwritten}
 

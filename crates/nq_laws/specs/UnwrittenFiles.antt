@@ -10,7 +10,7 @@ use Rattle.law_rounds.specs.DeliveryEnds.{AreUnderWay, calmed}
 use Rattle.law_rounds.specs.CallsAreAnswered.{IsAnswered}
 use Rattle.law_rounds.specs.CalmRound.{calm_rounds}
 use Rattle.law_rounds.specs.RoundsEndQuiet.{IsSmall}
-use Rattle.law_answered.specs.SharedFilesAnswered.{file_in, HasNoCallOn, rounds_served}
+use Rattle.nq_laws.specs.SharedFilesAnswered.{file_in, HasNoCallOn, rounds_served}
 
 -- the file to which a call is a `write`, if it is one
 abbrev pub written_by : Call → Option ℕ

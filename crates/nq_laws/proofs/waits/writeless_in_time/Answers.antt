@@ -1,5 +1,5 @@
 use Rattle.law_rounds.proofs.IdleWorlds.{answers-stay}
-use Rattle.law_answered.proofs.Leaseless.{leaseless-answered}
+use Rattle.nq_laws.proofs.Leaseless.{leaseless-answered}
 use Rattle.nq_laws.proofs.Theorem.{writeless-in-time}
 use Rattle.nq_laws.proofs.waits.writeless_in_time.Goals as goal
 
