@@ -9,3 +9,4 @@ pub mod Sending
 pub mod Rooms
 pub mod Moving
 pub mod Playing
+pub mod Replies

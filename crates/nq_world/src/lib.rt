@@ -1,6 +1,7 @@
 //! The world: one server, its clients, all packets ever sent, and the journal.
 #![tactic(auto)]
 
+pub mod replies;
 mod arriving;
 mod at_client;
 mod at_server;

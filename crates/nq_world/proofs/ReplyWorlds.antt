@@ -15,8 +15,8 @@ use Rattle.nq_datagrams.proofs.Readers.{client-reads-messages}
 use Rattle.walk_steps.proofs.ClientFacts.{fits_job}
 use Rattle.walk_steps.proofs.Packets.{In, in-get, Asked, Told}
 use Rattle.walk_steps.proofs.Worlds.{IsAt, to-told, run-holds}
-use Rattle.law_replies.specs.Replies.{RepliesAreOfTheirRequest, EachPacketIsHeard}
-use Rattle.law_replies.proofs.ServerReplies.{IsReplyOf, kind}
+use Rattle.nq_world.specs.Replies.{RepliesAreOfTheirRequest, EachPacketIsHeard}
+use Rattle.nq_world.proofs.ServerReplies.{IsReplyOf, kind}
 use Rattle.walk_steps.proofs.ReplyRuns.{AnswersOne, EachAnswers, each-answers}
 
 -- what is no client's request

@@ -1,6 +1,6 @@
 //! Replies.
 
-ghost use Rattle.law_replies.specs.Replies.{EachPacketIsHeard, RepliesAreOfTheirRequest};
+ghost use Rattle.nq_world.specs.Replies.{EachPacketIsHeard, RepliesAreOfTheirRequest};
 
 /// In every run a reply to a client's request under way is of the procedure of that request.
 pub fn replies_are_of_their_request()
