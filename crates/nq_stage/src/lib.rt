@@ -9,6 +9,7 @@
 //! `specs/Reading.antt`. Nothing here takes memory but the datagrams that are written.
 #![tactic(auto)]
 
+pub mod runs;
 mod laws;
 mod messages;
 pub mod pool;

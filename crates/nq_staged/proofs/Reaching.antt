@@ -22,8 +22,8 @@ use Rattle.nq_stage.specs.Outer.{Outer, Outside, Side, outside_start}
 use Rattle.nq_stage.specs.Outside.{inner, outside_run, outside_step, renewed, sends, sends_all, sends_as, sends_by, sends_from}
 use Rattle.nq_stage.specs.Theorem.{IsStagedSchedule, StagedBrings}
 use Rattle.nq_stage.proofs.Inner.{Inner, runs-inside, sent-all}
-use Rattle.law_staged.proofs.Rebuilt.{each-is-delivered, each-stands, rebuilds-what-was-meant}
-use Rattle.law_staged.specs.Lawful.{IsLawful}
+use Rattle.nq_stage.proofs.Rebuilt.{each-is-delivered, each-stands, rebuilds-what-was-meant}
+use Rattle.nq_stage.specs.Lawful.{IsLawful}
 use Rattle.nq_world.proofs.Going.{runs-are-lawful}
 use Rattle.nq_world.specs.Answering.{told as answer_of}
 use Rattle.nq_world.specs.Playing.{Plays, WorldOver, seen_of}

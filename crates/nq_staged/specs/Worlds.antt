@@ -11,7 +11,7 @@ use Rattle.nq_stage.specs.declared.run.event.StagedEvent.{StagedEvent}
 use Rattle.nq_stage.specs.Outer.{Outside}
 use Rattle.nq_stage.specs.Outside.{outside_run}
 use Rattle.nq_stage.specs.Theorem.{IsStagedSchedule, RebuildsMeant, EachStands, EachIsDelivered}
-use Rattle.law_staged.specs.Lawful.{IsLawful}
+use Rattle.nq_stage.specs.Lawful.{IsLawful}
 use Rattle.nq_world.specs.Answering.{told as answer_of}
 use Rattle.nq_world.specs.Playing.{WorldOver, Plays, CanCome}
 use Rattle.nq_world.specs.declared.Stepped.{Stepped}

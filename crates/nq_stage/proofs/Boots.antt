@@ -23,7 +23,7 @@ use Rattle.nq_stage.specs.Outer.{Outer, Side, Outside, outside_start}
 use Rattle.nq_stage.specs.Outside.{sends, inner, inner_delivery, takes_stage, takes_commit, served_commit, served_stage, to_server, told_side, heard_by, to_host, takes, delivers, outside_step, outside_run}
 use Rattle.nq_stage.proofs.Inner.{Core, inner-ran, delivery-cases, core-offering}
 use Rattle.nq_stage.specs.Hearing.{Told, acknowledged, again, other, told_by}
-use Rattle.law_staged.specs.Boots.{crashes, boot_of, BootsAreCounted, brought, brought_by, since_boot, PoolIsOfItsBoot, AnswersAreOfTheBoot, CrashesLoseAll}
+use Rattle.nq_stage.specs.Boots.{crashes, boot_of, BootsAreCounted, brought, brought_by, since_boot, PoolIsOfItsBoot, AnswersAreOfTheBoot, CrashesLoseAll}
 use Rattle.walk_steps.proofs.ServerMoves.{ServerMoves, server-moves, tick-moves}
 
 -- ---- the boot

@@ -14,7 +14,7 @@ use Rattle.nq_stage.specs.Reading.{Stage, call_as, call_by, call_in, stage_by, s
 use Rattle.nq_stage.specs.Outer.{Outer, Side, Outside}
 use Rattle.nq_stage.specs.Outside.{sends, inner_delivery, takes_stage, takes_commit, served_commit, served_stage, to_server, told_side, heard_by, to_host, takes, delivers}
 use Rattle.nq_stage.specs.Hearing.{Told, acknowledged, again, other, told_by}
-use Rattle.law_staged.specs.NotStored.{BesideStoresNothing, UnstagedStoresNothing}
+use Rattle.nq_stage.specs.NotStored.{BesideStoresNothing, UnstagedStoresNothing}
 use Rattle.walk_steps.proofs.ClientMoves.{none-some}
 use Rattle.walk_steps.proofs.Rows.{same-number}
 

@@ -18,8 +18,8 @@ use Rattle.nq_stage.specs.declared.run.event.StagedEvent.{StagedEvent}
 use Rattle.nq_stage.specs.Outer.{Outer, Outside}
 use Rattle.nq_stage.specs.Outside.{outside_run}
 use Rattle.nq_stage.specs.Theorem.{IsStagedSchedule, Travels, IsInnerPacket}
-use Rattle.law_staged.specs.Boots.{since_boot}
-use Rattle.law_staged.specs.Lawful.{plain_events, IsLawful}
+use Rattle.nq_stage.specs.Boots.{since_boot}
+use Rattle.nq_stage.specs.Lawful.{plain_events, IsLawful}
 
 -- a client that has lost its delayed writes and does not say so
 abbrev pub forgets : Client → Client

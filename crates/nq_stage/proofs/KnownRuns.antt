@@ -7,8 +7,8 @@ use Rattle.nq_base.specs.declared.Event.{Event}
 use Rattle.nq_base.specs.declared.Party.{Party}
 use Rattle.nq_base.specs.declared.Who.{Who}
 use Rattle.law_bounds.proofs.Saying.{server-says-plainly}
-use Rattle.law_staged.proofs.KnownClient.{Bodies, Carries, Says, HasOne, AllFit, More, more-asks, more-says, KnowsIn, IsKnown, begun-knows}
-use Rattle.law_staged.proofs.KnownSteps.{call-knows, tick-knows, hear-knows, restart-knows}
+use Rattle.nq_stage.proofs.KnownClient.{Bodies, Carries, Says, HasOne, AllFit, More, more-asks, more-says, KnowsIn, IsKnown, begun-knows}
+use Rattle.nq_stage.proofs.KnownSteps.{call-knows, tick-knows, hear-knows, restart-knows}
 use Rattle.nq_model.proofs.Lists.{each-append, each-map}
 use Rattle.nq_model.specs.Client.{Client, ClientStep, begun}
 use Rattle.nq_model.specs.ClientStep.{client_call, client_tick, restart, next_incarnation, fresh_client, attached_client}

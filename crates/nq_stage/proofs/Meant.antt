@@ -7,10 +7,10 @@ use Rattle.nq_base.specs.declared.Push.{Push}
 use Rattle.nq_base.specs.declared.Who.{Who}
 use Rattle.nq_datagrams.specs.Messages.{bytes_of}
 use Rattle.law_runs.proofs.EachOf.{each-at, each-get, each-filter, each-take}
-use Rattle.law_staged.proofs.Datagrams.{request-no-stage, commit-no-stage}
-use Rattle.law_staged.proofs.KnownClient.{Bodies, Carries}
-use Rattle.law_staged.proofs.Apart.{AreApart, there-at}
-use Rattle.law_staged.proofs.KnownRuns.{PacketKnown, Knowing, step-knows, start-knows, call-who, delivery-who, tick-who, server-tick-who, crash-who}
+use Rattle.nq_stage.proofs.Datagrams.{request-no-stage, commit-no-stage}
+use Rattle.nq_stage.proofs.KnownClient.{Bodies, Carries}
+use Rattle.nq_stage.proofs.Apart.{AreApart, there-at}
+use Rattle.nq_stage.proofs.KnownRuns.{PacketKnown, Knowing, step-knows, start-knows, call-who, delivery-who, tick-who, server-tick-who, crash-who}
 use Rattle.nq_model.proofs.Lists.{each-map}
 use Rattle.nq_model.specs.Client.{Client}
 use Rattle.nq_model.specs.Journal.{Each}
@@ -39,7 +39,7 @@ use Rattle.walk_steps.proofs.ClientMoves.{some-same, none-some}
 use Rattle.walk_steps.proofs.Packets.{In}
 use Rattle.walk_steps.proofs.Steps.{step-changes}
 use Rattle.walk_steps.proofs.Worlds.{Holds, step-holds, run-holds}
-use Rattle.law_staged.proofs.Meaning.{IsInner, IsMeant, KeepsWell, SomeMeant, IsRequest, AllKeep, AreOwn, MeantIn, whole, short, ahead, replied, stays, more-meant, more-keep, adds, fresh-keeps, set-keep, set-own, moved-own, restarted-own, same-meant, crashed-meant, restarted-meant, says-request, sends-meant, all-meant}
+use Rattle.nq_stage.proofs.Meaning.{IsInner, IsMeant, KeepsWell, SomeMeant, IsRequest, AllKeep, AreOwn, MeantIn, whole, short, ahead, replied, stays, more-meant, more-keep, adds, fresh-keeps, set-keep, set-own, moved-own, restarted-own, same-meant, crashed-meant, restarted-meant, says-request, sends-meant, all-meant}
 
 -- an inner event was run, and what it sent went out
 module _ (g : Bodies) (most : ℕ) (small : most < 2 ^ 32) where

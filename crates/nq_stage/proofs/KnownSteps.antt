@@ -17,7 +17,7 @@ use Rattle.walk_steps.proofs.ClientMoves.{some-same, none-some}
 use Rattle.walk_steps.proofs.SendCases.{send-cases}
 use Rattle.walk_steps.proofs.SettleCases.{settle-cases}
 use Rattle.walk_steps.proofs.StepCases.{call-cases, unless-cached-cases, tick-cases, heard-cases}
-use Rattle.law_staged.proofs.KnownClient.{Bodies, Asks, KnowsIn, later, answered, named, read-knows, delayed, marked, replied-knows, evicted-knows, begins, busy, calls, timed, again, sends-know, seq-knows, gives-knows, push-knows, through-knows}
+use Rattle.nq_stage.proofs.KnownClient.{Bodies, Asks, KnowsIn, later, answered, named, read-knows, delayed, marked, replied-knows, evicted-knows, begins, busy, calls, timed, again, sends-know, seq-knows, gives-knows, push-knows, through-knows}
 
 -- ---- whole steps, each of which gives two numbers at most
 

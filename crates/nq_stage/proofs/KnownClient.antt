@@ -11,7 +11,7 @@ use Rattle.nq_base.specs.declared.Request.{Request}
 use Rattle.nq_base.specs.declared.Tag.{Tag}
 use Rattle.nq_base.specs.declared.Who.{Who}
 use Rattle.law_runs.proofs.EachOf.{each-find, each-filter}
-use Rattle.law_staged.proofs.Apart.{AreApart, apart-filter, write-apart}
+use Rattle.nq_stage.proofs.Apart.{AreApart, apart-filter, write-apart}
 use Rattle.nq_model.proofs.Lists.{each-append, each-map}
 use Rattle.nq_model.specs.Client.{Client, ClientStep, Job, Notice, Ticket, UnderWay, begun, dirty_at, is_push_at, is_push_of, first_dirty, notice_on}
 use Rattle.nq_model.specs.ClientStep.{begins_call, is_called, says_busy, at_time, sends_again}

@@ -8,9 +8,9 @@ use Rattle.nq_base.specs.declared.Request.{Request}
 use Rattle.nq_base.specs.declared.Who.{Who}
 use Rattle.nq_datagrams.specs.Messages.{bytes_of}
 use Rattle.law_runs.proofs.EachOf.{each-get}
-use Rattle.law_staged.proofs.Datagrams.{IsPushOf, reads-push}
-use Rattle.law_staged.proofs.KnownClient.{Bodies, Asks, Says, More}
-use Rattle.law_staged.proofs.KnownRuns.{PacketKnown, Knowing, SameWho, later-knowing}
+use Rattle.nq_stage.proofs.Datagrams.{IsPushOf, reads-push}
+use Rattle.nq_stage.proofs.KnownClient.{Bodies, Asks, Says, More}
+use Rattle.nq_stage.proofs.KnownRuns.{PacketKnown, Knowing, SameWho, later-knowing}
 use Rattle.nq_model.proofs.Lists.{each-append}
 use Rattle.nq_model.specs.Client.{Client, ClientStep}
 use Rattle.nq_model.specs.ClientStep.{restart}

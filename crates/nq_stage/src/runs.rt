@@ -1,11 +1,10 @@
 //! What holds of every run with staged writes. Each law stands on a function with an empty body, whose clause is the law and whose
 //! proof stands in `proofs/`.
-#![tactic(auto)]
 
-ghost use Rattle.law_staged.specs.Boots.{AnswersAreOfTheBoot, BootsAreCounted, CrashesLoseAll, PoolIsOfItsBoot};
-ghost use Rattle.law_staged.specs.Lawful.{HeadlineHoldsOutside, InnerRunsAreLawful};
-ghost use Rattle.law_staged.specs.Met.{StagingIsMet};
-ghost use Rattle.law_staged.specs.NotStored.{BesideStoresNothing, StagedAreUnsaved, UnstagedStoresNothing};
+ghost use Rattle.nq_stage.specs.Boots.{AnswersAreOfTheBoot, BootsAreCounted, CrashesLoseAll, PoolIsOfItsBoot};
+ghost use Rattle.nq_stage.specs.Lawful.{HeadlineHoldsOutside, InnerRunsAreLawful};
+ghost use Rattle.nq_stage.specs.Met.{StagingIsMet};
+ghost use Rattle.nq_stage.specs.NotStored.{BesideStoresNothing, StagedAreUnsaved, UnstagedStoresNothing};
 ghost use Rattle.nq_stage.specs.Theorem.{EachIsDeliveredAsItsPacket, EachStandsForItsPacket, RebuildsWhatWasMeant};
 
 /// Each WRITE that the pool rebuilds is byte for byte the inner packet for which its COMMIT stands. So it is in every run of at most

@@ -10,7 +10,7 @@ use Rattle.nq_stage.specs.declared.run.event.StagedEvent.{StagedEvent}
 use Rattle.nq_stage.specs.Outer.{Outer, Outside}
 use Rattle.nq_stage.specs.Outside.{outside_step, outside_run}
 use Rattle.nq_stage.specs.Theorem.{Travels}
-use Rattle.law_staged.specs.Lawful.{IsLawful, plain_events}
+use Rattle.nq_stage.specs.Lawful.{IsLawful, plain_events}
 
 -- The delivery of a packet that stands for none leaves the inner world as it is: that of a STAGE, of its reply and of an UNSTAGED.
 abbrev pub BesideStoresNothing : Type 0

@@ -15,8 +15,8 @@ use Rattle.nq_stage.specs.Outer.{Outside, outside_start}
 use Rattle.nq_stage.specs.Outside.{inner, outside_run}
 use Rattle.nq_stage.proofs.Inner.{Core, inner-ran, delivery-cases, core-offering, runs-inside}
 use Rattle.law_runs.proofs.FateLaws.{waiting}
-use Rattle.law_staged.specs.Lawful.{plain_events, InnerRunsAreLawful, HeadlineHoldsOutside}
-use Rattle.law_staged.specs.NotStored.{StagedAreUnsaved}
+use Rattle.nq_stage.specs.Lawful.{plain_events, InnerRunsAreLawful, HeadlineHoldsOutside}
+use Rattle.nq_stage.specs.NotStored.{StagedAreUnsaved}
 
 -- ---- events that differ in deliveries alone
 

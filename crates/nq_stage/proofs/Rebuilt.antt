@@ -5,9 +5,9 @@ use Rattle.nq_base.specs.declared.Event.{Event}
 use Rattle.nq_base.specs.declared.Party.{Party}
 use Rattle.nq_datagrams.specs.Messages.{bytes_of}
 use Rattle.law_runs.proofs.EachOf.{each-get}
-use Rattle.law_staged.proofs.Datagrams.{request-no-stage, request-no-commit, stage-no-commit, commit-no-stage, reads-commit}
-use Rattle.law_staged.proofs.KnownClient.{Bodies}
-use Rattle.law_staged.proofs.KnownRuns.{PacketKnown, Knowing}
+use Rattle.nq_stage.proofs.Datagrams.{request-no-stage, request-no-commit, stage-no-commit, commit-no-stage, reads-commit}
+use Rattle.nq_stage.proofs.KnownClient.{Bodies}
+use Rattle.nq_stage.proofs.KnownRuns.{PacketKnown, Knowing}
 use Rattle.nq_model.specs.Journal.{Each}
 use Rattle.nq_model.specs.World.{World, step}
 use Rattle.nq_stage.specs.Answering.{Answer, write, unstaged, own_stage, own_commit, commit_if_own, stage_if_own, answered, answered_as}
@@ -25,8 +25,8 @@ use Rattle.nq_stage.specs.Theorem.{StandsFor, EachStandsForItsPacket, IsUnstaged
 use Rattle.nq_stage.proofs.Inner.{inner-ran}
 use Rattle.walk_steps.proofs.ClientMoves.{some-same, none-some}
 use Rattle.walk_steps.proofs.Packets.{In}
-use Rattle.law_staged.proofs.Meaning.{IsMeant, whole, short, ahead, replied, says-request}
-use Rattle.law_staged.proofs.Meant.{run-meant}
+use Rattle.nq_stage.proofs.Meaning.{IsMeant, whole, short, ahead, replied, says-request}
+use Rattle.nq_stage.proofs.Meant.{run-meant}
 
 -- ---- what is rebuilt
 

@@ -48,10 +48,10 @@ use Rattle.nq_wire.specs.Reply.{ok, results}
 use Rattle.nq_wire.specs.Request.{arguments}
 use Rattle.nq_xdr.specs.Item.{word, hyper, boolean, padding, opaque}
 use Rattle.nq_xdr.specs.Reading.{bytes_at, word_at, hyper_at, boolean_at, body_at as xdr_body_at, opaque_at}
-use Rattle.law_staged.specs.Lawful.{plain_events, IsLawful}
-use Rattle.law_staged.specs.Met.{forgets, CommitIsRefused, pool_of, StagingIsMet}
-use Rattle.law_staged.proofs.Boots.{crashes-lose-all}
-use Rattle.law_staged.proofs.Rebuilt.{rebuilds-what-was-meant}
+use Rattle.nq_stage.specs.Lawful.{plain_events, IsLawful}
+use Rattle.nq_stage.specs.Met.{forgets, CommitIsRefused, pool_of, StagingIsMet}
+use Rattle.nq_stage.proofs.Boots.{crashes-lose-all}
+use Rattle.nq_stage.proofs.Rebuilt.{rebuilds-what-was-meant}
 use Rattle.walk_steps.proofs.ClientMoves.{some-same, none-some}
 
 -- one host, one file of one block
