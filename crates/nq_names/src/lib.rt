@@ -5,6 +5,7 @@
 //! lists, and that a host which knows of a name knows what the server keeps under it.
 #![tactic(auto)]
 
+pub mod names;
 mod copying;
 mod delivering;
 mod reading;
