@@ -18,13 +18,13 @@ use Rattle.nq_disk.specs.Batch.{IsFit}
 use Rattle.nq_disk.specs.Ranges.{Range}
 use Rattle.nq_disk.specs.Saying.{Each}
 use Rattle.nq_disk.specs.Whole.{Settled, after}
-use Rattle.law_image.specs.Changing.{CanBeWritten, IsWritten, new_blocks, zeroed}
+use Rattle.nq_store.specs.Changing.{CanBeWritten, IsWritten, new_blocks, zeroed}
 use Rattle.nq_store.specs.Storing.{IsKeptOn, IsReady, LeavesKept, OpensWhole, kept_on, kept_told}
 use Rattle.nq_image.proofs.Agreeing.{agree-kept, agree-stands}
-use Rattle.law_image.proofs.Fitting.{change-fits}
-use Rattle.law_image.proofs.Zeroing.{all-zeros, zeroed-agrees}
-use Rattle.law_image.proofs.Opening.{change-settled, change-stands, closed-stands}
-use Rattle.law_image.proofs.Seats.{new-are-free}
+use Rattle.nq_store.proofs.Fitting.{change-fits}
+use Rattle.nq_store.proofs.ImagesZeroing.{all-zeros, zeroed-agrees}
+use Rattle.nq_store.proofs.Opening.{change-settled, change-stands, closed-stands}
+use Rattle.nq_store.proofs.Seats.{new-are-free}
 use Rattle.nq_store.proofs.Keeping.{held-kept, known, stands-kept}
 
 -- nothing is told, or something

@@ -20,12 +20,12 @@ use Rattle.nq_image.specs.declared.Slot.{Slot}
 use Rattle.nq_disk.specs.Batch.{IsFit}
 use Rattle.nq_disk.specs.Saying.{Each}
 use Rattle.nq_disk.specs.Whole.{IsClosed, OpensAfter, OpensAsOne, Settled, after}
-use Rattle.law_image.specs.Head.{if_reached}
-use Rattle.law_image.specs.Migrated.{blocks_in}
-use Rattle.law_image.specs.Prepared.{SameBelow, change_of, prepared, tabled}
-use Rattle.law_image.proofs.Leaving.{as-before, below-closed, below-stands, fits, mid-long, stands-one, then-begins, then-stands, then-two}
-use Rattle.law_image.proofs.Parts.{parts-of-one}
-use Rattle.law_image.proofs.Same.{opens-as-one, reaches-end}
+use Rattle.nq_store.specs.Head.{if_reached}
+use Rattle.nq_store.specs.Migrated.{blocks_in}
+use Rattle.nq_store.specs.Prepared.{SameBelow, change_of, prepared, tabled}
+use Rattle.nq_store.proofs.Leaving.{as-before, below-closed, below-stands, fits, mid-long, stands-one, then-begins, then-stands, then-two}
+use Rattle.nq_store.proofs.Parts.{parts-of-one}
+use Rattle.nq_store.proofs.Same.{opens-as-one, reaches-end}
 use Rattle.nq_store.specs.Examining.{Examines, Tests}
 use Rattle.nq_store.specs.Migrating.{CountsWriting, IsMigrated, IsOldImage, Migrates}
 use Rattle.nq_store.specs.Opening.{CountsFault}

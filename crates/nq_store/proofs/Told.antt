@@ -30,9 +30,9 @@ use Rattle.nq_disk.specs.declared.redo.redo.Redo.{Redo}
 use Rattle.nq_disk.specs.declared.redo.redo.RedoOpen.{RedoOpen}
 use Rattle.nq_disk.proofs.Front.{front-stays}
 use Rattle.nq_disk.proofs.Opening.{blanked-outside, opened-closed}
-use Rattle.law_image.specs.Reading.{IsClosedImage, ReadsImage}
-use Rattle.law_image.proofs.Closed.{blanked_bytes, front-wrong, no-version, read-so, same-parts}
-use Rattle.law_image.proofs.Opening.{blank}
+use Rattle.nq_store.specs.Reading.{IsClosedImage, ReadsImage}
+use Rattle.nq_store.proofs.Closed.{blanked_bytes, front-wrong, no-version, read-so, same-parts}
+use Rattle.nq_store.proofs.Opening.{blank}
 use Rattle.nq_store.specs.Loading.{AreFrontOf, Gives, IsHeadOf, IsShut, IsShutAs, Loads, OpensTables, is_name}
 use Rattle.nq_store.specs.Migrating.{IsMigrated, IsOld, Migrates}
 use Rattle.nq_store.specs.Opening.{IsSettledOf, SaysWrong, open_fault}

@@ -12,7 +12,7 @@ use Rattle.nq_image.specs.Held.{HeldTables, IsHeldOf}
 use Rattle.nq_disk.specs.Calling.{LeavesNoMore}
 use Rattle.nq_disk.specs.Saying.{Only}
 use Rattle.nq_disk.specs.Whole.{IsClosed}
-use Rattle.law_image.specs.Reading.{IsClosedTwo}
+use Rattle.nq_store.specs.Reading.{IsClosedTwo}
 use Rattle.nq_store.specs.Opening.{IsSettledOf}
 use Rattle.nq_store.specs.Storing.{IsKeptOn}
 use Rattle.nq_store.specs.declared.fault.Fault.{Fault}

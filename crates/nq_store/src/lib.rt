@@ -1,6 +1,7 @@
 //! What a server keeps, on a disk.
 #![tactic(auto)]
 
+pub mod images;
 mod examining;
 mod fault;
 mod loading;

@@ -11,7 +11,7 @@ ghost use Rattle.nq_image.specs.Standing.{Standing};
 ghost use Rattle.nq_disk.specs.Batch.{IsFit};
 ghost use Rattle.nq_disk.specs.Saying.{Each};
 ghost use Rattle.nq_disk.specs.Whole.{Settled, after};
-ghost use Rattle.law_image.specs.Changing.{new_blocks, zeroed};
+ghost use Rattle.nq_store.specs.Changing.{new_blocks, zeroed};
 ghost use Rattle.nq_store.specs.Loading.{OnlyAsked};
 ghost use Rattle.nq_store.specs.Storing.{CountsKeep, IsReady, OpensWhole, StandsStill};
 
