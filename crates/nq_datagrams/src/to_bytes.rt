@@ -8,7 +8,7 @@ ghost use Rattle.nq_datagrams.specs.Messages.{FitsMessage, bytes_of, program, ve
 
 use crate::numbers::{PROGRAM, VERSION};
 use nq_base::{NoMemory, Request};
-use nq_rpc::{Head, begin_call};
+use nq_xdr::rpc::{Head, begin_call};
 use nq_wire::{LONGEST_ARGUMENTS, Procedure, encode_request_into};
 use nq_xdr::Writer;
 

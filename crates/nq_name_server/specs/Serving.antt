@@ -14,7 +14,7 @@ use Rattle.nq_model.specs.Ask.{ask, conflicts}
 use Rattle.nq_model.specs.Profile.{xid_end}
 use Rattle.nq_model.specs.ServerStep.{end_reading, vacated_rows}
 use Rattle.nq_model.specs.Table.{Table, find_row, drop_row, with_rows}
-use Rattle.nq_rpc.specs.Message.{spelling, reply_with, null}
+use Rattle.nq_xdr.specs.Message.{spelling, reply_with, null}
 use Rattle.nq_name_server.specs.Served.{Served, Leaf, most_directories, number_of}
 
 -- a datagram to a host

@@ -18,8 +18,8 @@ use Rattle.nq_model.specs.Kept.{File, Kept, find_file}
 use Rattle.nq_model.specs.Message.{call, request}
 use Rattle.nq_directory.specs.Asking.{is_reading}
 use Rattle.nq_name_server.specs.Outside.{Changes, changes_as, changes_of, own_changes}
-use Rattle.nq_rpc.proofs.Messages.{message_again, null_fits}
-use Rattle.nq_rpc.specs.Message.{call_with, null, numbers, reply_with, spelling}
+use Rattle.nq_xdr.proofs.Messages.{message_again, null_fits}
+use Rattle.nq_xdr.specs.Message.{call_with, null, numbers, reply_with, spelling}
 use Rattle.nq_wire.specs.Parts.{grant_bytes, head, optional, tag_bytes, IsGrant}
 use Rattle.nq_wire.specs.Request.{arguments, procedure_of}
 use Rattle.nq_wire.specs.declared.Garbage.{Garbage}

@@ -22,8 +22,8 @@ use Rattle.nq_name_server.specs.Outer.{Outside, outside_start}
 use Rattle.nq_name_server.specs.Outside.{asks_as, found, outside_run, sends, served_as}
 use Rattle.nq_name_server.specs.Theorem.{IsNamesSchedule}
 use Rattle.nq_model.specs.Bounds.{BootsWithin}
-use Rattle.nq_rpc.specs.Message.{auth, numbers, outcome, spelling}
-use Rattle.nq_rpc.specs.Reading.{behind_auth, call_at, ended, bounds_at, accepted_as, accepted_at, denied_as, denied_at, outcome_at, reply_at, message_at}
+use Rattle.nq_xdr.specs.Message.{auth, numbers, outcome, spelling}
+use Rattle.nq_xdr.specs.RpcReading.{behind_auth, call_at, ended, bounds_at, accepted_as, accepted_at, denied_as, denied_at, outcome_at, reply_at, message_at}
 use Rattle.nq_wire.specs.Parts.{head, tag_bytes, want_bytes, grant_bytes, optional}
 use Rattle.nq_wire.specs.Reading.{head_at, tag_at, granted_mode, grant_at, optional_at, name_of, name_at}
 use Rattle.nq_xdr.specs.Item.{word, hyper, boolean, padding, opaque}

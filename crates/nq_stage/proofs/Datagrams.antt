@@ -8,8 +8,8 @@ use Rattle.nq_model.specs.Message.{call}
 use Rattle.nq_stage.specs.declared.Commit.{Commit}
 use Rattle.nq_stage.specs.declared.Pushed.{Pushed}
 use Rattle.nq_stage.specs.declared.Written.{Written}
-use Rattle.nq_rpc.specs.Message.{spelling, numbers, call_with, null}
-use Rattle.nq_rpc.proofs.Messages.{message_again, null_fits}
+use Rattle.nq_xdr.specs.Message.{spelling, numbers, call_with, null}
+use Rattle.nq_xdr.proofs.Messages.{message_again, null_fits}
 use Rattle.nq_stage.specs.Messages.{commit, stage, head_of, stage_bytes, commit_bytes, pushed_bytes, written_bytes, written_of, write_of, write_bytes, IsWritten, IsFront, IsPushed}
 use Rattle.nq_stage.specs.Reading.{call_as, call_by, call_in, push_at, stage_by, stage_in, commit_by, commit_in, push_by, push_in, read}
 use Rattle.nq_stage.proofs.Again.{call-again, front-again, commits-are-read, pushes-are-read}

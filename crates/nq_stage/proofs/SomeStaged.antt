@@ -31,8 +31,8 @@ use Rattle.nq_stage.specs.Answering.{Answer, write, answered, own_commit, commit
 use Rattle.nq_stage.specs.Bodies.{Bodies, with_body}
 use Rattle.nq_model.specs.Bounds.{BootsWithin}
 use Rattle.nq_model.specs.WritesAreAccounted.{WaitingAreUnsaved, IsDelayedBy, StillHas}
-use Rattle.nq_rpc.specs.Message.{auth, numbers, outcome, spelling}
-use Rattle.nq_rpc.specs.Reading.{behind_auth, call_at, ended, bounds_at, accepted_as, accepted_at, denied_as, denied_at, outcome_at, reply_at, message_at}
+use Rattle.nq_xdr.specs.Message.{auth, numbers, outcome, spelling}
+use Rattle.nq_xdr.specs.RpcReading.{behind_auth, call_at, ended, bounds_at, accepted_as, accepted_at, denied_as, denied_at, outcome_at, reply_at, message_at}
 use Rattle.nq_stage.specs.declared.Commit.{Commit}
 use Rattle.nq_stage.specs.declared.Pushed.{Pushed}
 use Rattle.nq_stage.specs.declared.Written.{Written}

@@ -5,6 +5,7 @@
 //! first fault of anything else; [`Writer`] writes it.
 #![tactic(auto)]
 
+pub mod rpc;
 mod fault;
 pub mod laws;
 mod reader;

@@ -1,7 +1,7 @@
 //! Reading messages. Only a page takes memory, for the names in it.
 
 ghost use Rattle.std.specs.Prelude.{◌≡◌, ◌≤◌, ◌+◌, [], length, option_copied, vec_len, vec_capacity, IfOk};
-ghost use Rattle.nq_rpc.specs.Lent.{lent_message, lent_outcome};
+ghost use Rattle.nq_xdr.specs.Lent.{lent_message, lent_outcome};
 ghost use Rattle.nq_directory.specs.Lent.{answer_of, answers_of, lent_call, listing_of};
 ghost use Rattle.nq_directory.specs.Messages.{most_names};
 ghost use Rattle.nq_directory.specs.Reading.{answer_at, call_as, call_in, count_at, dir_evicted_in, dir_tag_at, dir_tag_by, dir_vacated_in, end_at, entries_at, entry_at, page_alone, page_at, prefix_at, read_dir_at, read_dir_in, results_in, results_of, told_at, told_by, told_for, told_in};
@@ -14,7 +14,7 @@ use crate::listing::messages::{
 use crate::{FileName, Prefix};
 use nq_base::{FileId, NoMemory};
 use nq_datagrams::{PROGRAM, RPC_VERSION, VERSION};
-use nq_rpc::{LentCall, LentMessage, LentOutcome, LentReply, decode_in_place};
+use nq_xdr::rpc::{LentCall, LentMessage, LentOutcome, LentReply, decode_in_place};
 use nq_wire::Garbage;
 use nq_wire::parts::{name, optional_grant, tag, who};
 use nq_xdr::Reader;

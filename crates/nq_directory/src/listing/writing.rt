@@ -4,7 +4,7 @@ ghost use Rattle.std.specs.Prelude.{◌≡◌, ◌+◌, ◌≤◌, ◌++◌, Lis
 ghost use Rattle.nq_base.specs.Name.{IsName};
 ghost use Rattle.nq_directory.specs.Messages.{answer_bytes, dir_evicted, dir_evicted_bytes, dir_tag_arguments, dir_vacated_bytes, entries_bytes, entry_bytes, front_bytes, head_of, most_names, page, read_dir_arguments, read_dir_bytes, wait, IsDirTag, IsEntry, IsReadDir};
 ghost use Rattle.nq_directory.specs.Prefix.{IsPrefix};
-ghost use Rattle.nq_rpc.specs.Message.{call_with, null, reply_with, spelling};
+ghost use Rattle.nq_xdr.specs.Message.{call_with, null, reply_with, spelling};
 ghost use Rattle.nq_wire.specs.Parts.{grant_bytes, optional, IsGrant, IsTag, IsWho};
 ghost use Rattle.nq_xdr.specs.Item.{opaque};
 
@@ -14,7 +14,7 @@ use crate::listing::messages::{
 use crate::{FileName, Prefix};
 use nq_base::{Grant, NoMemory};
 use nq_datagrams::{PROGRAM, VERSION};
-use nq_rpc::{Head, begin_call, begin_reply};
+use nq_xdr::rpc::{Head, begin_call, begin_reply};
 use nq_wire::parts::{name_len, put_name, put_optional_grant, put_tag, put_who};
 use nq_xdr::Writer;
 use std::alloc::Global;
