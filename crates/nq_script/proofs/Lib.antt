@@ -28,3 +28,6 @@ pub mod SpanWords
 pub mod Splitting
 pub mod Whole
 pub mod WordsCuts
+pub mod Joining
+pub mod Ranges
+pub mod Rounds

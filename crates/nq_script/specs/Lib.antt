@@ -11,3 +11,8 @@ pub mod Schedule
 pub mod Text
 pub mod Words
 pub mod WordsReading
+pub mod Answers
+pub mod Commands
+pub mod CommandLines
+pub mod Pieces
+pub mod Starts
