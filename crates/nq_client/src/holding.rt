@@ -9,7 +9,7 @@ ghost use Rattle.nq_client.specs.Step.{step_of};
 
 use crate::step::Step;
 use nq_base::{FileId, Grant, Mode, Ticks};
-use nq_cache::cleans;
+use nq_client_parts::cache::cleans;
 use nq_client_parts::Leases;
 use nq_client_parts::holding::Held;
 
