@@ -8,3 +8,9 @@ pub mod MadeFiles
 pub mod Naming
 pub mod Places
 pub mod Stored
+pub mod Capping
+pub mod Concluding
+pub mod HeadsChange
+pub mod OnceOnly
+pub mod Sequences
+pub mod SomeRepeats

@@ -5,3 +5,9 @@ pub mod Keeping
 pub mod KeeperLaws
 pub mod Named
 pub mod StoredKeeper
+pub mod Booting
+pub mod RequestsCapped
+pub mod Deciding
+pub mod Reading
+pub mod Recovery
+pub mod Repeats

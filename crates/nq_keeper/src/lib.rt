@@ -5,6 +5,7 @@
 //! moments may leave. An answer `Failed` comes only where that count rose in the call.
 #![tactic(auto)]
 
+pub mod requests;
 mod bounds;
 mod files;
 mod keeper;

@@ -9,7 +9,7 @@ use Rattle.nq_base.specs.declared.Mode.{Mode}
 use Rattle.nq_base.specs.declared.Reply.{Reply}
 use Rattle.nq_base.specs.declared.Request.{Request}
 use Rattle.nq_base.specs.declared.Who.{Who}
-use Rattle.nq_files.specs.Booting.{last_boot}
+use Rattle.nq_keeper.specs.Booting.{last_boot}
 use Rattle.nq_datagrams.proofs.Readers.{server-reads-messages}
 use Rattle.nq_datagrams.specs.Incoming.{datagram_in}
 use Rattle.nq_datagrams.specs.Messages.{FitsMessage, bytes_of}

@@ -2,11 +2,11 @@
 -- it; `before` and `count` are its counts of faults.
 use Rattle.std.specs.Prelude.{◌≡◌, ◌<◌, ◌≤◌, ◌^◌, ℕ, ◌+◌, Option, Some, Result, Ok, Err}
 use Rattle.std.specs.Option.{ForSome}
-use Rattle.nq_files.specs.declared.boot.StartFault.{StartFault}
-use Rattle.nq_files.specs.declared.boot.StartFault.TheVariants as start
-use Rattle.nq_files.specs.declared.boot.Started.{Started}
-use Rattle.nq_files.specs.declared.boot.Started.TheVariants as begins
-use Rattle.nq_files.specs.Booting.{IsOfTerm, last_boot, started_of}
+use Rattle.nq_keeper.specs.declared.requests.boot.StartFault.{StartFault}
+use Rattle.nq_keeper.specs.declared.requests.boot.StartFault.TheVariants as start
+use Rattle.nq_keeper.specs.declared.requests.boot.Started.{Started}
+use Rattle.nq_keeper.specs.declared.requests.boot.Started.TheVariants as begins
+use Rattle.nq_keeper.specs.Booting.{IsOfTerm, last_boot, started_of}
 use Rattle.nq_io.specs.Faults.{Rose}
 use Rattle.nq_keeper.specs.Keeping.{StaysOrEnds}
 use Rattle.nq_model.specs.Kept.{Kept}

@@ -2,7 +2,7 @@
 use Rattle.std.proofs.Common.{◌≡◌, ◌≤◌, ℕ, zero, suc, ◌==◌, Bool, true, false, List, [], ◌∷◌, Option, Some, ap, sym, ◌∙◌, arith, inl, inr, length, if◌then◌else◌}
 use Rattle.std.specs.Prelude.{slice_get}
 use Rattle.nq_base.specs.declared.Event.{Event}
-use Rattle.nq_files.specs.Booting.{last_boot}
+use Rattle.nq_keeper.specs.Booting.{last_boot}
 use Rattle.nq_client.specs.Counted.{Counted}
 use Rattle.nq_model.specs.Kept.{Kept}
 use Rattle.nq_model.specs.Skew.{is_server_tick, is_tick_of, server_ticks, ticks_of}
