@@ -8,7 +8,7 @@ use Rattle.nq_base.specs.declared.Event.{Event}
 use Rattle.nq_base.specs.declared.Who.{Who}
 use Rattle.law_runs.proofs.AnsweredWorlds.{received-tells, tick-tells, crash-tells}
 use Rattle.law_runs.proofs.WorldWrites.{hear-same, replies-known, writes-fit}
-use Rattle.law_bounds.proofs.LeaseIntervals.{run-runs}
+use Rattle.walk_steps.proofs.LeaseIntervals.{run-runs}
 use Rattle.nq_model.proofs.Lists.{exists-left, exists-right}
 use Rattle.nq_model.specs.Client.{Client, ClientStep, begun}
 use Rattle.nq_model.specs.ClientStep.{client_call, client_tick, restart, starts, fresh_client, next_incarnation}

@@ -25,7 +25,7 @@ use Rattle.nq_model.specs.ServerStep.{access_of, to_read, attaches, vacates, vac
 use Rattle.nq_model.specs.Skew.{IsWithinSkew}
 use Rattle.nq_model.specs.Table.{Table, caches, is_writing, same_tag, find_row, is_row_of, drop_host, drop_rows_of, drop_row, put_row, with_rows, after_draw}
 use Rattle.nq_model.specs.World.{Head, run}
-use Rattle.law_bounds.proofs.LeaseIntervals.{run-runs}
+use Rattle.walk_steps.proofs.LeaseIntervals.{run-runs}
 use Rattle.walk_steps.proofs.ClientMoves.{some-same, none-some}
 use Rattle.walk_steps.proofs.Runs.{none-served}
 use Rattle.walk_steps.proofs.AskCases.{with_marked, IsGranted, shares_again, begins_sharing, begins_caching, renews_row}

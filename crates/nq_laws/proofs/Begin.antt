@@ -19,7 +19,7 @@ use Rattle.nq_model.specs.World.{Head, World, from_host, after_client, after_ser
 use Rattle.law_rounds.specs.RequestsAreMeant.{wanted, IsMeant}
 use Rattle.law_rounds.proofs.ClientCount.{client-count}
 use Rattle.law_rounds.proofs.Meant.{requests-are-meant}
-use Rattle.law_bounds.proofs.LeaseIntervals.{run-runs}
+use Rattle.walk_steps.proofs.LeaseIntervals.{run-runs}
 use Rattle.law_rounds.specs.CalmRoundsAreLawful.{IsLawful}
 use Rattle.law_rounds.specs.QuietDeliveries.{recovers}
 use Rattle.law_rounds.proofs.PacketsCome.{Comes}

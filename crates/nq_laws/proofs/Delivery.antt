@@ -25,8 +25,8 @@ use Rattle.law_rounds.specs.RequestsAreMeant.{wanted, IsMeant}
 use Rattle.law_rounds.proofs.ClientCount.{client-count}
 use Rattle.law_rounds.proofs.HostsBelow.{run-local, stands-apart}
 use Rattle.law_rounds.proofs.Meant.{requests-are-meant}
-use Rattle.law_bounds.proofs.LeaseIntervals.{run-runs}
-use Rattle.law_bounds.proofs.NoticeCounts.{HostedBelow}
+use Rattle.walk_steps.proofs.LeaseIntervals.{run-runs}
+use Rattle.walk_steps.proofs.NoticeCounts.{HostedBelow}
 use Rattle.law_rounds.specs.CalmRoundsAreLawful.{IsLawful}
 use Rattle.law_rounds.specs.QuietDeliveries.{recovers}
 use Rattle.law_rounds.proofs.PacketsCome.{Comes}
@@ -34,7 +34,7 @@ use Rattle.law_rounds.proofs.Attaching.{hear-stays}
 use Rattle.law_rounds.proofs.CalmEnds.{IsRising, played-rising}
 use Rattle.law_rounds.proofs.CalmIsLawful.{played-quiet}
 use Rattle.law_rounds.proofs.QuietFlows.{delivered-phase}
-use Rattle.law_bounds.proofs.WorldSequences.{run-draws}
+use Rattle.walk_steps.proofs.WorldSequences.{run-draws}
 use Rattle.law_rounds.proofs.Next.{IsNext, next-in}
 use Rattle.law_rounds.proofs.Coming.{Delivery, no_packet, at_server, at_host, ignored, no_client, delivery}
 use Rattle.walk_steps.proofs.ClientFacts.{fits_job}

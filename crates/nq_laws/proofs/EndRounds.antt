@@ -17,7 +17,7 @@ use Rattle.nq_model.specs.World.{Head, World, run}
 use Rattle.nq_model.specs.Bounds.{KeepsBounds}
 use Rattle.law_rounds.proofs.ClientCount.{client-count}
 use Rattle.law_rounds.specs.DeliveryEnds.{calmed, enough_deliveries}
-use Rattle.law_bounds.proofs.LeaseIntervals.{run-runs}
+use Rattle.walk_steps.proofs.LeaseIntervals.{run-runs}
 use Rattle.law_rounds.specs.CallsAreAnswered.{IsAnswered}
 use Rattle.law_rounds.specs.CalmRound.{calm_round, calm_rounds}
 use Rattle.law_rounds.specs.CalmRoundsAreLawful.{IsLawful}

@@ -12,7 +12,7 @@ use Rattle.nq_model.specs.Skew.{IsWithinSkew}
 use Rattle.nq_model.specs.Table.{same_who, tag_below, find_row}
 use Rattle.nq_model.specs.World.{Head, run}
 use Rattle.nq_model.specs.Bounds.{KeepsBounds}
-use Rattle.law_bounds.proofs.LeaseIntervals.{run-runs}
+use Rattle.walk_steps.proofs.LeaseIntervals.{run-runs}
 use Rattle.walk_steps.proofs.ClientMoves.{some-same}
 use Rattle.walk_steps.proofs.Worlds.{run-holds}
 use Rattle.walk_steps.proofs.Rows.{found-row, number-same}

@@ -20,14 +20,14 @@ use Rattle.nq_model.specs.Profile.{xid_end}
 use Rattle.nq_model.specs.Server.{Server, to_host, notices, after_notices, keeping, keeping_with, with_table, quiet, drops, says}
 use Rattle.nq_model.specs.ServerStep.{attaches, vacates, tells_later, serves, leases, receive}
 use Rattle.nq_model.specs.World.{Head, World, from_host, after_client, after_server, sending_host, step, run}
-use Rattle.law_bounds.proofs.LeaseIntervals.{run-runs}
+use Rattle.walk_steps.proofs.LeaseIntervals.{run-runs}
 use Rattle.law_rounds.specs.CalmRoundsAreLawful.{IsLawful}
 use Rattle.law_rounds.specs.QuietDeliveries.{recovers}
 use Rattle.law_rounds.proofs.PacketsCome.{Comes}
 use Rattle.law_rounds.proofs.Attaching.{hear-stays}
 use Rattle.law_rounds.proofs.CalmIsLawful.{played-quiet}
 use Rattle.law_rounds.proofs.QuietFlows.{delivered-phase}
-use Rattle.law_bounds.proofs.WorldSequences.{run-draws}
+use Rattle.walk_steps.proofs.WorldSequences.{run-draws}
 use Rattle.walk_steps.proofs.ClientMoves.{none-some}
 use Rattle.walk_steps.proofs.Members.{in-filter}
 use Rattle.walk_steps.proofs.Packets.{In, in-left, in-append, in-last, in-get, Asked, Told, reply-same}

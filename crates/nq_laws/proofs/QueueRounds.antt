@@ -15,12 +15,12 @@ use Rattle.nq_model.specs.Server.{Server, to_host}
 use Rattle.nq_model.specs.ServerStep.{receive}
 use Rattle.nq_model.specs.World.{Head, World, from_host, after_client, after_server, at_client, sending_host, step, run}
 use Rattle.law_rounds.proofs.ClientCount.{client-count}
-use Rattle.law_bounds.proofs.LeaseIntervals.{run-runs}
+use Rattle.walk_steps.proofs.LeaseIntervals.{run-runs}
 use Rattle.law_rounds.specs.CalmRoundsAreLawful.{IsLawful}
 use Rattle.law_rounds.proofs.Attaching.{hear-stays, tick-stays}
 use Rattle.law_rounds.proofs.CalmEnds.{IsRising, played-rising, hosts-rising}
 use Rattle.law_rounds.proofs.CalmIsLawful.{played-quiet, round}
-use Rattle.law_bounds.proofs.WorldSequences.{run-draws}
+use Rattle.walk_steps.proofs.WorldSequences.{run-draws}
 use Rattle.law_rounds.proofs.Coming.{Delivery, no_packet, at_server, at_host, ignored, no_client, delivery}
 use Rattle.law_rounds.proofs.Lines.{run-lined}
 use Rattle.law_rounds.proofs.LineSteps.{line-goes}

@@ -25,9 +25,9 @@ use Rattle.walk_steps.proofs.Worlds.{to-server, run-holds}
 use Rattle.walk_steps.proofs.Incarnations.{one-who}
 use Rattle.walk_steps.proofs.KeptChanges.{booted-line}
 use Rattle.walk_steps.proofs.ServerCases.{server-ticks}
-use Rattle.law_bounds.proofs.WorldNumbers.{drawn-up-to}
-use Rattle.law_bounds.proofs.OneRequests.{one-in-every-run}
-use Rattle.law_bounds.proofs.Places.{in-place}
+use Rattle.walk_steps.proofs.WorldNumbers.{drawn-up-to}
+use Rattle.walk_steps.proofs.OneRequests.{one-in-every-run}
+use Rattle.walk_steps.proofs.Places.{in-place}
 use Rattle.nq_laws.specs.RefusalsHaveCauses.{HadCause, RefusalsHaveCauses}
 use Rattle.nq_laws.proofs.Causes.{IsTold}
 use Rattle.nq_laws.proofs.ServerTells.{Reason, so_before, so_after, again, Tells, RowMove, row_stays, row_begins, row_decided, receive-tells}

@@ -33,8 +33,8 @@ use Rattle.law_rounds.proofs.Meant.{requests-are-meant}
 use Rattle.law_rounds.proofs.NamedRows.{named-rows}
 use Rattle.law_rounds.proofs.SharedRows.{shared-stay}
 use Rattle.law_rounds.proofs.SharingRows.{rows-to-go}
-use Rattle.law_bounds.proofs.LeaseIntervals.{run-runs}
-use Rattle.law_bounds.proofs.NoticeCounts.{HostedBelow}
+use Rattle.walk_steps.proofs.LeaseIntervals.{run-runs}
+use Rattle.walk_steps.proofs.NoticeCounts.{HostedBelow}
 use Rattle.law_rounds.specs.CalmRoundsAreLawful.{IsLawful}
 use Rattle.law_rounds.specs.QuietDeliveries.{recovers}
 use Rattle.law_rounds.proofs.PacketsCome.{Comes}
@@ -43,7 +43,7 @@ use Rattle.law_rounds.proofs.CalmEnds.{IsRising, played-rising}
 use Rattle.law_rounds.proofs.CalmIsLawful.{played-quiet}
 use Rattle.law_rounds.proofs.QuietFlows.{delivered-phase}
 use Rattle.nq_laws.proofs.NoRenewals.{CallsFirst, hear-first}
-use Rattle.law_bounds.proofs.WorldSequences.{run-draws}
+use Rattle.walk_steps.proofs.WorldSequences.{run-draws}
 use Rattle.law_rounds.proofs.Next.{OneLink, IsNext}
 use Rattle.law_rounds.proofs.Coming.{in-map, Delivery, no_packet, at_server, at_host, ignored, no_client, delivery}
 use Rattle.walk_steps.proofs.ClientFacts.{fits_job}

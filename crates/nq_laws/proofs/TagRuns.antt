@@ -24,7 +24,7 @@ use Rattle.nq_model.specs.World.{Head, World, from_host, after_server, after_cli
 use Rattle.nq_model.specs.Bounds.{KeepsBounds}
 use Rattle.law_rounds.proofs.HostsBelow.{one-row-each}
 use Rattle.law_rounds.proofs.NoticeRows.{notices-mark}
-use Rattle.law_bounds.proofs.LeaseIntervals.{run-runs}
+use Rattle.walk_steps.proofs.LeaseIntervals.{run-runs}
 use Rattle.walk_steps.proofs.ClientMoves.{some-same, none-some}
 use Rattle.walk_steps.proofs.Runs.{Runs, none-served}
 use Rattle.walk_steps.proofs.Mail.{old-told, sent-calls, other-asked}

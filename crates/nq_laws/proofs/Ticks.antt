@@ -17,7 +17,7 @@ use Rattle.law_rounds.proofs.ClientCount.{client-count}
 use Rattle.law_rounds.specs.CalmRoundsAreLawful.{IsLawful}
 use Rattle.law_rounds.specs.QuietDeliveries.{recovers}
 use Rattle.law_rounds.proofs.CalmIsLawful.{round}
-use Rattle.law_bounds.proofs.LeaseIntervals.{run-runs}
+use Rattle.walk_steps.proofs.LeaseIntervals.{run-runs}
 use Rattle.walk_steps.proofs.StepCases.{tick-cases}
 use Rattle.walk_steps.proofs.RowChanges.{HasUniqueKeys, found-kept, unique-filtered}
 use Rattle.walk_steps.proofs.ServerCases.{server-ticks}

@@ -28,12 +28,12 @@ use Rattle.law_rounds.specs.RequestsAreMeant.{wanted, IsMeant}
 use Rattle.law_rounds.proofs.ClientCount.{client-count}
 use Rattle.law_rounds.proofs.HostsBelow.{run-local, stands-apart}
 use Rattle.law_rounds.proofs.Meant.{requests-are-meant}
-use Rattle.law_bounds.proofs.LeaseIntervals.{run-runs}
-use Rattle.law_bounds.proofs.NoticeCounts.{HostedBelow}
+use Rattle.walk_steps.proofs.LeaseIntervals.{run-runs}
+use Rattle.walk_steps.proofs.NoticeCounts.{HostedBelow}
 use Rattle.law_rounds.specs.CalmRoundsAreLawful.{IsLawful}
 use Rattle.law_rounds.proofs.PacketsCome.{Comes}
 use Rattle.nq_laws.proofs.NoRenewals.{CallsFirst}
-use Rattle.law_bounds.proofs.WorldSequences.{run-draws}
+use Rattle.walk_steps.proofs.WorldSequences.{run-draws}
 use Rattle.law_rounds.proofs.Next.{OneLink, IsNext}
 use Rattle.law_rounds.proofs.Coming.{in-map, Delivery, no_packet, at_server, at_host, ignored, no_client, delivery}
 use Rattle.walk_steps.proofs.ClientFacts.{fits_job}

@@ -3,7 +3,7 @@ use Rattle.std.proofs.Common.{◌≡◌, ◌≤◌, ◌⊎◌, ℕ, Bool, true, 
 use Rattle.std.specs.Prelude.{IsSome}
 use Rattle.std.specs.List.{find, filter}
 use Rattle.nq_loop.specs.Serving.{Coming, datagram, ticks, crashes, Does, HasBooted, HasCome, IsServed, RowsApart, ServedRowsStandApart}
-use Rattle.law_bounds.proofs.KeptTags.{own-keys}
+use Rattle.walk_steps.proofs.KeptTags.{own-keys}
 use Rattle.nq_base.specs.declared.Row.{Row}
 use Rattle.nq_datagrams.specs.Incoming.{datagram_in}
 use Rattle.nq_base.specs.Entries.{EntryList}

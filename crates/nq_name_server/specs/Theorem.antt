@@ -1,6 +1,6 @@
 -- What is promised of a world with leased directories.
 use Rattle.std.specs.Prelude.{◌≡◌, ◌≢◌, ◌≤◌, ℕ, List, [], ◌∷◌, Option, Some, None, length}
-use Rattle.law_bounds.specs.Within.{AreGiven, IsHeadWithin}
+use Rattle.walk_steps.specs.Within.{AreGiven, IsHeadWithin}
 use Rattle.nq_directory.specs.Prefix.{IsPrefix}
 use Rattle.nq_model.specs.Journal.{Each}
 use Rattle.nq_model.specs.Kept.{File, find_name}

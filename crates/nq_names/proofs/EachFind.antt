@@ -18,7 +18,7 @@ use Rattle.nq_name_server.specs.Lasting.{EachListLasts}
 use Rattle.nq_name_server.specs.Outer.{Outside, of_boot, outside_start}
 use Rattle.nq_name_server.specs.Outside.{outside_run, outside_step}
 use Rattle.nq_name_server.specs.Theorem.{EachFindIsKept, IsNamesSchedule}
-use Rattle.law_bounds.specs.Within.{AreGiven, NumbersStayWithin}
+use Rattle.walk_steps.specs.Within.{AreGiven, NumbersStayWithin}
 use Rattle.walk_steps.proofs.ClientMoves.{none-some, some-same}
 use Rattle.walk_steps.proofs.Clocks.{within-before}
 use Rattle.walk_steps.proofs.NoCrash.{bounds-before}

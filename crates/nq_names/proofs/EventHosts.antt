@@ -16,7 +16,7 @@ use Rattle.nq_directory.specs.NameCacheNames.{Names, before_call, new_names}
 use Rattle.nq_name_server.specs.Served.{Served}
 use Rattle.nq_name_server.specs.Outer.{Outer}
 use Rattle.nq_name_server.specs.Outside.{at_side}
-use Rattle.law_bounds.proofs.OneHost.{of-one-host}
+use Rattle.walk_steps.proofs.OneHost.{of-one-host}
 use Rattle.walk_steps.proofs.ClientMoves.{none-some, some-same}
 use Rattle.walk_steps.proofs.WorldClocks.{StillIf, call-still, hear-still, tick-still}
 use Rattle.walk_steps.proofs.Packets.{In, in-get}

@@ -9,7 +9,7 @@ use Rattle.nq_model.specs.ServerStep.{receive}
 use Rattle.nq_model.specs.World.{World, after_server, deliver, deliver_to, sending_host, step}
 use Rattle.nq_name_server.specs.Outer.{Outer, Outside}
 use Rattle.nq_name_server.specs.Outside.{inside, sends, sends_all}
-use Rattle.law_bounds.proofs.OneHost.{of-one-host}
+use Rattle.walk_steps.proofs.OneHost.{of-one-host}
 use Rattle.walk_steps.proofs.ClientMoves.{none-some}
 use Rattle.nq_names.proofs.InnerSteps.{AreInner}
 use Rattle.nq_names.proofs.OuterFits.{IsInner}

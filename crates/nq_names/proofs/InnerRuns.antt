@@ -9,9 +9,9 @@ use Rattle.nq_model.specs.Server.{ServerStep}
 use Rattle.nq_model.specs.Skew.{IsWithinSkew}
 use Rattle.nq_model.specs.Stepped.{most_events}
 use Rattle.nq_model.specs.World.{Head, World, after_server, run, start}
-use Rattle.law_bounds.specs.Within.{AreGiven, IsHeadWithin, IsServerAfter, NumbersStayWithin}
-use Rattle.law_bounds.proofs.WorldNumbers.{DrawnUpTo, drawn-up-to}
-use Rattle.law_bounds.proofs.LeaseIntervals.{run-runs}
+use Rattle.walk_steps.specs.Within.{AreGiven, IsHeadWithin, IsServerAfter, NumbersStayWithin}
+use Rattle.walk_steps.proofs.WorldNumbers.{DrawnUpTo, drawn-up-to}
+use Rattle.walk_steps.proofs.LeaseIntervals.{run-runs}
 use Rattle.walk_steps.proofs.ClientMoves.{none-some, some-same}
 use Rattle.walk_steps.proofs.Runs.{Runs}
 use Rattle.walk_steps.proofs.WorldClocks.{Clocked, run-clocked}

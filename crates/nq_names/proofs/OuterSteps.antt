@@ -16,8 +16,8 @@ use Rattle.nq_directory.specs.declared.listing.DirTag.{DirTag}
 use Rattle.nq_directory.specs.declared.listing.ReadDir.{ReadDir}
 use Rattle.nq_directory.specs.Messages.{IsReadDir}
 use Rattle.nq_directory.specs.Reading.{dir_vacated_in, read_dir_in}
-use Rattle.law_bounds.specs.Within.{CarriesText}
-use Rattle.law_bounds.proofs.OneHost.{of-one-host}
+use Rattle.walk_steps.specs.Within.{CarriesText}
+use Rattle.walk_steps.proofs.OneHost.{of-one-host}
 use Rattle.nq_model.specs.Change.{IsFileWithin}
 use Rattle.nq_model.specs.Client.{Client}
 use Rattle.nq_model.specs.Kept.{File, find_file, find_name, host_row}

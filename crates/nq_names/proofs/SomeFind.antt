@@ -28,7 +28,7 @@ use Rattle.nq_wire.specs.Parts.{head, tag_bytes, want_bytes, grant_bytes, option
 use Rattle.nq_wire.specs.Reading.{head_at, tag_at, granted_mode, grant_at, optional_at, name_of, name_at}
 use Rattle.nq_xdr.specs.Item.{word, hyper, boolean, padding, opaque}
 use Rattle.nq_xdr.specs.Reading.{bytes_at, word_at, hyper_at, boolean_at, body_at, opaque_at}
-use Rattle.law_bounds.specs.Within.{AreGiven}
+use Rattle.walk_steps.specs.Within.{AreGiven}
 use Rattle.nq_names.specs.Met.{FindsAreMet}
 use Rattle.walk_steps.proofs.GivenRuns.{given-run}
 

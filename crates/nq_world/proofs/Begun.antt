@@ -21,7 +21,7 @@ use Rattle.nq_world.specs.Moving.{clients_in}
 use Rattle.nq_world.specs.Playing.{WorldOver, Begins, HasSettings, IsNew, Plays, keeper_in, seen_of}
 use Rattle.nq_world.specs.declared.starting.NewFault.{NewFault}
 use Rattle.nq_world.specs.declared.starting.NewFault.TheVariants as fault
-use Rattle.law_bounds.specs.Within.{AreDistinct, IsHeadWithin, IsNew as IsFresh}
+use Rattle.walk_steps.specs.Within.{AreDistinct, IsHeadWithin, IsNew as IsFresh}
 
 -- one more client behind the first ones
 pub first-clients-more : (term host count : ℕ) → first_clients term host (suc count) ≡ first_clients term host count ++ attached_client (record { host = host + count; inc = 1 }) term 0 ∷ []

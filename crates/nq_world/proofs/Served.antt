@@ -23,8 +23,8 @@ use Rattle.nq_server.specs.Holding.{Holding, IsTaken, Reboots, TakesIn}
 use Rattle.nq_server.specs.State.{Beside, beside, server_of}
 use Rattle.nq_server.specs.declared.received.Received.{Received}
 use Rattle.nq_wire.specs.Outbox.{Datagrams}
-use Rattle.law_bounds.specs.Says.{SaysPlainly}
-use Rattle.law_bounds.specs.Within.{IsGiven}
+use Rattle.walk_steps.specs.Says.{SaysPlainly}
+use Rattle.walk_steps.specs.Within.{IsGiven}
 use Rattle.nq_world.proofs.Counting.{took-more}
 use Rattle.nq_world.proofs.Little.{server-sends-little}
 use Rattle.nq_world.proofs.Passing.{done-passes}

@@ -24,7 +24,7 @@ use Rattle.nq_server.specs.State.{server_of}
 use Rattle.nq_server.specs.Stepping.{next_of}
 use Rattle.nq_server.specs.declared.received.Received.{Received}
 use Rattle.nq_wire.specs.Outbox.{Datagrams}
-use Rattle.law_bounds.proofs.Saying.{server-says-plainly}
+use Rattle.walk_steps.proofs.Saying.{server-says-plainly}
 use Rattle.nq_world.proofs.Moved.{acts-steps, client-steps, hearing-steps}
 use Rattle.nq_world.proofs.Passing.{done-passes}
 use Rattle.nq_world.proofs.Played.{clocks-stay}

@@ -8,7 +8,7 @@ use Rattle.nq_model.specs.Kept.{Kept}
 use Rattle.nq_model.specs.Skew.{is_server_tick, is_tick_of, server_ticks, ticks_of}
 use Rattle.nq_model.specs.World.{Head, run}
 use Rattle.walk_steps.proofs.WorldClocks.{run-clocked}
-use Rattle.law_bounds.proofs.WorldNumbers.{drawn-up-to, numbers-stay-within}
+use Rattle.walk_steps.proofs.WorldNumbers.{drawn-up-to, numbers-stay-within}
 use Rattle.nq_world.proofs.Counting.{took-at}
 use Rattle.nq_world.specs.Counting.{ClientIsSpent, IsLastTime, IsSpent, HasNumbersLeft, ServerIsSpent}
 use Rattle.nq_world.specs.Moving.{clients_in}

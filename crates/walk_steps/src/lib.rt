@@ -2,3 +2,5 @@
 //! numbers, packets, mail, lines, clocks and leases, which entries it adds to a journal, and the frame in which a fact is shown of
 //! every run. It has no code.
 #![tactic(auto)]
+
+pub mod bounds;
