@@ -6,7 +6,7 @@ use Rattle.nq_base.specs.declared.Request.{Request}
 use Rattle.nq_base.specs.declared.Row.{Row}
 use Rattle.walk_steps.proofs.ClientMoves.{none-some}
 use Rattle.law_runs.proofs.Answered.{Answered, AnsweredOf, call-answers, tick-answers, restart-answers, hear-answers, other-answers, server-answers}
-use Rattle.walk_calls.proofs.ServerTells.{none-quiet, one-quiet, ServerTells, same_lines, hears-tells}
+use Rattle.walk_files.proofs.ServerTells.{none-quiet, one-quiet, ServerTells, same_lines, hears-tells}
 use Rattle.walk_steps.proofs.Runs.{Runs}
 use Rattle.walk_steps.proofs.LeaseIntervals.{run-runs}
 use Rattle.nq_model.specs.Bounds.{KeepsBounds}

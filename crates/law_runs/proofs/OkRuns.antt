@@ -5,7 +5,7 @@ use Rattle.nq_base.specs.declared.Entry.{Entry}
 use Rattle.nq_base.specs.declared.Event.{Event}
 use Rattle.nq_base.specs.declared.Party.{Party}
 use Rattle.nq_base.specs.declared.Who.{Who}
-use Rattle.walk_calls.proofs.CallsFit.{entry_who, entry_call}
+use Rattle.walk_files.proofs.CallsFit.{entry_who, entry_call}
 use Rattle.walk_steps.proofs.ClientMoves.{none-some}
 use Rattle.law_runs.proofs.AnsweredWorlds.{run-answered}
 use Rattle.walk_steps.proofs.LeaseIntervals.{run-runs}

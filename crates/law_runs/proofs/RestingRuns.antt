@@ -15,8 +15,8 @@ use Rattle.nq_model.specs.RevisionsHaveOneContent.{first_length}
 use Rattle.nq_model.specs.Contents.{content_at}
 use Rattle.law_runs.proofs.AnsweredWorlds.{received-tells, tick-tells, crash-tells}
 use Rattle.law_runs.proofs.WorldWrites.{no-attach}
-use Rattle.walk_calls.proofs.ServerTells.{Moves}
-use Rattle.walk_calls.proofs.WritesFit.{IsOpenPush, WritesFit, JournalFits}
+use Rattle.walk_files.proofs.ServerTells.{Moves}
+use Rattle.walk_files.proofs.WritesFit.{IsOpenPush, WritesFit, JournalFits}
 use Rattle.nq_model.specs.Bounds.{KeepsBounds}
 use Rattle.walk_files.proofs.EarlierServer.{Around, earlier-server}
 use Rattle.walk_files.proofs.EarlierStores.{Earlier, Goes, goes_on, begins, earlier-own, earlier-other}

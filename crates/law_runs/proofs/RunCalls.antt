@@ -11,13 +11,13 @@ use Rattle.nq_base.specs.declared.Party.{Party}
 use Rattle.nq_base.specs.declared.Reply.{Reply}
 use Rattle.nq_base.specs.declared.Request.{Request}
 use Rattle.nq_base.specs.declared.Row.{Row}
-use Rattle.walk_calls.proofs.CallFacts.{JournalFits, journal-more}
-use Rattle.walk_calls.proofs.CallsFit.{CallsFitInEveryRun}
-use Rattle.walk_calls.proofs.CallWorlds.{IsRefused, CallsKnown, client-known}
-use Rattle.walk_calls.proofs.ClientEvents.{CallsOf, called-does, ticked-does, heard-does, restarted-does}
-use Rattle.walk_calls.proofs.ClientMoves.{IsBelow}
-use Rattle.walk_calls.proofs.ServerCalls.{IsStill, line_same, ServerDoes, server-known}
-use Rattle.walk_calls.proofs.ServerDecides.{received-does}
+use Rattle.walk_files.proofs.CallFacts.{JournalFits, journal-more}
+use Rattle.walk_files.proofs.CallsFit.{CallsFitInEveryRun}
+use Rattle.walk_files.proofs.CallWorlds.{IsRefused, CallsKnown, client-known}
+use Rattle.walk_files.proofs.ClientEvents.{CallsOf, called-does, ticked-does, heard-does, restarted-does}
+use Rattle.walk_files.proofs.ClientMoves.{IsBelow}
+use Rattle.walk_files.proofs.ServerCalls.{IsStill, line_same, ServerDoes, server-known}
+use Rattle.walk_files.proofs.ServerDecides.{received-does}
 use Rattle.walk_steps.proofs.ClientMoves.{some-same, none-some}
 use Rattle.walk_steps.proofs.Runs.{Runs, none-served}
 use Rattle.walk_steps.proofs.LeaseIntervals.{run-runs}

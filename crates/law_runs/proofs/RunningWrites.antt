@@ -20,9 +20,9 @@ use Rattle.nq_model.specs.Server.{Server, ServerStep}
 use Rattle.nq_model.specs.Skew.{IsWithinSkew}
 use Rattle.nq_model.specs.World.{Head, World, after_server, after_client, start, run}
 use Rattle.nq_model.specs.Bounds.{KeepsBounds}
-use Rattle.walk_calls.proofs.ClientFates.{IsOwn, Mid}
-use Rattle.walk_calls.proofs.ServerTells.{IsQuiet, Effects, without, goes_through, pushes, Moves, same_lines, attaches_one, decides_one, ServerTells}
-use Rattle.walk_calls.proofs.StepFates.{mid-begins, mid-hears, mid-call-step, mid-tick-step}
+use Rattle.walk_files.proofs.ClientFates.{IsOwn, Mid}
+use Rattle.walk_files.proofs.ServerTells.{IsQuiet, Effects, without, goes_through, pushes, Moves, same_lines, attaches_one, decides_one, ServerTells}
+use Rattle.walk_files.proofs.StepFates.{mid-begins, mid-hears, mid-call-step, mid-tick-step}
 use Rattle.walk_steps.proofs.ClientMoves.{some-same, none-some}
 use Rattle.walk_steps.proofs.WorldClocks.{call-still, tick-still}
 use Rattle.walk_steps.proofs.Packets.{In, Told, in-get}

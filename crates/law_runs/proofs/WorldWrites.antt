@@ -14,13 +14,13 @@ use Rattle.nq_base.specs.declared.Who.{Who}
 use Rattle.walk_steps.proofs.ClientFacts.{push_in}
 use Rattle.walk_steps.proofs.ClientMoves.{some-same, none-some, attached-with-ticket}
 use Rattle.law_runs.proofs.AnsweredWorlds.{AllAnswered, run-answered, server-step, received-tells, tick-tells, crash-tells}
-use Rattle.walk_calls.proofs.ClientFates.{IsOwn, Mid}
-use Rattle.walk_calls.proofs.FactMoves.{IsOfOther, behind-more, facts-others, facts-packets, facts-sends, journal-more, journal-quiets, journal-quiet}
-use Rattle.walk_calls.proofs.FactServer.{Before, server-facts}
-use Rattle.walk_calls.proofs.JournalMoves.{covers-before}
-use Rattle.walk_calls.proofs.ServerTells.{Effects, without, goes_through, pushes, Decides, Moves, same_lines, attaches_one, decides_one, ServerTells}
-use Rattle.walk_calls.proofs.StepFates.{Replies, mid-begins, mid-hears, mid-call-step, mid-tick-step}
-use Rattle.walk_calls.proofs.WritesFit.{JournalFits, HaveWrites, IsOpenPush, Facts, CoversNumber, IsClear, WritesFit}
+use Rattle.walk_files.proofs.ClientFates.{IsOwn, Mid}
+use Rattle.walk_files.proofs.FactMoves.{IsOfOther, behind-more, facts-others, facts-packets, facts-sends, journal-more, journal-quiets, journal-quiet}
+use Rattle.walk_files.proofs.FactServer.{Before, server-facts}
+use Rattle.walk_files.proofs.JournalMoves.{covers-before}
+use Rattle.walk_files.proofs.ServerTells.{Effects, without, goes_through, pushes, Decides, Moves, same_lines, attaches_one, decides_one, ServerTells}
+use Rattle.walk_files.proofs.StepFates.{Replies, mid-begins, mid-hears, mid-call-step, mid-tick-step}
+use Rattle.walk_files.proofs.WritesFit.{JournalFits, HaveWrites, IsOpenPush, Facts, CoversNumber, IsClear, WritesFit}
 use Rattle.walk_steps.proofs.LeaseIntervals.{run-runs}
 use Rattle.nq_model.specs.Bounds.{KeepsBounds}
 use Rattle.nq_model.specs.Client.{Client, ClientStep, attaching, pushing, Ticket, begun}

@@ -16,8 +16,8 @@ use Rattle.nq_model.specs.Hear.{hear, inc_of}
 use Rattle.nq_model.specs.Journal.{call_of}
 use Rattle.nq_model.specs.Message.{Message, reply}
 use Rattle.nq_model.specs.Settle.{said}
-use Rattle.walk_calls.proofs.CallFacts.{CallsAt, called-below, asks-told}
-use Rattle.walk_calls.proofs.Placed.{call-told}
+use Rattle.walk_files.proofs.CallFacts.{CallsAt, called-below, asks-told}
+use Rattle.walk_files.proofs.Placed.{call-told}
 use Rattle.walk_steps.proofs.ClientFacts.{fits_job}
 use Rattle.walk_steps.proofs.ClientEntries.{needs_reply, IsPastEnd, Lent, IsGranting, IsTelling, Going, OfClient, call-keeps, tick-keeps, hear-keeps, restart-keeps}
 

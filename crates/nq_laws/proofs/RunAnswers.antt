@@ -26,8 +26,8 @@ use Rattle.nq_model.specs.World.{Head, World, after_server, after_client, at_cli
 use Rattle.nq_model.specs.AnswersTellWhatWas.{HasLength, ToldSo, TellsSoAt, AnswersTellWhatWas}
 use Rattle.nq_model.specs.Bounds.{KeepsBounds, InEveryRun}
 use Rattle.nq_model.specs.RepliesTellWhatWas.{Once}
-use Rattle.walk_calls.proofs.CallFacts.{CallsAt}
-use Rattle.walk_calls.proofs.Placed.{Placed, call-told, call-later}
+use Rattle.walk_files.proofs.CallFacts.{CallsAt}
+use Rattle.walk_files.proofs.Placed.{Placed, call-told, call-later}
 use Rattle.walk_steps.proofs.ClientEntries.{IsTelling, Lent}
 use Rattle.walk_steps.proofs.Clocks.{within-before}
 use Rattle.walk_steps.proofs.NoCrash.{bounds-before}

@@ -16,7 +16,7 @@ use Rattle.nq_model.specs.World.{run}
 use Rattle.nq_replay.specs.Playing.{beginning}
 use Rattle.law_runs.proofs.RunCalls.{calls-fit}
 use Rattle.law_rounds.proofs.ClientCount.{client-count}
-use Rattle.walk_calls.proofs.CallsFit.{CallsFit}
+use Rattle.walk_files.proofs.CallsFit.{CallsFit}
 use Rattle.walk_steps.proofs.ClientMoves.{none-some}
 use Rattle.nq_loop.specs.ToldAnswers.{TellsAnswers, AnsweredLoopsTellAnswers}
 

@@ -18,13 +18,13 @@ use Rattle.walk_steps.proofs.StepCases.{call-cases, unless-cached-cases, tick-ca
 use Rattle.walk_steps.proofs.ClientFacts.{push_in, fits_job}
 use Rattle.walk_steps.proofs.ClientMoves.{some-same, none-some}
 use Rattle.walk_steps.proofs.ClientWalk.{push-wants-none}
-use Rattle.walk_calls.proofs.ClientFates.{Mid, mid-quiet, mid-names, mid-settles, mid-next, last-facts}
-use Rattle.walk_calls.proofs.FactMoves.{facts-packets, facts-ticket, no-push}
-use Rattle.walk_calls.proofs.FactPushes.{facts-stored, IsLosable}
-use Rattle.walk_calls.proofs.HeardFates.{NoneOpen, mid-loses, mid-vacates, mid-call, mid-knows, mid-takes, mid-read-done, mid-lease-done, mid-write-done, mid-pauses, mid-attached, mid-notes, mid-ended, mid-refused}
-use Rattle.walk_calls.proofs.PushLists.{left-push}
-use Rattle.walk_calls.proofs.ServerTells.{Tells, later, decided}
-use Rattle.walk_calls.proofs.WritesFit.{JournalFits, PushStands, waits, stored, IsPushed, IsDecidedAs, IsOpenPush, Facts}
+use Rattle.walk_files.proofs.ClientFates.{Mid, mid-quiet, mid-names, mid-settles, mid-next, last-facts}
+use Rattle.walk_files.proofs.FactMoves.{facts-packets, facts-ticket, no-push}
+use Rattle.walk_files.proofs.FactPushes.{facts-stored, IsLosable}
+use Rattle.walk_files.proofs.HeardFates.{NoneOpen, mid-loses, mid-vacates, mid-call, mid-knows, mid-takes, mid-read-done, mid-lease-done, mid-write-done, mid-pauses, mid-attached, mid-notes, mid-ended, mid-refused}
+use Rattle.walk_files.proofs.PushLists.{left-push}
+use Rattle.walk_files.proofs.ServerTells.{Tells, later, decided}
+use Rattle.walk_files.proofs.WritesFit.{JournalFits, PushStands, waits, stored, IsPushed, IsDecidedAs, IsOpenPush, Facts}
 use Rattle.nq_model.specs.Client.{Client, ClientStep, Job, attaching, for_call, pushing, renewing, Ticket, begun}
 use Rattle.nq_model.specs.ClientStep.{begins_call, is_called, says_busy, client_call, at_time, sends_again, client_tick}
 use Rattle.nq_model.specs.Decide.{verdict_reply}
@@ -202,7 +202,7 @@ module _ {line : HostRow} {ps : List Packet} {j : List Entry} where
               let written : r ≡ Reply.Write c.who.inc line.value = e ∙ done-write line.verdict done.told c.who.inc line.value in cc
 
           clear : PushStands line c.who seq j p → (n : ℕ) → p.first ≤ n → n ≤ p.last
-              → Rattle.walk_calls.proofs.WritesFit.CoversNumber j c.who p.file p.block n → ⊥
+              → Rattle.walk_files.proofs.WritesFit.CoversNumber j c.who p.file p.block n → ⊥
           clear (waits undone unless) n above below covers = unless n above below covers
           clear (stored now done i) n above below covers = refuses done (k.tells seq numbered)
 

@@ -12,9 +12,9 @@ use Rattle.nq_base.specs.declared.Said.TheVariants.{Busy, OkBy}
 use Rattle.nq_base.specs.declared.Told.{Told}
 use Rattle.nq_base.specs.declared.Verdict.{Verdict}
 use Rattle.nq_base.specs.declared.Who.{Who}
-use Rattle.walk_calls.proofs.Entries.{entry_who, entry_call, entry_number, IsOpenAsTold}
-use Rattle.walk_calls.proofs.Placed.{IsCachedBy, Placed, Spaced, call-told}
-use Rattle.walk_calls.proofs.Quiet.{IsNoCall, open-more, open-before, OpenFits, ReadFits}
+use Rattle.walk_files.proofs.CallsEntries.{entry_who, entry_call, entry_number, IsOpenAsTold}
+use Rattle.walk_files.proofs.Placed.{IsCachedBy, Placed, Spaced, call-told}
+use Rattle.walk_files.proofs.Quiet.{IsNoCall, open-more, open-before, OpenFits, ReadFits}
 use Rattle.nq_model.specs.Client.{UnderWay, for_call, Ticket}
 use Rattle.nq_base.specs.Calls.{told}
 use Rattle.nq_model.specs.Journal.{Each, Exists, Throughout, AtEachPlace, IsCall, IsAnswer, IsOpen, call_of, told_by}

@@ -11,12 +11,12 @@ use Rattle.nq_base.specs.declared.Reply.{Reply}
 use Rattle.nq_base.specs.declared.Request.{Request}
 use Rattle.nq_base.specs.declared.Said.TheVariants.{OkBy}
 use Rattle.nq_base.specs.declared.Who.{Who}
-use Rattle.walk_calls.proofs.CallFacts.{JournalFits, IsBounded, calls-more}
-use Rattle.walk_calls.proofs.CallMoves.{pending-more, asks-quiet}
-use Rattle.walk_calls.proofs.CallsFit.{entry_who}
-use Rattle.walk_calls.proofs.ClientEvents.{CallsOf}
-use Rattle.walk_calls.proofs.ClientMoves.{IsBelow, Doing}
-use Rattle.walk_calls.proofs.Quiet.{IsQuiet, foreign-quiet, OpenFits, open-fits-more, ReadFits, read-fits-later}
+use Rattle.walk_files.proofs.CallFacts.{JournalFits, IsBounded, calls-more}
+use Rattle.walk_files.proofs.CallMoves.{pending-more, asks-quiet}
+use Rattle.walk_files.proofs.CallsFit.{entry_who}
+use Rattle.walk_files.proofs.ClientEvents.{CallsOf}
+use Rattle.walk_files.proofs.ClientMoves.{IsBelow, Doing}
+use Rattle.walk_files.proofs.Quiet.{IsQuiet, foreign-quiet, OpenFits, open-fits-more, ReadFits, read-fits-later}
 use Rattle.walk_steps.proofs.ClientFacts.{fits_job, push_in}
 use Rattle.walk_steps.proofs.ClientMoves.{some-same}
 use Rattle.nq_model.specs.Client.{Client, ClientStep, Job, attaching, for_call, renewing, pushing, Ticket}

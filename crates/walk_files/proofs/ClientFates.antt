@@ -12,11 +12,11 @@ use Rattle.walk_steps.proofs.SettleCases.{settle-moves}
 use Rattle.walk_steps.proofs.SendCases.{send-cases, pushed}
 use Rattle.walk_steps.proofs.ClientFacts.{push_in}
 use Rattle.walk_steps.proofs.ClientMoves.{none-some}
-use Rattle.walk_calls.proofs.FactMoves.{facts-other, facts-numbers, facts-ticket, facts-sends, facts-delays, journal-delays, journal-quiet, quiet-other, no-push}
-use Rattle.walk_calls.proofs.FactPushes.{facts-pushes}
-use Rattle.walk_calls.proofs.PushLists.{first-in}
-use Rattle.walk_calls.proofs.ServerTells.{IsQuiet}
-use Rattle.walk_calls.proofs.WritesFit.{JournalFits, Facts}
+use Rattle.walk_files.proofs.FactMoves.{facts-other, facts-numbers, facts-ticket, facts-sends, facts-delays, journal-delays, journal-quiet, quiet-other, no-push}
+use Rattle.walk_files.proofs.FactPushes.{facts-pushes}
+use Rattle.walk_files.proofs.PushLists.{first-in}
+use Rattle.walk_files.proofs.ServerTells.{IsQuiet}
+use Rattle.walk_files.proofs.WritesFit.{JournalFits, Facts}
 use Rattle.nq_model.specs.Client.{ClientStep, Job, for_call, pushing, renewing, Ticket, UnderWay}
 use Rattle.nq_model.specs.Message.{Message, Packet, call}
 use Rattle.nq_model.specs.Send.{sends_request, after_seq, after_number, base_of, takes_push, sends_write, gives_up, send_next}

@@ -10,10 +10,10 @@ use Rattle.nq_base.specs.declared.Reply.{Reply}
 use Rattle.nq_base.specs.declared.Tag.{Tag}
 use Rattle.nq_base.specs.declared.Value.{Value}
 use Rattle.nq_base.specs.declared.Who.{Who}
-use Rattle.walk_calls.proofs.CallFacts.{NoneDone}
-use Rattle.walk_calls.proofs.CallMoves.{NotForCall}
-use Rattle.walk_calls.proofs.ClientMoves as move
-use Rattle.walk_calls.proofs.ClientMoves.{Doing}
+use Rattle.walk_files.proofs.CallFacts.{NoneDone}
+use Rattle.walk_files.proofs.CallMoves.{NotForCall}
+use Rattle.walk_files.proofs.ClientMoves as move
+use Rattle.walk_files.proofs.ClientMoves.{Doing}
 use Rattle.walk_steps.proofs.PartCases.{answers-call-cases, vacates-noticed-cases, reports-cases, if-broken-cases, takes-optional-cases, lease-done-cases, then-caches-cases, caches-write-cases, caches-push-cases, vacates-if-clean-cases}
 use Rattle.walk_steps.proofs.RepliedCases.{replied-cases}
 use Rattle.walk_steps.proofs.ClientFacts.{fits_job}

@@ -4,7 +4,7 @@ use Rattle.std.specs.List.{filter}
 use Rattle.std.proofs.lemmas.Bool.{and_parts, and_from, not-true}
 use Rattle.nq_base.specs.declared.Push.{Push}
 use Rattle.walk_steps.proofs.ClientMoves.{some-same, none-some}
-use Rattle.walk_calls.proofs.WritesFit.{AreApart}
+use Rattle.walk_files.proofs.WritesFit.{AreApart}
 use Rattle.nq_model.specs.Client.{is_push_of, is_push_at, first_dirty, dirty_at, drop_dirty, other_dirty}
 use Rattle.nq_model.specs.Hear.{other_push}
 use Rattle.nq_model.specs.Settle.{overwritten, overwritten_at, with_write}

@@ -13,15 +13,15 @@ use Rattle.nq_base.specs.declared.Said.{Said}
 use Rattle.nq_base.specs.declared.Said.TheVariants.{Busy}
 use Rattle.nq_base.specs.declared.Tag.{Tag}
 use Rattle.nq_base.specs.declared.Who.{Who}
-use Rattle.walk_calls.proofs.CallFacts.{JournalFits, CallsAt, Pending, TicketFits, Requesting, journal-more, journal-busy, rises, has-open, answered-below, cached-below, call-entry}
-use Rattle.walk_calls.proofs.CallMoves.{NotForCall, calls-called, calls-busy, pending-called, pending-more, pending-none, asks-idle, asks-busy}
-use Rattle.walk_calls.proofs.Entries.{entry_who, entry_call, entry_number}
-use Rattle.walk_calls.proofs.ClientCalls.{replied-keeps}
-use Rattle.walk_calls.proofs.ClientMoves as move
-use Rattle.walk_calls.proofs.ClientMoves.{IsBelow, IsOwn, Fits, Doing, own-more}
-use Rattle.walk_calls.proofs.ClientParts.{settle-keeps, send-keeps}
-use Rattle.walk_calls.proofs.Placed.{IsCachedBy}
-use Rattle.walk_calls.proofs.Quiet.{ReadFits}
+use Rattle.walk_files.proofs.CallFacts.{JournalFits, CallsAt, Pending, TicketFits, Requesting, journal-more, journal-busy, rises, has-open, answered-below, cached-below, call-entry}
+use Rattle.walk_files.proofs.CallMoves.{NotForCall, calls-called, calls-busy, pending-called, pending-more, pending-none, asks-idle, asks-busy}
+use Rattle.walk_files.proofs.CallsEntries.{entry_who, entry_call, entry_number}
+use Rattle.walk_files.proofs.ClientCalls.{replied-keeps}
+use Rattle.walk_files.proofs.ClientMoves as move
+use Rattle.walk_files.proofs.ClientMoves.{IsBelow, IsOwn, Fits, Doing, own-more}
+use Rattle.walk_files.proofs.CallsClientParts.{settle-keeps, send-keeps}
+use Rattle.walk_files.proofs.Placed.{IsCachedBy}
+use Rattle.walk_files.proofs.Quiet.{ReadFits}
 use Rattle.walk_steps.proofs.StepCases.{call-cases, unless-cached-cases, tick-cases, evicted-cases, heard-cases}
 use Rattle.walk_steps.proofs.ClientFacts.{Alone}
 use Rattle.walk_steps.proofs.ClientMoves.{some-same, none-some}

@@ -9,8 +9,8 @@ use Rattle.nq_base.specs.declared.Request.{Request}
 use Rattle.nq_base.specs.declared.Request.TheVariants.{Read, Write, Resize, Remove}
 use Rattle.nq_base.specs.declared.Told.{Told}
 use Rattle.nq_base.specs.declared.Who.{Who}
-use Rattle.walk_calls.proofs.Entries.{entry_who}
-use Rattle.walk_calls.proofs.Placed.{call-told}
+use Rattle.walk_files.proofs.CallsEntries.{entry_who}
+use Rattle.walk_files.proofs.Placed.{call-told}
 use Rattle.walk_steps.proofs.ClientMoves.{some-same}
 use Rattle.nq_model.specs.Journal.{Exists, Throughout, IsCall, IsAnswer, IsOpen, call_of}
 use Rattle.nq_model.specs.Message.{asker}

@@ -13,11 +13,11 @@ use Rattle.nq_base.specs.declared.Value.{Value}
 use Rattle.nq_base.specs.declared.Who.{Who}
 use Rattle.walk_steps.proofs.PartCases.{answers-call-cases, vacates-noticed-cases, reports-cases, if-broken-cases, takes-optional-cases, lease-done-cases, then-caches-cases, caches-write-cases, caches-push-cases, vacates-if-clean-cases}
 use Rattle.walk_steps.proofs.ClientMoves.{none-some}
-use Rattle.walk_calls.proofs.ClientFates.{IsOwn, MidAt, Mid, mid-answers, mid-names}
-use Rattle.walk_calls.proofs.FactMoves.{facts-sends}
-use Rattle.walk_calls.proofs.FactPushes.{dirty-clear, facts-loses, lost, lost-is, lost-fits, AllLosable, IsLosable}
-use Rattle.walk_calls.proofs.PushLists.{apart-filter}
-use Rattle.walk_calls.proofs.WritesFit.{IsDirty, AreApart, IsOpenPush, JournalFits, Facts}
+use Rattle.walk_files.proofs.ClientFates.{IsOwn, MidAt, Mid, mid-answers, mid-names}
+use Rattle.walk_files.proofs.FactMoves.{facts-sends}
+use Rattle.walk_files.proofs.FactPushes.{dirty-clear, facts-loses, lost, lost-is, lost-fits, AllLosable, IsLosable}
+use Rattle.walk_files.proofs.PushLists.{apart-filter}
+use Rattle.walk_files.proofs.WritesFit.{IsDirty, AreApart, IsOpenPush, JournalFits, Facts}
 use Rattle.nq_model.specs.Client.{ClientStep, Notice, Ticket, is_push_of, notice_on, other_dirty}
 use Rattle.nq_model.specs.Hear.{vacates_lease, vacates_noticed, push_of, loss_entry, other_push, loses, reports, without_lease, push_refused, breaks_chain, if_broken, holds, takes_optional, answers_call, caches_block, purges, knows_revision, then_caches, read_done, marks_through, lease_done, caches_write, write_done, ends_push, caches_push, push_done, attached, pauses, notes_notice}
 use Rattle.nq_model.specs.Message.{Message, Packet, call}

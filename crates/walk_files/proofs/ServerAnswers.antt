@@ -12,14 +12,14 @@ use Rattle.nq_base.specs.declared.Request.{Request}
 use Rattle.nq_base.specs.declared.Verdict.{Verdict}
 use Rattle.nq_base.specs.declared.Want.{Want}
 use Rattle.nq_base.specs.declared.Who.{Who}
-use Rattle.walk_calls.proofs.CallFacts.{JournalFits, IsBounded, journal-more, called-below}
-use Rattle.walk_calls.proofs.Placed.{reads-called}
-use Rattle.walk_calls.proofs.CallsFit.{entry_who, entry_call, entry_number}
-use Rattle.walk_calls.proofs.CallWorlds.{CallsKnown}
-use Rattle.walk_calls.proofs.ClientMoves.{IsBelow}
-use Rattle.walk_calls.proofs.Quiet.{IsQuiet, told-more}
-use Rattle.walk_calls.proofs.ServerHears.{served-now, silent-quiet, refuse-reply}
-use Rattle.walk_calls.proofs.ServerCalls.{IsStill, Outcome, line_same, line_begins, ServerDoes}
+use Rattle.walk_files.proofs.CallFacts.{JournalFits, IsBounded, journal-more, called-below}
+use Rattle.walk_files.proofs.Placed.{reads-called}
+use Rattle.walk_files.proofs.CallsFit.{entry_who, entry_call, entry_number}
+use Rattle.walk_files.proofs.CallWorlds.{CallsKnown}
+use Rattle.walk_files.proofs.ClientMoves.{IsBelow}
+use Rattle.walk_files.proofs.Quiet.{IsQuiet, told-more}
+use Rattle.walk_files.proofs.ServerHears.{served-now, silent-quiet, refuse-reply}
+use Rattle.walk_files.proofs.ServerCalls.{IsStill, Outcome, line_same, line_begins, ServerDoes}
 use Rattle.walk_steps.proofs.ClientMoves.{some-same, none-some}
 use Rattle.nq_model.specs.Client.{Client}
 use Rattle.nq_model.specs.Journal.{Exists, IsCall, call_of}

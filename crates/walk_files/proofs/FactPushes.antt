@@ -12,10 +12,10 @@ use Rattle.nq_base.specs.declared.Request.{Request}
 use Rattle.nq_base.specs.declared.Who.{Who}
 use Rattle.walk_steps.proofs.ClientFacts.{push_in}
 use Rattle.walk_steps.proofs.ClientMoves.{some-same, none-some}
-use Rattle.walk_calls.proofs.FactMoves.{behind-more, journal-more}
-use Rattle.walk_calls.proofs.JournalMoves.{store-covers}
-use Rattle.walk_calls.proofs.PushLists.{in-dropped, dropped-in, in-other, other-in, left-push, is-at, apart-filter}
-use Rattle.walk_calls.proofs.WritesFit.{CoversNumber, IsClear, JournalFits, IsBehind, IsDirty, PushStands, waits, stored, IsPushed, LiesWithin, in_list, under_way, IsOpenPush, Facts}
+use Rattle.walk_files.proofs.FactMoves.{behind-more, journal-more}
+use Rattle.walk_files.proofs.JournalMoves.{store-covers}
+use Rattle.walk_files.proofs.PushLists.{in-dropped, dropped-in, in-other, other-in, left-push, is-at, apart-filter}
+use Rattle.walk_files.proofs.WritesFit.{CoversNumber, IsClear, JournalFits, IsBehind, IsDirty, PushStands, waits, stored, IsPushed, LiesWithin, in_list, under_way, IsOpenPush, Facts}
 use Rattle.nq_model.specs.Client.{Ticket, pushing, is_push_of, is_push_at, drop_dirty, other_dirty}
 use Rattle.nq_model.specs.Hear.{other_push, loss_entry}
 use Rattle.nq_model.specs.Message.{Packet, call, sequence_of}

@@ -10,10 +10,10 @@ use Rattle.nq_base.specs.declared.Request.{Request}
 use Rattle.nq_base.specs.declared.Who.{Who}
 use Rattle.walk_steps.proofs.ClientFacts.{push_in}
 use Rattle.walk_steps.proofs.ClientMoves.{some-same, none-some}
-use Rattle.walk_calls.proofs.JournalMoves.{covers-before}
-use Rattle.walk_calls.proofs.PushLists.{InWritten, is_other, is_longer, is_new, in-written, written-in, written-there, apart-written}
-use Rattle.walk_calls.proofs.ServerTells.{IsQuiet, AllQuiet}
-use Rattle.walk_calls.proofs.WritesFit.{CoversNumber, IsApart, IsOfWrites, IsRising, JournalFits, IsBehind, IsDirty, PushStands, waits, stored, IsPushed, LiesWithin, in_list, under_way, ListFits, IsOpenPush, PushesFit, Facts}
+use Rattle.walk_files.proofs.JournalMoves.{covers-before}
+use Rattle.walk_files.proofs.PushLists.{InWritten, is_other, is_longer, is_new, in-written, written-in, written-there, apart-written}
+use Rattle.walk_files.proofs.ServerTells.{IsQuiet, AllQuiet}
+use Rattle.walk_files.proofs.WritesFit.{CoversNumber, IsApart, IsOfWrites, IsRising, JournalFits, IsBehind, IsDirty, PushStands, waits, stored, IsPushed, LiesWithin, in_list, under_way, ListFits, IsOpenPush, PushesFit, Facts}
 use Rattle.nq_model.specs.Client.{Ticket, pushing, dirty_at}
 use Rattle.nq_model.specs.Journal.{Covers}
 use Rattle.nq_model.specs.Message.{Packet, call, sequence_of}

@@ -10,12 +10,12 @@ use Rattle.nq_base.specs.declared.Reply.{Reply}
 use Rattle.nq_base.specs.declared.Request.{Request}
 use Rattle.nq_base.specs.declared.Verdict.{Verdict}
 use Rattle.nq_base.specs.declared.Who.{Who}
-use Rattle.walk_calls.proofs.CallFacts.{JournalFits, CallsAt, IsBounded, IsDone, NoneDone, Pending, calls-more}
-use Rattle.walk_calls.proofs.CallMoves.{pending-more}
-use Rattle.walk_calls.proofs.CallWorlds.{IsRefused, CallsKnown, all-below-more, each-append, calls-of-more, open-fits-later, open-ticket, open-known}
-use Rattle.walk_calls.proofs.ClientEvents.{CallsOf}
-use Rattle.walk_calls.proofs.ClientMoves.{IsBelow}
-use Rattle.walk_calls.proofs.Quiet.{IsNoCall, IsNoChange, IsQuiet, OpenFits, read-fits-later}
+use Rattle.walk_files.proofs.CallFacts.{JournalFits, CallsAt, IsBounded, IsDone, NoneDone, Pending, calls-more}
+use Rattle.walk_files.proofs.CallMoves.{pending-more}
+use Rattle.walk_files.proofs.CallWorlds.{IsRefused, CallsKnown, all-below-more, each-append, calls-of-more, open-fits-later, open-ticket, open-known}
+use Rattle.walk_files.proofs.ClientEvents.{CallsOf}
+use Rattle.walk_files.proofs.ClientMoves.{IsBelow}
+use Rattle.walk_files.proofs.Quiet.{IsNoCall, IsNoChange, IsQuiet, OpenFits, read-fits-later}
 use Rattle.walk_steps.proofs.ClientFacts.{fits_job}
 use Rattle.walk_steps.proofs.ClientMoves.{some-same, none-some}
 use Rattle.nq_model.specs.Client.{Client, Job, attaching, for_call, renewing, pushing, Ticket}

@@ -11,10 +11,10 @@ use Rattle.nq_base.specs.declared.Verdict.{Verdict}
 use Rattle.nq_base.specs.declared.Who.{Who}
 use Rattle.walk_steps.proofs.ClientFacts.{push_in}
 use Rattle.walk_steps.proofs.ClientMoves.{some-same, none-some}
-use Rattle.walk_calls.proofs.FactMoves.{IsOfOther, quiet-other, behind-more, facts-others, facts-packets}
-use Rattle.walk_calls.proofs.JournalMoves.{covers-before}
-use Rattle.walk_calls.proofs.ServerTells.{DecidedAt, decided-at, AllQuiet, Effects, without, goes_through, pushes, Decides, Attaches, Moves, same_lines, attaches_one, decides_one}
-use Rattle.walk_calls.proofs.WritesFit.{CoversNumber, IsDirty, IsDecidedAs, PushStands, waits, stored, IsPushed, LiesWithin, ListFits, IsOpenPush, Facts}
+use Rattle.walk_files.proofs.FactMoves.{IsOfOther, quiet-other, behind-more, facts-others, facts-packets}
+use Rattle.walk_files.proofs.JournalMoves.{covers-before}
+use Rattle.walk_files.proofs.ServerTells.{DecidedAt, decided-at, AllQuiet, Effects, without, goes_through, pushes, Decides, Attaches, Moves, same_lines, attaches_one, decides_one}
+use Rattle.walk_files.proofs.WritesFit.{CoversNumber, IsDirty, IsDecidedAs, PushStands, waits, stored, IsPushed, LiesWithin, ListFits, IsOpenPush, Facts}
 use Rattle.nq_model.specs.Client.{Ticket}
 use Rattle.nq_model.specs.Journal.{Covers}
 use Rattle.nq_model.specs.Kept.{host_row}

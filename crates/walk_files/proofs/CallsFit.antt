@@ -10,7 +10,7 @@ use Rattle.nq_model.specs.Journal.{IsOpen}
 use Rattle.nq_model.specs.Skew.{IsWithinSkew}
 use Rattle.nq_model.specs.World.{Head, run}
 use Rattle.walk_steps.proofs.Packets.{In}
-pub use Rattle.walk_calls.proofs.Entries.{entry_who, entry_call, entry_number, IsOpenAsTold}
+pub use Rattle.walk_files.proofs.CallsEntries.{entry_who, entry_call, entry_number, IsOpenAsTold}
 
 -- the calls of a client that runs, as the journal tells them
 pub record CallsFit (c : Client) (journal : List Entry) : Type 0 where

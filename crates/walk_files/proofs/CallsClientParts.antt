@@ -13,12 +13,12 @@ use Rattle.nq_base.specs.declared.Request.{Request}
 use Rattle.nq_base.specs.declared.Value.{Value}
 use Rattle.nq_base.specs.declared.Want.{Want}
 use Rattle.nq_base.specs.declared.Who.{Who}
-use Rattle.walk_calls.proofs.CallFacts.{NoneDone, IsPut, journal-more, spaced-more, calls-more, calls-raised, calls-marked, written-below}
-use Rattle.walk_calls.proofs.CallMoves.{NotForCall, calls-answered, pending-none, pending-written, asks-idle, asks-raised}
-use Rattle.walk_calls.proofs.ClientMoves as move
-use Rattle.walk_calls.proofs.ClientMoves.{Doing, own-more, own-bounded}
-use Rattle.walk_calls.proofs.Placed.{IsCachedBy}
-use Rattle.walk_calls.proofs.Quiet.{IsNoCall}
+use Rattle.walk_files.proofs.CallFacts.{NoneDone, IsPut, journal-more, spaced-more, calls-more, calls-raised, calls-marked, written-below}
+use Rattle.walk_files.proofs.CallMoves.{NotForCall, calls-answered, pending-none, pending-written, asks-idle, asks-raised}
+use Rattle.walk_files.proofs.ClientMoves as move
+use Rattle.walk_files.proofs.ClientMoves.{Doing, own-more, own-bounded}
+use Rattle.walk_files.proofs.Placed.{IsCachedBy}
+use Rattle.walk_files.proofs.Quiet.{IsNoCall}
 use Rattle.walk_steps.proofs.SendCases.{send-cases, pushed}
 use Rattle.walk_steps.proofs.SettleCases.{IsRead, IsSettling, settle-cases}
 use Rattle.walk_steps.proofs.ClientMoves.{some-same, none-some}

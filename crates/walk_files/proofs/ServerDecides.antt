@@ -12,17 +12,17 @@ use Rattle.nq_base.specs.declared.Request.{Request}
 use Rattle.nq_base.specs.declared.Row.{Row}
 use Rattle.nq_base.specs.declared.Verdict.{Verdict}
 use Rattle.nq_base.specs.declared.Who.{Who}
-use Rattle.walk_calls.proofs.CallFacts.{JournalFits, IsBounded, through_number, journal-more, called-below}
-use Rattle.walk_calls.proofs.CallsFit.{entry_who}
-use Rattle.walk_calls.proofs.CallWorlds.{CallsKnown, foreign, open-ticket, open-known}
-use Rattle.walk_calls.proofs.ClientMoves.{IsBelow}
-use Rattle.walk_calls.proofs.Quiet.{IsNoCall, IsNoChange, foreign-quiet, OpenFits}
-use Rattle.walk_calls.proofs.Refusals.{seq-same, done-tells, verdict-inc, plain-why}
-use Rattle.walk_calls.proofs.ServerHears as hears
-use Rattle.walk_calls.proofs.ServerHears.{refuse-none, refuse-both, refuse-notices, refuse-reply, refuse-error}
-use Rattle.walk_calls.proofs.ServerAnswers as answers
-use Rattle.walk_calls.proofs.ServerAnswers.{asked-by, asker-bounded}
-use Rattle.walk_calls.proofs.ServerCalls.{otherwise, AllRefuse, IsChange, Outcome, line_same, line_decided, ServerDoes}
+use Rattle.walk_files.proofs.CallFacts.{JournalFits, IsBounded, through_number, journal-more, called-below}
+use Rattle.walk_files.proofs.CallsFit.{entry_who}
+use Rattle.walk_files.proofs.CallWorlds.{CallsKnown, foreign, open-ticket, open-known}
+use Rattle.walk_files.proofs.ClientMoves.{IsBelow}
+use Rattle.walk_files.proofs.Quiet.{IsNoCall, IsNoChange, foreign-quiet, OpenFits}
+use Rattle.walk_files.proofs.Refusals.{seq-same, done-tells, verdict-inc, plain-why}
+use Rattle.walk_files.proofs.ServerHears as hears
+use Rattle.walk_files.proofs.ServerHears.{refuse-none, refuse-both, refuse-notices, refuse-reply, refuse-error}
+use Rattle.walk_files.proofs.ServerAnswers as answers
+use Rattle.walk_files.proofs.ServerAnswers.{asked-by, asker-bounded}
+use Rattle.walk_files.proofs.ServerCalls.{otherwise, AllRefuse, IsChange, Outcome, line_same, line_decided, ServerDoes}
 use Rattle.walk_steps.proofs.ClientMoves.{some-same, none-some}
 use Rattle.nq_model.specs.Client.{Client}
 use Rattle.nq_model.specs.Decide.{Decision, wrote, decides, creates, writes_through, stores, stores_recovering, resizes, removes, puts_off, verdict_reply, row_after, commits}

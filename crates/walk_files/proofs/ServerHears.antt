@@ -11,12 +11,12 @@ use Rattle.nq_base.specs.declared.Row.{Row}
 use Rattle.nq_base.specs.declared.Said.TheVariants.{OkBy}
 use Rattle.nq_base.specs.declared.Tag.{Tag}
 use Rattle.nq_base.specs.declared.Who.{Who}
-use Rattle.walk_calls.proofs.CallFacts.{JournalFits}
-use Rattle.walk_calls.proofs.CallWorlds.{CallsKnown}
-use Rattle.walk_calls.proofs.ClientMoves.{IsBelow}
-use Rattle.walk_calls.proofs.Placed.{IsServedIn, IsServedInOrder, reads-called}
-use Rattle.walk_calls.proofs.Quiet.{IsQuiet}
-use Rattle.walk_calls.proofs.ServerCalls.{IsWhy, undrawn, Refuses, AllRefuse, line_same, ServerDoes}
+use Rattle.walk_files.proofs.CallFacts.{JournalFits}
+use Rattle.walk_files.proofs.CallWorlds.{CallsKnown}
+use Rattle.walk_files.proofs.ClientMoves.{IsBelow}
+use Rattle.walk_files.proofs.Placed.{IsServedIn, IsServedInOrder, reads-called}
+use Rattle.walk_files.proofs.Quiet.{IsQuiet}
+use Rattle.walk_files.proofs.ServerCalls.{IsWhy, undrawn, Refuses, AllRefuse, line_same, ServerDoes}
 use Rattle.walk_steps.proofs.Sequences.{reads-no-seq}
 use Rattle.nq_model.specs.Journal.{Each, Exists, IsAnswerBy, call_of}
 use Rattle.nq_model.specs.Kept.{host_row}

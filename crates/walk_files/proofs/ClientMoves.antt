@@ -14,11 +14,11 @@ use Rattle.nq_base.specs.declared.Said.TheVariants.{OkBy}
 use Rattle.nq_base.specs.declared.Tag.{Tag}
 use Rattle.nq_base.specs.declared.Value.{Value}
 use Rattle.nq_base.specs.declared.Who.{Who}
-use Rattle.walk_calls.proofs.CallFacts.{JournalFits, CallsAt, IsBounded, NoneDone, Pending, through_number, Requesting, journal-more, journal-answer, calls-more, calls-raised, calls-marked}
-use Rattle.walk_calls.proofs.CallMoves.{NotForCall, calls-answered, pending-more, pending-none, pending-ticket, pending-marked, asks-quiet, asks-idle, asks-none, asks-adds, asks-again, asks-sends, asks-decides}
-use Rattle.walk_calls.proofs.Entries.{entry_who, entry_call, entry_number}
-use Rattle.walk_calls.proofs.Placed.{append-one}
-use Rattle.walk_calls.proofs.Quiet.{IsQuiet, OpenFits, ReadFits}
+use Rattle.walk_files.proofs.CallFacts.{JournalFits, CallsAt, IsBounded, NoneDone, Pending, through_number, Requesting, journal-more, journal-answer, calls-more, calls-raised, calls-marked}
+use Rattle.walk_files.proofs.CallMoves.{NotForCall, calls-answered, pending-more, pending-none, pending-ticket, pending-marked, asks-quiet, asks-idle, asks-none, asks-adds, asks-again, asks-sends, asks-decides}
+use Rattle.walk_files.proofs.CallsEntries.{entry_who, entry_call, entry_number}
+use Rattle.walk_files.proofs.Placed.{append-one}
+use Rattle.walk_files.proofs.Quiet.{IsQuiet, OpenFits, ReadFits}
 use Rattle.walk_steps.proofs.ClientMoves.{some-same, none-some}
 use Rattle.nq_model.specs.Client.{ClientStep, UnderWay, Job, for_call, Ticket, in_state}
 use Rattle.nq_model.specs.ClientStep.{sends_again}

@@ -3,7 +3,7 @@ use Rattle.std.proofs.Common.{◌≤◌, ℕ, false, List, [], ◌∷◌, refl, 
 use Rattle.nq_base.specs.declared.Entry.{Entry}
 use Rattle.nq_base.specs.declared.Entry.TheVariants.{C, W, R, S, L, G, F, O, B, X, Z, A}
 use Rattle.nq_base.specs.declared.Who.{Who}
-use Rattle.walk_calls.proofs.WritesFit.{CoversNumber, IsClear, IsApart, JournalFits}
+use Rattle.walk_files.proofs.WritesFit.{CoversNumber, IsClear, IsApart, JournalFits}
 use Rattle.nq_model.proofs.Lists.{each-of, exists-right}
 use Rattle.nq_model.specs.Fate.{IsFirstToCover, IsAccountedAt, IsAccounted}
 use Rattle.nq_model.specs.Journal.{Exists, Covers, Throughout}

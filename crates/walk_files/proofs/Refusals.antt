@@ -5,7 +5,7 @@ use Rattle.nq_base.specs.declared.Reply.{Reply}
 use Rattle.nq_base.specs.declared.Request.{Request}
 use Rattle.nq_base.specs.declared.Verdict.{Verdict}
 use Rattle.nq_base.specs.declared.Who.{Who}
-use Rattle.walk_calls.proofs.ServerCalls.{IsWhy, undrawn, is_past, otherwise}
+use Rattle.walk_files.proofs.ServerCalls.{IsWhy, undrawn, is_past, otherwise}
 use Rattle.walk_steps.proofs.Sequences.{asks-no-seq, reads-no-seq}
 use Rattle.nq_model.specs.Decide.{verdict_reply}
 use Rattle.nq_model.specs.Message.{sequence_of}
