@@ -13,7 +13,7 @@ ghost use Rattle.nq_client.specs.State.{client_of, under_way};
 use crate::state::{State, UnderWay};
 use nq_base::{BlockNo, Call, FileId, Mode, Request, Want};
 use nq_client_parts::holding::Held;
-use nq_dirty::Dirty;
+use nq_client_parts::dirty::Dirty;
 
 /// What a client needs to send.
 #[derive(Drop)]

@@ -26,7 +26,7 @@ use nq_base::{
     Answer, Block, BlockNo, Call, FileId, Host, Inc, Journal, NoMemory, Spare, Ticks, Who,
 };
 use nq_client_parts::holding::Held;
-use nq_dirty::Dirty;
+use nq_client_parts::dirty::Dirty;
 use nq_wire::Outbox;
 use std::alloc::Global;
 use std::marker::Model;

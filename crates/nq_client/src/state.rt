@@ -8,7 +8,7 @@ use crate::asked::Asked;
 use nq_base::{Call, NoMemory, Number, Seq, Ticks, Who};
 use nq_client_parts::cache::Cache;
 use nq_client_parts::{Leases, Notices, Unreported};
-use nq_dirty::Dirty;
+use nq_client_parts::dirty::Dirty;
 use std::alloc::Global;
 
 /// The call under way.

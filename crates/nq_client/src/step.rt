@@ -6,7 +6,7 @@ ghost use Rattle.nq_client.specs.Step.{IsBegun};
 use crate::state::State;
 use nq_base::Answer;
 use nq_client_parts::Entries;
-use nq_dirty::Vacancy;
+use nq_client_parts::dirty::Vacancy;
 
 /// A vacated message with its number.
 #[derive(Drop)]

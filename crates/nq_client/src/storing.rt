@@ -9,7 +9,7 @@ ghost use Rattle.nq_client.specs.Step.{step_of};
 use crate::step::Step;
 use nq_base::{Block, BlockNo, FileId, NoMemory, Rev, Value};
 use nq_client_parts::cache::{Cache, caches_written};
-use nq_dirty::Dirty;
+use nq_client_parts::dirty::Dirty;
 use std::alloc::Global;
 
 /// Caches the block of a push that was stored, unless it is dirty again.

@@ -7,3 +7,7 @@ pub mod Spans
 pub mod Kept
 pub mod KeyLaws
 pub mod CachePlaces
+pub mod Counts
+pub mod DirtyKeyLaws
+pub mod OfEntries
+pub mod Renewals

@@ -12,3 +12,5 @@ pub mod Cached
 pub mod CacheEntries
 pub mod Granting
 pub mod Revisions
+pub mod Delayed
+pub mod DirtyEntries

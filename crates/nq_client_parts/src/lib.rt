@@ -4,6 +4,7 @@
 //! Nothing here reads a datagram. Each value takes room for what it is given before it is given.
 #![tactic(auto)]
 
+pub mod dirty;
 pub mod cache;
 mod answers;
 mod calls;

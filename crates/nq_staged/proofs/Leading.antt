@@ -6,7 +6,7 @@ use Rattle.std.specs.Option.{option_map}
 use Rattle.std.specs.Prelude.{nat_lt, slice_get, if◌then◌else◌}
 use Rattle.nq_base.specs.declared.Event.{Event}
 use Rattle.nq_client.specs.Counted.{Counted}
-use Rattle.nq_dirty.specs.Delayed.{Delayed}
+use Rattle.nq_client_parts.specs.Delayed.{Delayed}
 use Rattle.nq_model.specs.Client.{Client}
 use Rattle.nq_model.specs.Kept.{Kept}
 use Rattle.nq_model.specs.Stepped.{done, no_packet, most_events, stepped, tested_room}

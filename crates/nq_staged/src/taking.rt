@@ -14,7 +14,7 @@ ghost use Rattle.nq_stage.specs.Staged.{new_stager};
 
 use crate::around::{Around, HostSide, Outgoing};
 use nq_base::{Host, NoMemory, Party, Who};
-use nq_dirty::Dirty;
+use nq_client_parts::dirty::Dirty;
 use nq_stage::pool::{Rebuilt, Staging};
 use nq_stage::stager::{HeardStage, Stager};
 use std::alloc::Global;

@@ -17,7 +17,7 @@ use crate::starting::stop_all;
 use crate::world::World;
 use nq_base::{Call, FileId, FileRow, Host, Inc, Journal, Party, Ticks};
 use nq_client::Client;
-use nq_dirty::Dirty;
+use nq_client_parts::dirty::Dirty;
 use nq_keeper::{KeepFault, Keeper};
 use nq_link::net::Packets;
 use nq_server::Server;
