@@ -31,3 +31,11 @@ pub mod WordsCuts
 pub mod Joining
 pub mod Ranges
 pub mod Rounds
+mod JournalAgain
+mod JournalClean
+mod Faulty
+mod Pieces
+mod Rests
+mod Tails
+mod TextLines
+mod JournalWhole

@@ -16,3 +16,9 @@ pub mod Commands
 pub mod CommandLines
 pub mod Pieces
 pub mod Starts
+pub mod Fault
+pub mod Groups
+pub mod Parsing
+pub mod Printing
+pub mod ReadingEntries
+pub mod JournalText

@@ -6,6 +6,7 @@
 //! `LineReading`.
 #![tactic(auto)]
 
+pub mod journal;
 pub mod command;
 mod calls;
 mod faults;
