@@ -12,8 +12,8 @@ ghost use Rattle.nq_client.specs.State.{client_of, under_way};
 
 use crate::state::{State, UnderWay};
 use nq_base::{BlockNo, Call, FileId, Mode, Request, Want};
-use nq_client_parts::holding::Held;
 use nq_client_parts::dirty::Dirty;
+use nq_client_parts::holding::Held;
 
 /// What a client needs to send.
 #[derive(Drop)]

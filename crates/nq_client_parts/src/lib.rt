@@ -4,11 +4,11 @@
 //! Nothing here reads a datagram. Each value takes room for what it is given before it is given.
 #![tactic(auto)]
 
-pub mod dirty;
-pub mod cache;
 mod answers;
+pub mod cache;
 mod calls;
 mod counting;
+pub mod dirty;
 mod entries;
 pub mod holding;
 mod job;

@@ -7,8 +7,8 @@ ghost use Rattle.nq_datagrams.specs.Told.{owned, told_client, told_lent};
 
 use crate::numbers::{EVICTED, PROGRAM, RPC_VERSION, VERSION};
 use nq_base::{Reply, Request, Spare};
-use nq_xdr::rpc::{LentCall, LentMessage, LentOutcome, decode_in_place};
 use nq_wire::{LentReply, Procedure, decode_reply_in_place, decode_request};
+use nq_xdr::rpc::{LentCall, LentMessage, LentOutcome, decode_in_place};
 
 /// The request of a client for whose reply it waits.
 #[derive(Clone, Copy)]

@@ -10,9 +10,9 @@ ghost use Rattle.nq_wire.specs.Request.{HasSpelling};
 use crate::numbers::{RPC_VERSION, VERSION};
 use crate::to_bytes::head_of;
 use nq_base::{Reply, Request};
-use nq_xdr::rpc::{Message, NoMemory, Outcome, ReplyMessage, begin_call, begin_reply, encode};
 use nq_wire::{encode_reply_into, encode_request_into};
 use nq_xdr::Writer;
+use nq_xdr::rpc::{Message, NoMemory, Outcome, ReplyMessage, begin_call, begin_reply, encode};
 use std::alloc::Global;
 use std::marker::Model;
 

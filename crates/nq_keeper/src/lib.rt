@@ -5,13 +5,13 @@
 //! moments may leave. An answer `Failed` comes only where that count rose in the call.
 #![tactic(auto)]
 
-pub mod requests;
 mod bounds;
 mod files;
 mod keeper;
 mod list_keeper;
 mod names;
 mod raising;
+pub mod requests;
 mod stored_file;
 
 pub use bounds::{can_be_kept, can_rise};

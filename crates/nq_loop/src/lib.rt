@@ -4,11 +4,11 @@
 //! and its counts. What a turn is stands in `specs/Looping`, what turns are in `specs/Turning`, and what is printed in `specs/Printed`.
 #![tactic(auto)]
 
-pub mod hosts;
 mod calling;
 mod counts;
 mod deeds;
 mod giving;
+pub mod hosts;
 mod matching;
 mod places;
 mod printing;

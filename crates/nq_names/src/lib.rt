@@ -5,9 +5,9 @@
 //! lists, and that a host which knows of a name knows what the server keeps under it.
 #![tactic(auto)]
 
-pub mod names;
 mod copying;
 mod delivering;
+pub mod names;
 mod reading;
 mod running;
 mod serving;

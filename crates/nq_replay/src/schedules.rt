@@ -22,9 +22,9 @@ use crate::printing::{Bound, limit_text, put_line, script_text, skew_text};
 use nq_base::ending::Ending;
 use nq_base::{Journal, SkewBroken};
 use nq_io::Sink;
-use nq_script::journal::{Printed, print};
 use nq_keeper::Keeper;
 use nq_script::Script;
+use nq_script::journal::{Printed, print};
 use nq_world::{Limit, MOST_EVENTS, NewFault, Stepped, World, begin};
 use std::alloc::Global;
 

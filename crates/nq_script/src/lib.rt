@@ -6,11 +6,11 @@
 //! `LineReading`.
 #![tactic(auto)]
 
-pub mod journal;
-pub mod command;
 mod calls;
+pub mod command;
 mod faults;
 mod heads;
+pub mod journal;
 mod laws;
 mod lines;
 mod print;

@@ -9,12 +9,12 @@
 //! `specs/Reading.antt`. Nothing here takes memory but the datagrams that are written.
 #![tactic(auto)]
 
-pub mod runs;
 mod laws;
 mod messages;
 pub mod pool;
 mod reading;
 pub mod run;
+pub mod runs;
 pub mod stager;
 mod writing;
 

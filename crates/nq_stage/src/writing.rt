@@ -7,9 +7,9 @@ ghost use Rattle.nq_stage.specs.Messages.{commit_bytes, head_of, pushed_bytes, s
 use crate::messages::{COMMIT_PROCEDURE, Pushed, STAGE_PROCEDURE, UNSTAGED_STATUS, Written};
 use nq_base::{Block, NoMemory};
 use nq_datagrams::{PROGRAM, VERSION};
-use nq_xdr::rpc::{Head, begin_call, begin_reply};
 use nq_wire::parts::{put_base, put_body, put_who};
 use nq_xdr::Writer;
+use nq_xdr::rpc::{Head, begin_call, begin_reply};
 use std::alloc::Global;
 
 /// The procedure WRITE.

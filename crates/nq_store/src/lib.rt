@@ -1,9 +1,9 @@
 //! What a server keeps, on a disk.
 #![tactic(auto)]
 
-pub mod images;
 mod examining;
 mod fault;
+pub mod images;
 mod loading;
 mod migrating;
 mod opening;

@@ -1,7 +1,6 @@
 //! The world: one server, its clients, all packets ever sent, and the journal.
 #![tactic(auto)]
 
-pub mod replies;
 mod arriving;
 mod at_client;
 mod at_server;
@@ -11,6 +10,7 @@ mod ending;
 mod first;
 mod laws;
 mod lending;
+pub mod replies;
 mod sending;
 mod starting;
 mod stepped;

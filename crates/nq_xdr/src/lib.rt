@@ -5,10 +5,10 @@
 //! first fault of anything else; [`Writer`] writes it.
 #![tactic(auto)]
 
-pub mod rpc;
 mod fault;
 pub mod laws;
 mod reader;
+pub mod rpc;
 mod words;
 mod writer;
 

@@ -5,8 +5,8 @@ ghost use Rattle.nq_model.specs.Client.{is_clean_in};
 
 use crate::dirty::dirty::Dirty;
 use crate::dirty::vacancy::Vacancy;
-use nq_base::FileId;
 use crate::holding::Notice;
+use nq_base::FileId;
 use std::marker::Model;
 
 /// A clean file: it has no delayed writes, neither in the list nor under way. The list is borrowed, so no block becomes

@@ -8,9 +8,9 @@ ghost use Rattle.nq_model.specs.Hear.{holds_caching};
 ghost use Rattle.nq_model.specs.Send.{ending_in, is_to_push_in, is_to_renew_in, renewed_in};
 
 use crate::dirty::dirty::Dirty;
-use nq_base::{FileId, Mode, Ticks};
 use crate::holding::Held;
 use crate::{Leases, Notices, Row};
+use nq_base::{FileId, Mode, Ticks};
 
 /// From so many ticks before a writing lease ends its delayed writes are pushed (Macklem 1994).
 const RENEWAL: u64 = 3;

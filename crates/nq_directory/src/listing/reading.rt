@@ -14,10 +14,10 @@ use crate::listing::messages::{
 use crate::{FileName, Prefix};
 use nq_base::{FileId, NoMemory};
 use nq_datagrams::{PROGRAM, RPC_VERSION, VERSION};
-use nq_xdr::rpc::{LentCall, LentMessage, LentOutcome, LentReply, decode_in_place};
 use nq_wire::Garbage;
 use nq_wire::parts::{name, optional_grant, tag, who};
 use nq_xdr::Reader;
+use nq_xdr::rpc::{LentCall, LentMessage, LentOutcome, LentReply, decode_in_place};
 use std::alloc::Global;
 
 /// A call of a procedure as it stands in a datagram.

@@ -14,9 +14,9 @@ use crate::listing::messages::{
 use crate::{FileName, Prefix};
 use nq_base::{Grant, NoMemory};
 use nq_datagrams::{PROGRAM, VERSION};
-use nq_xdr::rpc::{Head, begin_call, begin_reply};
 use nq_wire::parts::{name_len, put_name, put_optional_grant, put_tag, put_who};
 use nq_xdr::Writer;
+use nq_xdr::rpc::{Head, begin_call, begin_reply};
 use std::alloc::Global;
 use std::marker::Model;
 

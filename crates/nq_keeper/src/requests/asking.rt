@@ -9,10 +9,10 @@ ghost use Rattle.nq_model.specs.Kept.{find_file, find_name, blocks_in_all};
 ghost use Rattle.nq_keeper.specs.RequestsCapped.{capped};
 
 use crate::requests::effects;
+use crate::{KeepFault, Keeper};
 use nq_base::{
     Block, BlockNo, Effect, FileId, Gate, Heads, Name, PushBase, Request, Space, Verdict,
 };
-use crate::{KeepFault, Keeper};
 
 /// The server's numbers, and how much is kept.
 #[derive(Clone, Copy)]

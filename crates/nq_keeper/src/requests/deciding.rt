@@ -11,8 +11,8 @@ ghost use Rattle.nq_keeper.specs.RequestsCapped.{capped};
 ghost use Rattle.nq_keeper.specs.Deciding.{IsOfHost, IsOfSequence, Gives, LeavesGiven};
 
 use crate::requests::{asking, effects};
-use nq_base::{Block, Decided, Effect, Gate, Request, Seen, Seq, Verdict, Who};
 use crate::{KeepFault, Keeper, can_be_kept};
+use nq_base::{Block, Decided, Effect, Gate, Request, Seen, Seq, Verdict, Who};
 
 /// Bytes are numbers below 256.
 fn are_bytes(bytes: &[u8])

@@ -5,11 +5,11 @@ ghost use Rattle.nq_model.specs.Change.{raised_row};
 ghost use Rattle.nq_model.specs.Decided.{decided_before, change_with, no_effect, creation, block_write, length_change, removal, row_with, effect_of_create, effect_of_push, effect_of_write_in, effect_of_write, effect_of_resize, effect_of_remove};
 ghost use Rattle.nq_keeper.specs.RequestsCapped.{capped};
 
+use crate::raised;
 use nq_base::{
     Block, BlockChange, BlockNo, Change, Decided, Effect, FileId, FileRow, Heads, HostChange,
     HostRow, Name, PushBase, Rev, Seq, Space, Verdict, Who,
 };
-use crate::raised;
 
 /// The most files.
 const MOST_FILES: u32 = 256;

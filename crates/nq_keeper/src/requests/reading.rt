@@ -7,8 +7,8 @@ ghost use Rattle.nq_model.specs.Change.{row_of_found};
 ghost use Rattle.nq_model.specs.Kept.{find_file, find_name};
 ghost use Rattle.nq_keeper.specs.Reading.{read_out};
 
-use nq_base::{Block, BlockNo, FileId, FileRow, Name};
 use crate::{KeepFault, Keeper};
+use nq_base::{Block, BlockNo, FileId, FileRow, Name};
 
 /// What was read of a block.
 #[derive(Drop)]

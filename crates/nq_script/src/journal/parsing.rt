@@ -8,8 +8,8 @@ ghost use Rattle.nq_script.specs.JournalText.{IsVersion, IsText, head_line};
 ghost use Rattle.nq_script.specs.declared.journal.parsing.JournalFault.TheVariants.{Memory};
 
 use crate::journal::read_entries::entry_of;
-use nq_base::{Journal, NoMemory};
 use crate::words::{cut, is};
+use nq_base::{Journal, NoMemory};
 use std::alloc::Global;
 
 /// Why a text was not parsed.

@@ -6,9 +6,9 @@ ghost use Rattle.nq_script.specs.JournalText.{Has, IsVersion, IsText, journal_te
 
 use crate::journal::read_entries::has;
 use crate::journal::write_entries::push_line;
+use crate::words::push_numbers;
 use nq_base::{Journal, NoMemory};
 use nq_io::{Put, Sink};
-use crate::words::push_numbers;
 use std::alloc::Global;
 
 // A sink is given as many bytes at once, or more, but for the last time.

@@ -7,8 +7,8 @@ ghost use Rattle.nq_script.specs.ReadingEntries.{Spells, kind_of, kind_word, ent
 ghost use Rattle.nq_script.specs.JournalText.{mode_word, way_word, source_words, longest_words, FitsSource, Has};
 ghost use Rattle.nq_script.specs.Forms.{HasTold};
 
-use nq_base::{Entry, FileId, Mode, NoMemory, Number, Ticks};
 use crate::words::{Words, has_told, is, take_said, take_told};
+use nq_base::{Entry, FileId, Mode, NoMemory, Number, Ticks};
 use std::alloc::Global;
 
 // The kinds of entry, by their letters.

@@ -8,8 +8,8 @@ ghost use Rattle.nq_script.specs.Groups.{is_of_block, is_of_call, is_of_lease, i
 ghost use Rattle.nq_script.specs.JournalText.{Fits, FitsSource, entry_words, entry_line, of_who, way_word, mode_word, source_words, longest_words};
 ghost use Rattle.nq_script.specs.Forms.{FitsWho, FitsTold, FitsSaid, told_words, said_words};
 
-use nq_base::{Entry, Mode, NoMemory, Said, Told, Who};
 use crate::words::{push_bytes, push_command, push_numbers, push_said, push_told, push_word};
+use nq_base::{Entry, Mode, NoMemory, Said, Told, Who};
 
 // Appends the letter of a line, the incarnation of which it tells, and numbers with a blank before each.
 fn push_of_who(out: &mut Vec<u8>, letter: &[u8], who: &Who, numbers: &[u64]) -> Result<(), NoMemory>

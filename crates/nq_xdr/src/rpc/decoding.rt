@@ -9,11 +9,11 @@ ghost use Rattle.nq_xdr.specs.RpcFault.{IsMessageFault, IsDecodeFault};
 ghost use Rattle.nq_xdr.specs.Reading.{Gives};
 ghost use Rattle.nq_xdr.specs.RpcReading.{Decodes, behind_auth, call_at, ended, bounds_at, accepted_as, accepted_at, denied_as, denied_at, outcome_at, reply_at, message_at};
 
+use crate::Reader;
 use crate::rpc::{
     Bytes, CallMessage, Head, LentCall, LentMessage, LentOutcome, LentReply, Message, Outcome,
     ReplyMessage, RpcFault, number,
 };
-use crate::Reader;
 use std::alloc::Global;
 
 /// The longest body of a credential or a verifier, in bytes (RFC 1057 section 7.2).

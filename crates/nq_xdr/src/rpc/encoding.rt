@@ -5,8 +5,8 @@ ghost use Rattle.nq_xdr.specs.Item.{word};
 ghost use Rattle.nq_xdr.specs.declared.rpc.message.Message.TheVariants.{Call};
 ghost use Rattle.nq_xdr.specs.Message.{auth, null, outcome, spelling, call_with, reply_with, outcome_len, spelling_len};
 
-use crate::rpc::{Head, Message, NoMemory, Outcome, number};
 use crate::Writer;
+use crate::rpc::{Head, Message, NoMemory, Outcome, number};
 use std::alloc::Global;
 
 /// The version of RPC (RFC 1057 section 8).

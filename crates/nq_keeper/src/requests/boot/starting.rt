@@ -10,8 +10,8 @@ ghost use Rattle.nq_model.specs.Kept.{Kept};
 ghost use Rattle.nq_model.specs.ServerStep.{booted};
 
 use crate::requests::boot::recovering::{Finish, Recovering, Serving};
-use nq_base::{Change, Heads, Ticks};
 use crate::{KeepFault, Keeper};
+use nq_base::{Change, Heads, Ticks};
 
 /// How long a recovery goes on beyond the longest term of the boot that served last, in ticks: the skew, and the write
 /// slack (Macklem 1994).

@@ -4,8 +4,8 @@ ghost use Rattle.std.specs.Fmt.{decimal};
 ghost use Rattle.std.specs.Prelude.{◌≡◌, ◌<◌, ◌++◌, IfOk, IfSome, OnOk, length, slice_get};
 ghost use Rattle.nq_script.specs.Answers.{answer_words, loss_words, lost_words, reason_of, value_words};
 
-use nq_base::{Answer, Losses, NoMemory, Value};
 use crate::words::{push_bytes, push_digits};
+use nq_base::{Answer, Losses, NoMemory, Value};
 use std::alloc::Global;
 
 /// An answer in words, without an end of line: its first word is that of a journal, and the reason stands behind it.

@@ -3,9 +3,9 @@
 ghost use Rattle.std.specs.Prelude.{◌≡◌, IfSome, IsNone};
 ghost use Rattle.nq_script.specs.CommandLines.{NamesNoFile, Says};
 
-use nq_base::{Call, Name};
 use crate::parse_call;
 use crate::words::{Words, is};
+use nq_base::{Call, Name};
 use std::alloc::Global;
 
 /// What a line at a prompt says.

@@ -6,8 +6,8 @@ ghost use Rattle.nq_base.specs.Block.{filled, word};
 ghost use Rattle.nq_base.specs.Seen.{seen_bytes};
 ghost use Rattle.nq_script.specs.Pieces.{blocks_for, first_of, head_of, joined_pieces, length_in, length_told, most_bytes, piece_of};
 
-use nq_base::{Block, NoMemory, Seen};
 use crate::words::{is, push_bytes};
+use nq_base::{Block, NoMemory, Seen};
 use nq_xdr::push_words;
 use std::alloc::Global;
 

@@ -3,8 +3,8 @@
 ghost use Rattle.std.specs.Prelude.{◌≡◌, IfOk};
 ghost use Rattle.nq_script.specs.Starts.{next_start, start_line};
 
-use nq_base::NoMemory;
 use crate::words::{cut, number, push_digits};
+use nq_base::NoMemory;
 use std::alloc::Global;
 
 /// The first start of a host.
