@@ -28,7 +28,7 @@ pub(crate) fn files_in(slots: &[Option<Slot>]) -> u32
 }
 
 /// The numbers and rows, by the first bytes of the image.
-#[tactic(auto, unfolding(crate::images::specs::Head::head_one))]
+#[tactic(auto, unfolding(crate::specs::Head::head_one))]
 fn read_head(alloc: Global, head: &[u8]) -> Result<ImageOne, ImageFault>
     requires { length head.now ≡ 28672 }
     ensures told { Reads seen_one result (head_one head.now) }

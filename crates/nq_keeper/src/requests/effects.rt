@@ -24,7 +24,7 @@ const MOST_BLOCKS_OF_FILE: u32 = 1024;
 const MOST_IDS: u32 = 0x8000_0000;
 
 /// A decision that changes nothing.
-#[tactic(auto, unfolding(nq_model::specs::Decided::no_effect, crate::requests::specs::Capped::capped))]
+#[tactic(auto, unfolding(nq_model::specs::Decided::no_effect, crate::specs::RequestsCapped::capped))]
 pub(crate) fn none(verdict: Verdict) -> Effect
     ensures { result ≡ capped (no_effect verdict) }
 {
@@ -39,7 +39,7 @@ pub(crate) fn none(verdict: Verdict) -> Effect
 }
 
 /// A file is made.
-#[tactic(auto, unfolding(nq_model::specs::Decided::creation, crate::requests::specs::Capped::capped, crate::specs::Capped::capped_row))]
+#[tactic(auto, unfolding(nq_model::specs::Decided::creation, crate::specs::RequestsCapped::capped, crate::specs::Capped::capped_row))]
 fn made(heads: &Heads, name: &Name, blocks: u32) -> Effect
     requires { heads.now.next < 2147483648 }
     ensures { result ≡ capped (creation heads.now name.now blocks) }
@@ -66,7 +66,7 @@ fn made(heads: &Heads, name: &Name, blocks: u32) -> Effect
 }
 
 /// A block is written.
-#[tactic(auto, unfolding(nq_model::specs::Decided::block_write, nq_model::specs::Change::raised_row, crate::requests::specs::Capped::capped, crate::specs::Capped::capped_row))]
+#[tactic(auto, unfolding(nq_model::specs::Decided::block_write, nq_model::specs::Change::raised_row, crate::specs::RequestsCapped::capped, crate::specs::Capped::capped_row))]
 fn written(row: &FileRow, block: BlockNo, body: Block) -> Effect
     ensures { result ≡ capped (block_write row.now block body) }
 {
@@ -87,7 +87,7 @@ fn written(row: &FileRow, block: BlockNo, body: Block) -> Effect
 }
 
 /// A file gets another length.
-#[tactic(auto, unfolding(nq_model::specs::Decided::length_change, nq_model::specs::Change::raised_row, crate::requests::specs::Capped::capped, crate::specs::Capped::capped_row))]
+#[tactic(auto, unfolding(nq_model::specs::Decided::length_change, nq_model::specs::Change::raised_row, crate::specs::RequestsCapped::capped, crate::specs::Capped::capped_row))]
 fn resized(row: &FileRow, blocks: u32) -> Effect
     ensures { result ≡ capped (length_change row.now blocks) }
 {
@@ -103,7 +103,7 @@ fn resized(row: &FileRow, blocks: u32) -> Effect
 }
 
 /// A file is taken away.
-#[tactic(auto, unfolding(nq_model::specs::Decided::removal, crate::requests::specs::Capped::capped))]
+#[tactic(auto, unfolding(nq_model::specs::Decided::removal, crate::specs::RequestsCapped::capped))]
 fn removed(row: &FileRow) -> Effect
     ensures { result ≡ capped (removal row.now) }
 {

@@ -59,7 +59,7 @@ const LONGEST: u32 = 60;
 const MOST_TURNS: u32 = 1_000_000;
 
 /// What a word alone says.
-#[tactic(auto, unfolding(crate::command::specs::Commands::alone_of))]
+#[tactic(auto, unfolding(crate::specs::Commands::alone_of))]
 pub(crate) fn alone(name: &[u8]) -> Option<Command>
     ensures { result ≡ alone_of name.now }
 {
@@ -79,7 +79,7 @@ pub(crate) fn alone(name: &[u8]) -> Option<Command>
 }
 
 /// What a name and a number say.
-#[tactic(auto, unfolding(crate::command::specs::Commands::counted_of))]
+#[tactic(auto, unfolding(crate::specs::Commands::counted_of))]
 pub(crate) fn counted(name: &[u8], turns: &[u8]) -> Option<Command>
     ensures { result ≡ counted_of name.now turns.now }
 {
@@ -91,7 +91,7 @@ pub(crate) fn counted(name: &[u8], turns: &[u8]) -> Option<Command>
 }
 
 /// What a name and two numbers say.
-#[tactic(auto, unfolding(crate::command::specs::Commands::paired_of))]
+#[tactic(auto, unfolding(crate::specs::Commands::paired_of))]
 pub(crate) fn paired(name: &[u8], first: &[u8], second: &[u8]) -> Option<Command>
     ensures { result ≡ paired_of name.now first.now second.now }
 {
@@ -105,7 +105,7 @@ pub(crate) fn paired(name: &[u8], first: &[u8], second: &[u8]) -> Option<Command
 }
 
 /// What the turns behind `serve` say, with a longest term.
-#[tactic(auto, unfolding(crate::command::specs::Commands::serve_of))]
+#[tactic(auto, unfolding(crate::specs::Commands::serve_of))]
 fn serve(turns: &[u8], longest: Option<u32>) -> Option<Command>
     ensures { result ≡ serve_of turns.now longest }
 {
@@ -115,7 +115,7 @@ fn serve(turns: &[u8], longest: Option<u32>) -> Option<Command>
 }
 
 /// What the words behind `loop` say.
-#[tactic(auto, unfolding(crate::command::specs::Commands::loop_of))]
+#[tactic(auto, unfolding(crate::specs::Commands::loop_of))]
 fn repeated(hosts: &[u8], turns: &[u8]) -> Option<Command>
     ensures { result ≡ loop_of hosts.now turns.now }
 {
@@ -125,7 +125,7 @@ fn repeated(hosts: &[u8], turns: &[u8]) -> Option<Command>
 }
 
 /// What a name and three words say.
-#[tactic(auto, unfolding(crate::command::specs::Commands::numbered_of))]
+#[tactic(auto, unfolding(crate::specs::Commands::numbered_of))]
 pub(crate) fn numbered(name: &[u8], first: &[u8], second: &[u8], third: &[u8]) -> Option<Command>
     ensures { result ≡ numbered_of name.now first.now second.now third.now }
 {
@@ -139,7 +139,7 @@ pub(crate) fn numbered(name: &[u8], first: &[u8], second: &[u8], third: &[u8]) -
 }
 
 /// What the words behind `storm` say.
-#[tactic(auto, unfolding(crate::command::specs::Commands::storm_of))]
+#[tactic(auto, unfolding(crate::specs::Commands::storm_of))]
 fn storm(kind: &[u8], start: &[u8], events: &[u8]) -> Option<Command>
     ensures { result ≡ storm_of kind.now start.now events.now }
 {
@@ -154,7 +154,7 @@ fn storm(kind: &[u8], start: &[u8], events: &[u8]) -> Option<Command>
 }
 
 /// What the words behind `client` say.
-#[tactic(auto, unfolding(crate::command::specs::Commands::client_of))]
+#[tactic(auto, unfolding(crate::specs::Commands::client_of))]
 fn client(host: &[u8], inc: &[u8], turns: &[u8]) -> Option<Command>
     ensures { result ≡ client_of host.now inc.now turns.now }
 {
@@ -165,7 +165,7 @@ fn client(host: &[u8], inc: &[u8], turns: &[u8]) -> Option<Command>
 }
 
 /// The kind of fate that a word names.
-#[tactic(auto, unfolding(crate::command::specs::Commands::kind_of))]
+#[tactic(auto, unfolding(crate::specs::Commands::kind_of))]
 fn kind_of(word: &[u8]) -> Option<u8>
     ensures { result ≡ kind_of word.now }
 {
@@ -183,7 +183,7 @@ fn kind_of(word: &[u8]) -> Option<u8>
 }
 
 /// The number from `least` to `most` that a word writes.
-#[tactic(auto, unfolding(crate::command::specs::Commands::ranged_of))]
+#[tactic(auto, unfolding(crate::specs::Commands::ranged_of))]
 fn ranged(word: &[u8], least: u32, most: u32) -> Option<u32>
     ensures { result ≡ ranged_of least most word.now }
 {

@@ -66,7 +66,7 @@ pub fn print<K: Sink>(alloc: Global, journal: &Journal, version: u32, out: &mut 
 }
 
 // Appends the first line.
-#[tactic(auto, unfolding(crate::specs::Words::joined, crate::specs::Words::line, crate::journal::specs::Text::head_line))]
+#[tactic(auto, unfolding(crate::specs::Words::joined, crate::specs::Words::line, crate::specs::JournalText::head_line))]
 fn push_head(out: &mut Vec<u8>, version: u32) -> Result<(), NoMemory>
     ensures { OnOk result (out.new.items ≡ out.old.items ++ head_line version) }
 {
@@ -77,7 +77,7 @@ fn push_head(out: &mut Vec<u8>, version: u32) -> Result<(), NoMemory>
 }
 
 // Appends the last line.
-#[tactic(auto, unfolding(crate::specs::Words::joined, crate::specs::Words::line, crate::journal::specs::Text::end_line))]
+#[tactic(auto, unfolding(crate::specs::Words::joined, crate::specs::Words::line, crate::specs::JournalText::end_line))]
 fn push_end(out: &mut Vec<u8>) -> Result<(), NoMemory>
     ensures { OnOk result (out.new.items ≡ out.old.items ++ end_line) }
 {

@@ -29,7 +29,7 @@ pub(crate) enum Kind {
 }
 
 // The kind of entry whose letter a word is.
-#[tactic(auto, unfolding(crate::journal::specs::ReadingEntries::kind_of))]
+#[tactic(auto, unfolding(crate::specs::ReadingEntries::kind_of))]
 fn kind_of(word: &[u8]) -> Option<Kind>
     ensures step { result ≡ kind_of word.now }
     ensures found { IfSome result (λ kind. word.now ≡ kind_word kind) }
@@ -64,7 +64,7 @@ fn kind_of(word: &[u8]) -> Option<Kind>
 }
 
 // The mode that a word names.
-#[tactic(auto, unfolding(crate::journal::specs::ReadingEntries::mode_of))]
+#[tactic(auto, unfolding(crate::specs::ReadingEntries::mode_of))]
 fn mode_of(word: &[u8]) -> Option<Mode>
     ensures step { result ≡ mode_of word.now }
     ensures found { IfSome result (λ mode. word.now ≡ mode_word mode) }
@@ -81,7 +81,7 @@ fn mode_of(word: &[u8]) -> Option<Mode>
 }
 
 // Takes a mode.
-#[tactic(auto, unfolding(crate::journal::specs::ReadingEntries::mode_at))]
+#[tactic(auto, unfolding(crate::specs::ReadingEntries::mode_at))]
 fn take_mode(words: &mut Words<'_>) -> Option<Mode>
     ensures step { Takes (λ mode. mode) result words.new (mode_at words.old) }
     ensures found { IfSome result (λ mode. words.old ≡ mode_word mode ∷ words.new) }
@@ -90,7 +90,7 @@ fn take_mode(words: &mut Words<'_>) -> Option<Mode>
 }
 
 // Whether a write went through, as a word tells.
-#[tactic(auto, unfolding(crate::journal::specs::ReadingEntries::way_of))]
+#[tactic(auto, unfolding(crate::specs::ReadingEntries::way_of))]
 fn way_of(word: &[u8]) -> Option<bool>
     ensures step { result ≡ way_of word.now }
     ensures found { IfSome result (λ way. word.now ≡ way_word way) }
@@ -105,7 +105,7 @@ fn way_of(word: &[u8]) -> Option<bool>
 }
 
 // Takes whether a write went through.
-#[tactic(auto, unfolding(crate::journal::specs::ReadingEntries::way_at))]
+#[tactic(auto, unfolding(crate::specs::ReadingEntries::way_at))]
 fn take_way(words: &mut Words<'_>) -> Option<bool>
     ensures step { Takes (λ way. way) result words.new (way_at words.old) }
     ensures found { IfSome result (λ way. words.old ≡ way_word way ∷ words.new) }
@@ -114,7 +114,7 @@ fn take_way(words: &mut Words<'_>) -> Option<bool>
 }
 
 // Takes the reply packet of a read, if the server served it.
-#[tactic(auto, unfolding(crate::journal::specs::ReadingEntries::source_at))]
+#[tactic(auto, unfolding(crate::specs::ReadingEntries::source_at))]
 fn take_source(words: &mut Words<'_>) -> Option<Option<u64>>
     ensures step { Takes (λ source. source) result words.new (source_at words.old) }
     ensures found { IfSome result (λ source. (words.old ≡ source_words source ++ words.new) × FitsSource source) }
@@ -131,7 +131,7 @@ fn take_source(words: &mut Words<'_>) -> Option<Option<u64>>
 }
 
 // Takes the longest term, which version 1 does not tell.
-#[tactic(auto, unfolding(crate::journal::specs::ReadingEntries::longest_at))]
+#[tactic(auto, unfolding(crate::specs::ReadingEntries::longest_at))]
 fn take_longest(words: &mut Words<'_>, version: u32) -> Option<u32>
     ensures step { Takes (λ longest. longest) result words.new (longest_at version words.old) }
     ensures found { IfSome result (λ longest. (words.old ≡ longest_words version longest ++ words.new) × (longest < 2 ^ 32)) }
@@ -139,7 +139,7 @@ fn take_longest(words: &mut Words<'_>, version: u32) -> Option<u32>
     if version == 2 { words.u32() } else { Some(60) }
 }
 
-#[tactic(auto, unfolding(crate::journal::specs::ReadingEntries::c_at))]
+#[tactic(auto, unfolding(crate::specs::ReadingEntries::c_at))]
 fn take_c(words: &mut Words<'_>) -> Option<Entry>
     ensures step { Takes plain result words.new (c_at words.old) }
     ensures found { (version : ℕ) → IfSome result (λ entry. Spells version (codes "C" ∷ words.old) entry words.new) }
@@ -150,7 +150,7 @@ fn take_c(words: &mut Words<'_>) -> Option<Entry>
     Some(Entry::C { who, q, told })
 }
 
-#[tactic(auto, unfolding(crate::journal::specs::ReadingEntries::w_at))]
+#[tactic(auto, unfolding(crate::specs::ReadingEntries::w_at))]
 fn take_w(words: &mut Words<'_>) -> Option<Entry>
     ensures step { Takes plain result words.new (w_at words.old) }
     ensures found { (version : ℕ) → IfSome result (λ entry. Spells version (codes "W" ∷ words.old) entry words.new) }
@@ -170,7 +170,7 @@ fn take_w(words: &mut Words<'_>) -> Option<Entry>
     })
 }
 
-#[tactic(auto, unfolding(crate::journal::specs::ReadingEntries::r_at))]
+#[tactic(auto, unfolding(crate::specs::ReadingEntries::r_at))]
 fn take_r(words: &mut Words<'_>) -> Option<Entry>
     ensures step { Takes plain result words.new (r_at words.old) }
     ensures found { (version : ℕ) → IfSome result (λ entry. Spells version (codes "R" ∷ words.old) entry words.new) }
@@ -190,7 +190,7 @@ fn take_r(words: &mut Words<'_>) -> Option<Entry>
     })
 }
 
-#[tactic(auto, unfolding(crate::journal::specs::ReadingEntries::s_at))]
+#[tactic(auto, unfolding(crate::specs::ReadingEntries::s_at))]
 fn take_s(words: &mut Words<'_>) -> Option<Entry>
     ensures step { Takes plain result words.new (s_at words.old) }
     ensures found { (version : ℕ) → IfSome result (λ entry. Spells version (codes "S" ∷ words.old) entry words.new) }
@@ -210,7 +210,7 @@ fn take_s(words: &mut Words<'_>) -> Option<Entry>
     })
 }
 
-#[tactic(auto, unfolding(crate::journal::specs::ReadingEntries::l_at))]
+#[tactic(auto, unfolding(crate::specs::ReadingEntries::l_at))]
 fn take_l(words: &mut Words<'_>) -> Option<Entry>
     ensures step { Takes plain result words.new (l_at words.old) }
     ensures found { (version : ℕ) → IfSome result (λ entry. Spells version (codes "L" ∷ words.old) entry words.new) }
@@ -228,7 +228,7 @@ fn take_l(words: &mut Words<'_>) -> Option<Entry>
     })
 }
 
-#[tactic(auto, unfolding(crate::journal::specs::ReadingEntries::g_at))]
+#[tactic(auto, unfolding(crate::specs::ReadingEntries::g_at))]
 fn take_g(words: &mut Words<'_>) -> Option<Entry>
     ensures step { Takes plain result words.new (g_at words.old) }
     ensures found { (version : ℕ) → IfSome result (λ entry. Spells version (codes "G" ∷ words.old) entry words.new) }
@@ -249,7 +249,7 @@ fn take_g(words: &mut Words<'_>) -> Option<Entry>
     })
 }
 
-#[tactic(auto, unfolding(crate::journal::specs::ReadingEntries::f_at))]
+#[tactic(auto, unfolding(crate::specs::ReadingEntries::f_at))]
 fn take_f(words: &mut Words<'_>) -> Option<Entry>
     ensures step { Takes plain result words.new (f_at words.old) }
     ensures found { (version : ℕ) → IfSome result (λ entry. Spells version (codes "F" ∷ words.old) entry words.new) }
@@ -268,7 +268,7 @@ fn take_f(words: &mut Words<'_>) -> Option<Entry>
     })
 }
 
-#[tactic(auto, unfolding(crate::journal::specs::ReadingEntries::o_at))]
+#[tactic(auto, unfolding(crate::specs::ReadingEntries::o_at))]
 fn take_o(words: &mut Words<'_>) -> Option<Entry>
     ensures step { Takes plain result words.new (o_at words.old) }
     ensures found { (version : ℕ) → IfSome result (λ entry. Spells version (codes "O" ∷ words.old) entry words.new) }
@@ -285,7 +285,7 @@ fn take_o(words: &mut Words<'_>) -> Option<Entry>
     })
 }
 
-#[tactic(auto, unfolding(crate::journal::specs::ReadingEntries::b_at))]
+#[tactic(auto, unfolding(crate::specs::ReadingEntries::b_at))]
 fn take_b(words: &mut Words<'_>) -> Option<Entry>
     ensures step { Takes plain result words.new (b_at words.old) }
     ensures found { (version : ℕ) → IfSome result (λ entry. Spells version (codes "B" ∷ words.old) entry words.new) }
@@ -294,7 +294,7 @@ fn take_b(words: &mut Words<'_>) -> Option<Entry>
     Some(Entry::B { who })
 }
 
-#[tactic(auto, unfolding(crate::journal::specs::ReadingEntries::x_at))]
+#[tactic(auto, unfolding(crate::specs::ReadingEntries::x_at))]
 fn take_x(words: &mut Words<'_>, version: u32) -> Option<Entry>
     ensures step { Takes plain result words.new (x_at version words.old) }
     ensures found { IfSome result (λ entry. Spells version (codes "X" ∷ words.old) entry words.new) }
@@ -305,7 +305,7 @@ fn take_x(words: &mut Words<'_>, version: u32) -> Option<Entry>
     Some(Entry::X { boot, now, longest })
 }
 
-#[tactic(auto, unfolding(crate::journal::specs::ReadingEntries::z_at))]
+#[tactic(auto, unfolding(crate::specs::ReadingEntries::z_at))]
 fn take_z(words: &mut Words<'_>) -> Option<Entry>
     ensures step { Takes plain result words.new (z_at words.old) }
     ensures found { (version : ℕ) → IfSome result (λ entry. Spells version (codes "Z" ∷ words.old) entry words.new) }
@@ -324,7 +324,7 @@ fn take_z(words: &mut Words<'_>) -> Option<Entry>
     })
 }
 
-#[tactic(auto, unfolding(crate::journal::specs::ReadingEntries::a_at))]
+#[tactic(auto, unfolding(crate::specs::ReadingEntries::a_at))]
 fn take_a(alloc: Global, words: &mut Words<'_>) -> Result<Option<Entry>, NoMemory>
     ensures step { IfOk result (λ entry. Takes plain entry words.new (a_at words.old)) }
     ensures found { (version : ℕ) → IfOk result (λ entry. IfSome entry (λ e. Spells version (codes "A" ∷ words.old) e words.new)) }
@@ -381,7 +381,7 @@ pub(crate) fn has(version: u32, entry: &Entry) -> bool
 }
 
 // The entry that a line spells in a version.
-#[tactic(auto, unfolding(crate::journal::specs::ReadingEntries::entry_of))]
+#[tactic(auto, unfolding(crate::specs::ReadingEntries::entry_of))]
 pub(crate) fn entry_of(alloc: Global, version: u32, line: &[u8]) -> Result<Option<Entry>, NoMemory>
     ensures step { IfOk result (λ entry. option_map plain entry ≡ entry_of version (words_of line.now)) }
     ensures found { IfOk result (λ entry. IfSome entry (λ e. Spells version (words_of line.now) e [] × Has version e)) }

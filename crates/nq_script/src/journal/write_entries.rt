@@ -286,7 +286,7 @@ fn push_words(out: &mut Vec<u8>, version: u32, entry: &Entry) -> Result<(), NoMe
 }
 
 // Appends the line of an entry.
-#[tactic(auto, unfolding(crate::specs::Words::line, crate::journal::specs::Text::entry_line))]
+#[tactic(auto, unfolding(crate::specs::Words::line, crate::specs::JournalText::entry_line))]
 pub(crate) fn push_line(out: &mut Vec<u8>, version: u32, entry: &Entry) -> Result<(), NoMemory>
     ensures written { OnOk result (out.new.items ≡ out.old.items ++ entry_line version entry.now) }
     ensures fits { OnOk result (Fits entry.now) }

@@ -20,7 +20,7 @@ use std::alloc::Global;
 const LONGEST_AUTH: u32 = 400;
 
 /// Passes over a credential or a verifier.
-#[tactic(auto, unfolding(crate::rpc::specs::Reading::behind_auth))]
+#[tactic(auto, unfolding(crate::specs::RpcReading::behind_auth))]
 fn auth(reader: &mut Reader) -> Result<(), RpcFault>
     ensures { Gives (λ _. reader.new) result (behind_auth reader.old) }
 {
@@ -29,7 +29,7 @@ fn auth(reader: &mut Reader) -> Result<(), RpcFault>
     Ok(())
 }
 
-#[tactic(auto, unfolding(crate::rpc::specs::Reading::bounds_at))]
+#[tactic(auto, unfolding(crate::specs::RpcReading::bounds_at))]
 fn bounds(reader: &mut Reader) -> Result<(u32, u32), RpcFault>
     ensures { Gives (λ b. (b.0, b.1, reader.new)) result (bounds_at reader.old) }
 {
@@ -39,7 +39,7 @@ fn bounds(reader: &mut Reader) -> Result<(u32, u32), RpcFault>
 }
 
 /// An error reply, which ends here.
-#[tactic(auto, unfolding(crate::rpc::specs::Reading::ended))]
+#[tactic(auto, unfolding(crate::specs::RpcReading::ended))]
 fn ended<'a>(outcome: LentOutcome<'a>, reader: Reader<'a>) -> Result<LentOutcome<'a>, RpcFault>
     ensures { Gives lent_outcome result (ended (lent_outcome outcome.entry) reader.entry) }
 {
@@ -47,7 +47,7 @@ fn ended<'a>(outcome: LentOutcome<'a>, reader: Reader<'a>) -> Result<LentOutcome
     Ok(outcome)
 }
 
-#[tactic(auto, unfolding(crate::rpc::specs::Reading::accepted_as))]
+#[tactic(auto, unfolding(crate::specs::RpcReading::accepted_as))]
 fn accepted_as(stat: u32, mut reader: Reader<'_>) -> Result<LentOutcome<'_>, RpcFault>
     ensures { Gives lent_outcome result (accepted_as stat reader.entry) }
 {
@@ -64,7 +64,7 @@ fn accepted_as(stat: u32, mut reader: Reader<'_>) -> Result<LentOutcome<'_>, Rpc
     }
 }
 
-#[tactic(auto, unfolding(crate::rpc::specs::Reading::accepted_at))]
+#[tactic(auto, unfolding(crate::specs::RpcReading::accepted_at))]
 fn accepted(mut reader: Reader<'_>) -> Result<LentOutcome<'_>, RpcFault>
     ensures { Gives lent_outcome result (accepted_at reader.entry) }
 {
@@ -73,7 +73,7 @@ fn accepted(mut reader: Reader<'_>) -> Result<LentOutcome<'_>, RpcFault>
     accepted_as(stat, reader)
 }
 
-#[tactic(auto, unfolding(crate::rpc::specs::Reading::denied_as))]
+#[tactic(auto, unfolding(crate::specs::RpcReading::denied_as))]
 fn denied_as(stat: u32, mut reader: Reader<'_>) -> Result<LentOutcome<'_>, RpcFault>
     ensures { Gives lent_outcome result (denied_as stat reader.entry) }
 {
@@ -90,7 +90,7 @@ fn denied_as(stat: u32, mut reader: Reader<'_>) -> Result<LentOutcome<'_>, RpcFa
     }
 }
 
-#[tactic(auto, unfolding(crate::rpc::specs::Reading::denied_at))]
+#[tactic(auto, unfolding(crate::specs::RpcReading::denied_at))]
 fn denied(mut reader: Reader<'_>) -> Result<LentOutcome<'_>, RpcFault>
     ensures { Gives lent_outcome result (denied_at reader.entry) }
 {
@@ -98,7 +98,7 @@ fn denied(mut reader: Reader<'_>) -> Result<LentOutcome<'_>, RpcFault>
     denied_as(stat, reader)
 }
 
-#[tactic(auto, unfolding(crate::rpc::specs::Reading::outcome_at))]
+#[tactic(auto, unfolding(crate::specs::RpcReading::outcome_at))]
 fn outcome(mut reader: Reader<'_>) -> Result<LentOutcome<'_>, RpcFault>
     ensures { Gives lent_outcome result (outcome_at reader.entry) }
 {
@@ -109,7 +109,7 @@ fn outcome(mut reader: Reader<'_>) -> Result<LentOutcome<'_>, RpcFault>
     }
 }
 
-#[tactic(auto, unfolding(crate::rpc::specs::Reading::reply_at))]
+#[tactic(auto, unfolding(crate::specs::RpcReading::reply_at))]
 fn reply(xid: u32, reader: Reader<'_>) -> Result<LentMessage<'_>, RpcFault>
     ensures { Gives lent_message result (reply_at xid reader.entry) }
 {
@@ -117,7 +117,7 @@ fn reply(xid: u32, reader: Reader<'_>) -> Result<LentMessage<'_>, RpcFault>
     Ok(LentMessage::Reply(LentReply { xid, outcome }))
 }
 
-#[tactic(auto, unfolding(crate::rpc::specs::Reading::call_at))]
+#[tactic(auto, unfolding(crate::specs::RpcReading::call_at))]
 fn call(xid: u32, mut reader: Reader<'_>) -> Result<LentMessage<'_>, RpcFault>
     ensures { Gives lent_message result (call_at xid reader.entry) }
 {
@@ -139,7 +139,7 @@ fn call(xid: u32, mut reader: Reader<'_>) -> Result<LentMessage<'_>, RpcFault>
     }))
 }
 
-#[tactic(auto, unfolding(crate::rpc::specs::Reading::message_at))]
+#[tactic(auto, unfolding(crate::specs::RpcReading::message_at))]
 fn message(bytes: &[u8]) -> Result<LentMessage<'_>, RpcFault>
     ensures { Gives lent_message result (message_at bytes.now) }
 {

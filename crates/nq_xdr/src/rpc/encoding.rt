@@ -34,7 +34,7 @@ fn message_len(message: &Message) -> usize
 }
 
 /// Writes AUTH_NULL.
-#[tactic(auto, unfolding(crate::rpc::specs::Message::auth))]
+#[tactic(auto, unfolding(crate::specs::Message::auth))]
 fn put_auth(out: &mut Writer)
     requires { 8 ≤ out.old.spare }
     ensures written { out.new.bytes ≡ out.old.bytes ++ auth null }
@@ -54,7 +54,7 @@ fn put_bounds(low: u32, high: u32, out: &mut Writer)
 }
 
 /// Writes what stands before the arguments of a call. There is room.
-#[tactic(auto, unfolding(crate::rpc::specs::Message::numbers, crate::rpc::specs::Message::spelling))]
+#[tactic(auto, unfolding(crate::specs::Message::numbers, crate::specs::Message::spelling))]
 fn put_head(head: &Head, rpcvers: u32, out: &mut Writer)
     requires { 40 ≤ out.old.spare }
     ensures written { (arguments : List ℕ)
@@ -92,7 +92,7 @@ fn put_denied(stat: u32, out: &mut Writer)
     out.put_u32(stat);
 }
 
-#[tactic(auto, unfolding(crate::rpc::specs::Message::outcome))]
+#[tactic(auto, unfolding(crate::specs::Message::outcome))]
 fn put_outcome(reply: &Outcome, out: &mut Writer)
     requires { outcome_len reply.now ≤ out.old.spare }
     ensures written { out.new.bytes ≡ out.old.bytes ++ outcome reply.now null }
@@ -122,7 +122,7 @@ fn put_outcome(reply: &Outcome, out: &mut Writer)
 }
 
 /// Writes a message. There is room.
-#[tactic(auto, unfolding(crate::rpc::specs::Message::spelling))]
+#[tactic(auto, unfolding(crate::specs::Message::spelling))]
 fn put(message: &Message, out: &mut Writer)
     requires { spelling_len message.now ≤ out.old.spare }
     ensures written { out.new.bytes ≡ out.old.bytes ++ spelling message.now null null }
@@ -157,7 +157,7 @@ pub fn begin_call(head: &Head, out: &mut Writer) -> Result<(), NoMemory>
 
 /// Begins a reply with results behind what `out` holds: whatever is written behind it are its results, which so are copied
 /// once. Memory is wanted only where `out` has too little room.
-#[tactic(auto, unfolding(crate::rpc::specs::Message::spelling, crate::rpc::specs::Message::outcome))]
+#[tactic(auto, unfolding(crate::specs::Message::spelling, crate::specs::Message::outcome))]
 pub fn begin_reply(xid: u32, out: &mut Writer) -> Result<(), NoMemory>
     ensures written { OnOk result ((results : List ℕ)
         → out.new.bytes ++ results ≡ out.old.bytes ++ spelling (reply_with xid results) null null) }

@@ -117,7 +117,7 @@ impl Recovering {
     }
 
     /// A write was heard now: the recovery goes on for the write slack at least.
-    #[tactic(auto, unfolding(crate::requests::specs::Recovery::after_write))]
+    #[tactic(auto, unfolding(crate::specs::Recovery::after_write))]
     pub fn wrote(&mut self, now: Ticks)
         requires { now < 2 ^ 62 }
         ensures { self.new ≡ after_write self.old now }

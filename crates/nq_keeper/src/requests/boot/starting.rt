@@ -88,7 +88,7 @@ fn after_boot(heads: &Heads, longest: u32) -> Heads
 }
 
 /// How a boot begins, by the numbers that were kept before it.
-#[tactic(auto, unfolding(crate::requests::specs::Booting::recovery_of))]
+#[tactic(auto, unfolding(crate::specs::Booting::recovery_of))]
 fn begun(heads: &Heads, longest: u32, now: Ticks) -> Started
     requires boot { heads.now.boot < last_boot }
     requires longest { IsTerm longest }

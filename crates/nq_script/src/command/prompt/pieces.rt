@@ -15,7 +15,7 @@ use std::alloc::Global;
 pub const MOST_BYTES: usize = 4_190_208;
 
 /// In how many blocks a file of so many bytes is put.
-#[tactic(auto, unfolding(crate::command::specs::Pieces::blocks_for, crate::command::specs::Pieces::most_bytes))]
+#[tactic(auto, unfolding(crate::specs::Pieces::blocks_for, crate::specs::Pieces::most_bytes))]
 pub fn blocks_for(length: usize) -> u32
     requires { length ≤ most_bytes }
     ensures { result ≡ blocks_for length }
@@ -64,7 +64,7 @@ pub fn length_in(first: &Block, blocks: u32) -> Option<usize>
 }
 
 /// How many bytes a first block tells.
-#[tactic(auto, unfolding(crate::command::specs::Pieces::length_in))]
+#[tactic(auto, unfolding(crate::specs::Pieces::length_in))]
 fn length_read(first: &Block, blocks: u32) -> Option<usize>
     ensures { result ≡ length_in first.now blocks }
 {
@@ -101,7 +101,7 @@ fn fills_mark(value: u32) -> bool
 }
 
 /// The length that a number tells, where there are the blocks for it.
-#[tactic(auto, unfolding(crate::command::specs::Pieces::length_told, crate::command::specs::Pieces::blocks_for, crate::command::specs::Pieces::most_bytes))]
+#[tactic(auto, unfolding(crate::specs::Pieces::length_told, crate::specs::Pieces::blocks_for, crate::specs::Pieces::most_bytes))]
 fn length_told(value: u32, blocks: u32) -> Option<usize>
     ensures { result ≡ length_told value blocks }
 {
@@ -114,7 +114,7 @@ fn length_told(value: u32, blocks: u32) -> Option<usize>
 }
 
 /// The block with the bytes of a file from a place on, with zeros behind the last. The first piece has place 0.
-#[tactic(auto, unfolding(crate::command::specs::Pieces::piece_of))]
+#[tactic(auto, unfolding(crate::specs::Pieces::piece_of))]
 pub fn piece(alloc: Global, bytes: &[u8], place: usize) -> Result<Block, NoMemory>
     requires { 4096 * place < length bytes.now }
     ensures { IfOk result (λ block. block ≡ piece_of place bytes.now) }
