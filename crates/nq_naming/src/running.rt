@@ -179,7 +179,7 @@ fn tell<L: Keeper, K: Sink>(
             let Ok(text) = schedule_text(alloc, head, world.ran()) else {
                 return Ending::Memory;
             };
-            print_parts(alloc, &text, world.journal(), found, out)
+            print_parts(alloc, 2, &text, world.journal(), found, out)
         }
         Played::Stopped { line, answer } => tell_stop(alloc, line, answer, out),
     }
