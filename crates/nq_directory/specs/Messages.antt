@@ -3,7 +3,7 @@ use Rattle.std.specs.Prelude.{ℕ, Bool, ◌^◌, ◌<◌, ◌≤◌, List, [], 
 use Rattle.nq_base.specs.Name.{IsName}
 use Rattle.nq_base.specs.declared.Grant.{Grant}
 use Rattle.nq_datagrams.specs.Messages.{program, version}
-use Rattle.nq_xdr.specs.declared.rpc.Head.{Head}
+use Rattle.nq_xdr.specs.declared.rpc.message.Head.{Head}
 use Rattle.nq_xdr.specs.Message.{spelling, call_with, reply_with, null}
 use Rattle.nq_wire.specs.Parts.{head, tag_bytes, grant_bytes, optional, IsWho, IsTag, IsGrant}
 use Rattle.nq_xdr.specs.Item.{word, boolean, opaque}

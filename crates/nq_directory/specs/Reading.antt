@@ -1,12 +1,12 @@
 -- What any bytes are as a message of leased directories: the message, or none.
 use Rattle.std.specs.Prelude.{ℕ, ◌==◌, ◌&&◌, List, [], ◌∷◌, ◌++◌, length, Option, Some, None, Result, Ok, Err, nat_lt, if◌then◌else◌, zero, suc}
 use Rattle.nq_datagrams.specs.Messages.{program, version, rpc_version}
-use Rattle.nq_xdr.specs.declared.rpc.CallMessage.{CallMessage}
-use Rattle.nq_xdr.specs.declared.rpc.Message.{Message as Said}
-use Rattle.nq_xdr.specs.declared.rpc.Message.TheVariants as said
-use Rattle.nq_xdr.specs.declared.rpc.Outcome.{Outcome}
-use Rattle.nq_xdr.specs.declared.rpc.Outcome.TheVariants as outcome
-use Rattle.nq_xdr.specs.declared.rpc.RpcFault.{RpcFault}
+use Rattle.nq_xdr.specs.declared.rpc.message.CallMessage.{CallMessage}
+use Rattle.nq_xdr.specs.declared.rpc.message.Message.{Message as Said}
+use Rattle.nq_xdr.specs.declared.rpc.message.Message.TheVariants as said
+use Rattle.nq_xdr.specs.declared.rpc.message.Outcome.{Outcome}
+use Rattle.nq_xdr.specs.declared.rpc.message.Outcome.TheVariants as outcome
+use Rattle.nq_xdr.specs.declared.rpc.fault.RpcFault.{RpcFault}
 use Rattle.nq_xdr.specs.RpcReading.{message_at}
 use Rattle.nq_wire.specs.declared.Garbage.{Garbage}
 use Rattle.nq_wire.specs.Garbage.{garbage}

@@ -7,7 +7,7 @@ use Rattle.nq_model.specs.Kept.{File, find_name}
 use Rattle.nq_model.specs.Skew.{IsWithinSkew}
 use Rattle.nq_model.specs.Stepped.{most_events}
 use Rattle.nq_model.specs.World.{Head, World, run}
-use Rattle.nq_directory.specs.declared.name_cache.Found.{Found}
+use Rattle.nq_directory.specs.declared.name_cache.found.Found.{Found}
 use Rattle.nq_name_server.specs.declared.run.event.NameEvent.{NameEvent}
 use Rattle.nq_name_server.specs.Outer.{Outer, Outside}
 use Rattle.nq_name_server.specs.Outside.{found, outside_run, outside_step}

@@ -9,8 +9,8 @@ use Rattle.nq_base.specs.declared.Tag.{Tag}
 use Rattle.nq_base.specs.declared.Who.{Who}
 use Rattle.nq_directory.specs.declared.FileName.{FileName}
 use Rattle.nq_directory.specs.Prefix.{directory}
-use Rattle.nq_directory.specs.declared.listing.DirTag.{DirTag}
-use Rattle.nq_directory.specs.declared.listing.ReadDir.{ReadDir}
+use Rattle.nq_directory.specs.declared.listing.messages.DirTag.{DirTag}
+use Rattle.nq_directory.specs.declared.listing.messages.ReadDir.{ReadDir}
 use Rattle.nq_directory.specs.Messages.{Answer, Listing, page, most_names}
 use Rattle.nq_directory.specs.Reading.{read_dir_in, dir_vacated_in, dir_evicted_in, told_in}
 use Rattle.nq_model.specs.Client.{Lease}

@@ -10,8 +10,8 @@ use Rattle.nq_datagrams.specs.Incoming.{datagram_in}
 use Rattle.nq_datagrams.specs.Messages.{bytes_of}
 use Rattle.nq_directory.specs.Prefix.{directory}
 use Rattle.nq_directory.proofs.Again.{answers-are-read, evicted-are-read, read-dirs-are-read, vacated-are-read}
-use Rattle.nq_directory.specs.declared.listing.DirTag.{DirTag}
-use Rattle.nq_directory.specs.declared.listing.ReadDir.{ReadDir}
+use Rattle.nq_directory.specs.declared.listing.messages.DirTag.{DirTag}
+use Rattle.nq_directory.specs.declared.listing.messages.ReadDir.{ReadDir}
 use Rattle.nq_directory.specs.Messages.{Answer, IsAnswer, IsDirTag, IsReadDir, answer_bytes, dir_evicted, dir_evicted_bytes, dir_tag_arguments, dir_vacated, dir_vacated_bytes, front_bytes, head_of, page, read_dir, read_dir_arguments, read_dir_bytes, results, wait}
 use Rattle.nq_directory.specs.Reading.{call_as, call_by, call_in, dir_evicted_in, dir_tag_by, dir_vacated_in, read_dir_by, read_dir_in, results_by, results_in, results_of, told_at, told_by, told_for, told_in}
 use Rattle.nq_model.specs.Kept.{File, Kept, find_file}

@@ -5,7 +5,7 @@ use Rattle.nq_model.specs.Client.{Client}
 use Rattle.nq_model.specs.Kept.{Kept, find_name}
 use Rattle.nq_model.specs.World.{Head, World, run}
 use Rattle.nq_directory.specs.NameCacheNames.{Names}
-use Rattle.nq_directory.specs.declared.name_cache.Found.{Found}
+use Rattle.nq_directory.specs.declared.name_cache.found.Found.{Found}
 use Rattle.nq_name_server.specs.declared.run.event.NameEvent.{NameEvent}
 use Rattle.nq_name_server.specs.Outside.{found, found_by, outside_run}
 use Rattle.nq_name_server.specs.Theorem.{kept_as}

@@ -8,8 +8,8 @@ use Rattle.nq_base.specs.declared.Grant.{Grant}
 use Rattle.nq_base.specs.declared.Party.{Party}
 use Rattle.nq_directory.specs.declared.FileName.{FileName}
 use Rattle.nq_directory.specs.Prefix.{directory}
-use Rattle.nq_directory.specs.declared.listing.DirTag.{DirTag}
-use Rattle.nq_directory.specs.declared.listing.ReadDir.{ReadDir}
+use Rattle.nq_directory.specs.declared.listing.messages.DirTag.{DirTag}
+use Rattle.nq_directory.specs.declared.listing.messages.ReadDir.{ReadDir}
 use Rattle.nq_directory.specs.Messages.{Answer, IsEntry, Listing, page, wait, dir_vacated_bytes}
 use Rattle.nq_wire.specs.Parts.{IsTag}
 use Rattle.nq_directory.specs.Reading.{dir_evicted_in, dir_vacated_in, read_dir_in, told_in}

@@ -7,8 +7,8 @@ use Rattle.nq_base.specs.declared.Party.{Party}
 use Rattle.nq_directory.specs.Names.{named}
 use Rattle.nq_directory.specs.Prefix.{directory}
 use Rattle.nq_directory.proofs.Called.{same-name}
-use Rattle.nq_directory.specs.declared.listing.DirTag.{DirTag}
-use Rattle.nq_directory.specs.declared.listing.ReadDir.{ReadDir}
+use Rattle.nq_directory.specs.declared.listing.messages.DirTag.{DirTag}
+use Rattle.nq_directory.specs.declared.listing.messages.ReadDir.{ReadDir}
 use Rattle.nq_directory.specs.Messages.{Answer, IsReadDir, answer_bytes, dir_evicted_bytes, dir_vacated_bytes, read_dir_bytes}
 use Rattle.nq_model.proofs.Finding.{find-passes}
 use Rattle.nq_model.specs.Client.{Client, Lease, UnderWay, is_live}
@@ -19,7 +19,7 @@ use Rattle.nq_model.specs.Profile.{same_bytes}
 use Rattle.nq_model.specs.Server.{Phase, serving, recovering}
 use Rattle.nq_model.specs.World.{World}
 use Rattle.nq_client_parts.specs.HoldingLeases.{passes}
-use Rattle.nq_directory.specs.declared.name_cache.Found.{Found}
+use Rattle.nq_directory.specs.declared.name_cache.found.Found.{Found}
 use Rattle.nq_directory.specs.NameCacheNames.{DirList, Names, Request, first_number, found_as, found_in, list_of}
 use Rattle.nq_name_server.specs.Served.{Served}
 use Rattle.nq_name_server.specs.Lasting.{IsCovered, IsLive, Lasts, id_of}

@@ -12,8 +12,8 @@ use Rattle.nq_base.specs.declared.Who.{Who}
 use Rattle.nq_datagrams.specs.Incoming.{datagram_in}
 use Rattle.nq_datagrams.specs.Messages.{bytes_of}
 use Rattle.nq_directory.specs.Prefix.{IsPrefix, directory}
-use Rattle.nq_directory.specs.declared.listing.DirTag.{DirTag}
-use Rattle.nq_directory.specs.declared.listing.ReadDir.{ReadDir}
+use Rattle.nq_directory.specs.declared.listing.messages.DirTag.{DirTag}
+use Rattle.nq_directory.specs.declared.listing.messages.ReadDir.{ReadDir}
 use Rattle.nq_directory.specs.Messages.{IsReadDir}
 use Rattle.nq_directory.specs.Reading.{dir_vacated_in, read_dir_in}
 use Rattle.walk_steps.specs.Within.{CarriesText}

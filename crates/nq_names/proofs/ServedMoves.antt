@@ -9,7 +9,7 @@ use Rattle.nq_base.specs.declared.Question.{Question}
 use Rattle.nq_base.specs.declared.Row.{Row}
 use Rattle.nq_base.specs.declared.Tag.{Tag}
 use Rattle.nq_base.specs.declared.Who.{Who}
-use Rattle.nq_directory.specs.declared.listing.DirTag.{DirTag}
+use Rattle.nq_directory.specs.declared.listing.messages.DirTag.{DirTag}
 use Rattle.nq_model.specs.Ask.{ask, conflicts, free}
 use Rattle.nq_model.specs.Kept.{File}
 use Rattle.nq_model.specs.Profile.{xid_end}

@@ -2,7 +2,7 @@
 use Rattle.std.specs.Prelude.{◌≡◌, ℕ, List}
 use Rattle.nq_model.specs.Client.{Client, Lease}
 use Rattle.nq_model.specs.World.{Head}
-use Rattle.nq_directory.specs.declared.name_cache.Found.{Found}
+use Rattle.nq_directory.specs.declared.name_cache.found.Found.{Found}
 use Rattle.nq_directory.specs.NameCacheNames.{DirList, Names}
 use Rattle.nq_name_server.specs.declared.run.event.NameEvent.{NameEvent}
 use Rattle.nq_name_server.specs.Lasting.{IsLive}

@@ -5,7 +5,7 @@ ghost use Rattle.nq_base.specs.Plain.{plain};
 ghost use Rattle.nq_model.specs.Kept.{Kept, find_name};
 ghost use Rattle.nq_model.specs.World.{Head};
 ghost use Rattle.nq_directory.specs.NameCacheNames.{new_names};
-ghost use Rattle.nq_directory.specs.declared.name_cache.Found.{Found};
+ghost use Rattle.nq_directory.specs.declared.name_cache.found.Found.{Found};
 ghost use Rattle.nq_name_server.specs.Served.{new_served};
 ghost use Rattle.nq_names.specs.Playing.{CanComeOutside, IsReady, PlaysOutside, StepsOutside};
 ghost use Rattle.nq_name_server.specs.Around.{datagram_of, new_around};

@@ -2,7 +2,7 @@
 
 ghost use Rattle.std.specs.Prelude.{◌≡◌, ◌+◌, ℕ, List, Some, false, true, length, map};
 ghost use Rattle.nq_script.specs.Commands.{IsCheck, IsFormat, IsNames, IsReplay, IsStaged, command_of};
-ghost use Rattle.nq_script.specs.declared.command.Command.{Command};
+ghost use Rattle.nq_script.specs.declared.command.commands.Command.{Command};
 ghost use Rattle.nq_run.specs.Commands.{Does, NeverSays, SaysNothing};
 ghost use Rattle.nq_run.specs.Running.{LoopsOn, ReplaysOn, StormsOn};
 ghost use Rattle.nq_base.specs.Status.{status_of};

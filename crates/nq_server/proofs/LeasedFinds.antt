@@ -10,7 +10,7 @@ use Rattle.nq_base.specs.declared.Reply.{Reply as Answer}
 use Rattle.nq_base.specs.declared.Want.{Want}
 use Rattle.nq_base.specs.declared.Who.{Who}
 use Rattle.nq_keeper.specs.Reading.{read_in, read_out}
-use Rattle.nq_keeper.specs.declared.requests.ReadOut.{ReadOut}
+use Rattle.nq_keeper.specs.declared.requests.reading.ReadOut.{ReadOut}
 use Rattle.nq_model.specs.Ask.{ask}
 use Rattle.nq_model.specs.Change.{row_of, row_of_found}
 use Rattle.nq_model.specs.Kept.{File, Kept}

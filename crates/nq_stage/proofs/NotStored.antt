@@ -3,10 +3,10 @@ use Rattle.std.proofs.Common.{◌≡◌, ℕ, ◌==◌, ◌&&◌, Bool, true, fa
 use Rattle.std.specs.Prelude.{slice_get}
 use Rattle.nq_base.specs.declared.Party.{Party}
 use Rattle.nq_stage.specs.Answering.{Answer, write, unstaged, own_stage, own_commit, stage_if_own, commit_if_own, answered}
-use Rattle.nq_xdr.specs.declared.rpc.CallMessage.{CallMessage}
-use Rattle.nq_xdr.specs.declared.rpc.Message.{Message as Said}
-use Rattle.nq_xdr.specs.declared.rpc.Message.TheVariants as said
-use Rattle.nq_xdr.specs.declared.rpc.RpcFault.{RpcFault}
+use Rattle.nq_xdr.specs.declared.rpc.message.CallMessage.{CallMessage}
+use Rattle.nq_xdr.specs.declared.rpc.message.Message.{Message as Said}
+use Rattle.nq_xdr.specs.declared.rpc.message.Message.TheVariants as said
+use Rattle.nq_xdr.specs.declared.rpc.fault.RpcFault.{RpcFault}
 use Rattle.nq_xdr.specs.RpcReading.{message_at}
 use Rattle.nq_stage.specs.declared.Commit.{Commit}
 use Rattle.nq_stage.specs.Messages.{commit, stage}

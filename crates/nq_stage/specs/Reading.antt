@@ -2,12 +2,12 @@
 use Rattle.std.specs.Prelude.{ℕ, Bool, false, ◌==◌, ◌&&◌, List, length, Option, Some, None, Result, Ok, Err, if◌then◌else◌}
 use Rattle.nq_base.specs.declared.PushBase.{PushBase}
 use Rattle.nq_datagrams.specs.Messages.{program, version, rpc_version}
-use Rattle.nq_xdr.specs.declared.rpc.CallMessage.{CallMessage}
-use Rattle.nq_xdr.specs.declared.rpc.Message.{Message as Said}
-use Rattle.nq_xdr.specs.declared.rpc.Message.TheVariants as said
-use Rattle.nq_xdr.specs.declared.rpc.Outcome.{Outcome}
-use Rattle.nq_xdr.specs.declared.rpc.Outcome.TheVariants as outcome
-use Rattle.nq_xdr.specs.declared.rpc.RpcFault.{RpcFault}
+use Rattle.nq_xdr.specs.declared.rpc.message.CallMessage.{CallMessage}
+use Rattle.nq_xdr.specs.declared.rpc.message.Message.{Message as Said}
+use Rattle.nq_xdr.specs.declared.rpc.message.Message.TheVariants as said
+use Rattle.nq_xdr.specs.declared.rpc.message.Outcome.{Outcome}
+use Rattle.nq_xdr.specs.declared.rpc.message.Outcome.TheVariants as outcome
+use Rattle.nq_xdr.specs.declared.rpc.fault.RpcFault.{RpcFault}
 use Rattle.nq_xdr.specs.RpcReading.{message_at}
 use Rattle.nq_xdr.specs.declared.XdrFault.{XdrFault}
 use Rattle.nq_xdr.specs.declared.XdrFault.TheVariants.{Short, Bool as NoBoolean, Trailing}

@@ -13,7 +13,7 @@ use Rattle.nq_image.specs.Held.{HeldTables}
 use Rattle.nq_image.specs.Placing.{IsPlacedFor}
 use Rattle.nq_image.specs.Ranges.{ranges_of}
 use Rattle.nq_image.specs.Settling.{settled}
-use Rattle.nq_image.specs.declared.plan.Placed.{Placed}
+use Rattle.nq_image.specs.declared.plan.placing.Placed.{Placed}
 use Rattle.nq_disk.specs.Batch.{IsFit}
 use Rattle.nq_disk.specs.Ranges.{Range}
 use Rattle.nq_disk.specs.Saying.{Each}

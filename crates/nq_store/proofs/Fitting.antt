@@ -34,7 +34,7 @@ use Rattle.nq_image.specs.Finding.{blocks_of, file_in, has_id, row_of, slot_of}
 use Rattle.nq_image.specs.Held.{HeldTables, IsHeldOf}
 use Rattle.nq_image.specs.Placing.{IsPlaced, IsPlacedFor, free_blocks}
 use Rattle.nq_image.specs.Ranges.{blocks_then, body_range, body_ranges, file_ranges, heads_ranges, host_ranges, id_range, placed_ranges, range, ranges_of, removal_ranges, removed_ranges, row_range, table_range, whole_ranges}
-use Rattle.nq_image.specs.declared.plan.Placed.{Placed}
+use Rattle.nq_image.specs.declared.plan.placing.Placed.{Placed}
 use Rattle.nq_disk.specs.Batch.{AreAllowed, IsFit, body_of, spelled}
 use Rattle.nq_disk.specs.Ranges.{Range}
 use Rattle.nq_disk.specs.Record.{is_misplaced}

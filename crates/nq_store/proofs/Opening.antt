@@ -23,7 +23,7 @@ use Rattle.nq_model.specs.Kept.{Kept}
 use Rattle.nq_image.specs.Held.{HeldTables, IsHeldOf}
 use Rattle.nq_image.specs.Ranges.{ranges_of}
 use Rattle.nq_image.specs.Settling.{settled}
-use Rattle.nq_image.specs.declared.plan.Placed.{Placed}
+use Rattle.nq_image.specs.declared.plan.placing.Placed.{Placed}
 use Rattle.nq_disk.specs.Ranges.{applied}
 use Rattle.nq_disk.specs.Record.{blanked}
 use Rattle.nq_disk.specs.Whole.{IsClosed, after, found}

@@ -26,7 +26,7 @@ use Rattle.nq_image.specs.Held.{HeldTables, IsHeldOf}
 use Rattle.nq_image.specs.Placing.{IsPlacedFor}
 use Rattle.nq_image.specs.Ranges.{blocks_then, body_ranges, heads_ranges, host_ranges, placed_ranges, ranges_of, removal_ranges, removed_ranges}
 use Rattle.nq_image.specs.Settling.{marked_all, settled, with_file_at, with_file_if, with_rows, without, without_at, without_slot}
-use Rattle.nq_image.specs.declared.plan.Placed.{Placed}
+use Rattle.nq_image.specs.declared.plan.placing.Placed.{Placed}
 use Rattle.nq_disk.specs.Ranges.{applied}
 use Rattle.nq_store.specs.Changing.{CanBeWritten, HasZeros, IsWritten, new_blocks}
 use Rattle.nq_store.proofs.BlockStep.{IsBlockEnd, IsOf, IsRemovalEnd, block-end, of-known, of-other, of-placed, removal-end}

@@ -10,7 +10,7 @@ use Rattle.nq_model.specs.Change.{Fits, IsChangeWithin, applied}
 use Rattle.nq_image.specs.Held.{HeldTables, IsHeldOf}
 use Rattle.nq_image.specs.Placing.{IsPlacedFor}
 use Rattle.nq_image.specs.Settling.{settled}
-use Rattle.nq_image.specs.declared.plan.Placed.{Placed}
+use Rattle.nq_image.specs.declared.plan.placing.Placed.{Placed}
 
 -- the blocks that a file gets by a change
 abbrev pub new_blocks : Option Placed → List ℕ

@@ -2,7 +2,7 @@
 
 ghost use Rattle.std.specs.Prelude.{◌≡◌, ◌+◌, ℕ, Some, IfOk, vec_len};
 ghost use Rattle.nq_script.specs.Commands.{command_of};
-ghost use Rattle.nq_script.specs.declared.command.Command.{Command};
+ghost use Rattle.nq_script.specs.declared.command.commands.Command.{Command};
 
 use nq_base::{Host, Party, Ticks};
 use nq_clock::MemClock;

@@ -2,7 +2,7 @@
 
 ghost use Rattle.std.specs.Prelude.{◌≡◌, ◌+◌, ℕ, List, Some, true, length};
 ghost use Rattle.nq_script.specs.Commands.{command_of};
-ghost use Rattle.nq_script.specs.declared.command.Command.{Command};
+ghost use Rattle.nq_script.specs.declared.command.commands.Command.{Command};
 ghost use Rattle.nq_run.specs.Frames.{makes_a_run};
 
 use nq_clock::Clock;

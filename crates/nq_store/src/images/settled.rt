@@ -7,7 +7,7 @@ ghost use Rattle.nq_image.specs.Standing.{Standing, Stands, kept_at};
 ghost use Rattle.nq_model.specs.Change.{applied};
 ghost use Rattle.nq_image.specs.Held.{HeldTables};
 ghost use Rattle.nq_image.specs.Ranges.{ranges_of};
-ghost use Rattle.nq_image.specs.declared.plan.Placed.{Placed};
+ghost use Rattle.nq_image.specs.declared.plan.placing.Placed.{Placed};
 ghost use Rattle.nq_disk.specs.Whole.{IsClosed, after, found};
 ghost use Rattle.nq_store.specs.Changing.{CanBeWritten, IsWritten};
 
