@@ -3,7 +3,7 @@ use Rattle.std.proofs.Common.{◌≡◌, ◌<◌, ◌≤◌, ℕ, ◌+◌, ◌^�
 use Rattle.std.proofs.lemmas.Bool.{eq-eqb}
 use Rattle.std.proofs.lemmas.List.Elements.{All-head, All-tail}
 use Rattle.std.proofs.lemmas.Bool.Decides.{nat_tests}
-use Rattle.nq_directory.specs.declared.FileName.{FileName}
+use Rattle.nq_directory.specs.declared.names.FileName.{FileName}
 use Rattle.nq_xdr.specs.Message.{spelling, call_with, reply_with, null}
 use Rattle.nq_xdr.proofs.Messages.{message_again, null_fits}
 use Rattle.nq_wire.specs.Parts.{head, tag_bytes, grant_bytes, optional}

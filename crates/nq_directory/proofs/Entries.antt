@@ -1,7 +1,7 @@
 -- The entries of a page, one after another.
 use Rattle.std.proofs.Common.{◌≡◌, ◌<◌, ◌≤◌, ℕ, ◌+◌, List, [], ◌∷◌, ◌++◌, length, Ok, Err, refl, sym, ap, ◌∙◌, arith, append_assoc, append-nil, zero, suc, drop, get_or, drop-cons}
 use Rattle.std.proofs.lemmas.List.{drop_all}
-use Rattle.nq_directory.specs.declared.FileName.{FileName}
+use Rattle.nq_directory.specs.declared.names.FileName.{FileName}
 use Rattle.nq_wire.specs.declared.Garbage.{Garbage}
 use Rattle.nq_directory.specs.Messages.{entry_bytes, entries_bytes}
 use Rattle.nq_directory.specs.Reading.{entry_at, entries_at}

@@ -1,7 +1,7 @@
 -- What a host makes of bytes, in the order of the code.
 use Rattle.std.proofs.Common.{◌≡◌, ℕ, Bool, true, false, List, Option, Some, None, refl, sym, ap, ◌∙◌}
 use Rattle.nq_base.specs.declared.Grant.{Grant}
-use Rattle.nq_directory.specs.declared.FileName.{FileName}
+use Rattle.nq_directory.specs.declared.names.FileName.{FileName}
 use Rattle.nq_directory.specs.Messages.{Answer}
 use Rattle.nq_directory.specs.Reading.{dir_evicted_in}
 use Rattle.nq_directory.specs.Asking.{Asks, answer_in, heard_as, heard_by, next_bytes, noticed, page_taken, takes_page, told}

@@ -4,7 +4,7 @@ use Rattle.nq_base.specs.declared.Grant.{Grant}
 use Rattle.nq_base.specs.declared.Mode.{Mode}
 use Rattle.nq_base.specs.declared.Mode.TheVariants.{NonCaching, Reading, Writing}
 use Rattle.nq_base.specs.declared.Tag.{Tag}
-use Rattle.nq_directory.specs.declared.FileName.{FileName}
+use Rattle.nq_directory.specs.declared.names.FileName.{FileName}
 use Rattle.nq_directory.specs.Names.{put_names}
 use Rattle.nq_directory.specs.declared.listing.messages.DirTag.{DirTag}
 use Rattle.nq_directory.specs.declared.listing.messages.ReadDir.{ReadDir}

@@ -9,7 +9,7 @@ use Rattle.nq_wire.specs.Parts.{head, tag_bytes, grant_bytes, optional, IsWho, I
 use Rattle.nq_xdr.specs.Item.{word, boolean, opaque}
 use Rattle.nq_directory.specs.Prefix.{IsPrefix}
 use Rattle.nq_directory.specs.declared.listing.messages.DirTag.{DirTag}
-use Rattle.nq_directory.specs.declared.FileName.{FileName}
+use Rattle.nq_directory.specs.declared.names.FileName.{FileName}
 use Rattle.nq_directory.specs.declared.listing.messages.ReadDir.{ReadDir}
 
 -- the number of the procedure READDIRLOOK

@@ -11,10 +11,10 @@ use Rattle.nq_image.specs.Reading.{Reads}
 use Rattle.nq_image.specs.Rows.{rows_checks, slots_of}
 use Rattle.nq_image.specs.Standing.{PlacedFile, standing_in}
 use Rattle.nq_image.specs.Tables.{held, tables_blocks, tables_checks, tables_marks}
-use Rattle.nq_image.specs.declared.Front.{Front}
-use Rattle.nq_image.specs.declared.ImageFault.{ImageFault}
-use Rattle.nq_image.specs.declared.ImageFault.TheVariants.{NotAnImage, BadField, Memory}
-use Rattle.nq_image.specs.declared.Version.{Version}
+use Rattle.nq_image.specs.declared.heads.Front.{Front}
+use Rattle.nq_image.specs.declared.fault.ImageFault.{ImageFault}
+use Rattle.nq_image.specs.declared.fault.ImageFault.TheVariants.{NotAnImage, BadField, Memory}
+use Rattle.nq_image.specs.declared.rows.Version.{Version}
 use Rattle.nq_image.proofs.Checks.{tested-value}
 use Rattle.nq_image.proofs.Pieces.{piece-of-first}
 use Rattle.nq_image.proofs.Shifting.{rows-are}

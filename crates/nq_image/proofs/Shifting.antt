@@ -11,9 +11,9 @@ use Rattle.nq_image.specs.Reading.{Reads}
 use Rattle.nq_image.specs.Rows.{blocks_of}
 use Rattle.nq_image.specs.Standing.{PlacedFile, placed_rows}
 use Rattle.nq_image.specs.Tables.{ids_checks, ids_of, is_entry, marked, slot_checks, slot_marks, slot_table, table_checks, table_of, tables_blocks, tables_checks, tables_marks}
-use Rattle.nq_image.specs.declared.ImageFault.{ImageFault}
-use Rattle.nq_image.specs.declared.ImageFault.TheVariants.{NotAnImage, BadField, Memory}
-use Rattle.nq_image.specs.declared.Slot.{Slot}
+use Rattle.nq_image.specs.declared.fault.ImageFault.{ImageFault}
+use Rattle.nq_image.specs.declared.fault.ImageFault.TheVariants.{NotAnImage, BadField, Memory}
+use Rattle.nq_image.specs.declared.rows.Slot.{Slot}
 use Rattle.nq_image.proofs.Allotting.{length-table}
 use Rattle.nq_image.proofs.Pieces.{piece-in}
 use Rattle.nq_image.proofs.Walks.{one-more}

@@ -6,10 +6,10 @@ use Rattle.nq_image.specs.Image.{FoundTwo}
 use Rattle.nq_image.specs.Layout.{block_place, piece}
 use Rattle.nq_image.specs.Rows.{blocks_of}
 use Rattle.nq_image.specs.Standing.{PlacedFile, standing_in}
-use Rattle.nq_image.specs.declared.Front.{Front}
-use Rattle.nq_image.specs.declared.ImageFault.{ImageFault}
-use Rattle.nq_image.specs.declared.ImageFault.TheVariants.{NotAnImage, BadField, Memory}
-use Rattle.nq_image.specs.declared.Slot.{Slot}
+use Rattle.nq_image.specs.declared.heads.Front.{Front}
+use Rattle.nq_image.specs.declared.fault.ImageFault.{ImageFault}
+use Rattle.nq_image.specs.declared.fault.ImageFault.TheVariants.{NotAnImage, BadField, Memory}
+use Rattle.nq_image.specs.declared.rows.Slot.{Slot}
 use Rattle.nq_image.specs.Held.{HeldTables}
 
 -- these are the numbers of an image, its first bytes up to the record, the bytes of its tables, as many as there are, and its length

@@ -16,8 +16,8 @@ use Rattle.nq_base.specs.declared.Request.{Request}
 use Rattle.nq_base.specs.declared.Verdict.{Verdict}
 use Rattle.nq_base.specs.declared.Who.{Who}
 use Rattle.nq_io.specs.Faults.{Rose}
-use Rattle.nq_keeper.specs.declared.KeepFault.{KeepFault}
-use Rattle.nq_keeper.specs.declared.KeepFault.TheVariants.{Failed, Memory}
+use Rattle.nq_keeper.specs.declared.keeper.KeepFault.{KeepFault}
+use Rattle.nq_keeper.specs.declared.keeper.KeepFault.TheVariants.{Failed, Memory}
 use Rattle.nq_keeper.specs.Keeping.{Commits, LeavesOne, LeavesTwo, StaysOrEnds, told_after}
 use Rattle.nq_model.specs.Change.{Fits, IsChangeWithin, IsWithinBounds, applied, applied_if}
 use Rattle.nq_model.specs.Decided.{HasText, attach_decided, change_with, decided, decided_before, effect_of, fresh_change, fresh_decided, if_fresh, no_effect, or_fresh, row_with}

@@ -5,7 +5,7 @@ use Rattle.nq_base.specs.declared.Change.{Change}
 use Rattle.nq_base.specs.declared.Heads.{Heads}
 use Rattle.nq_base.specs.declared.HostChange.{HostChange}
 use Rattle.nq_io.specs.Faults.{Rose}
-use Rattle.nq_keeper.specs.declared.KeepFault.{KeepFault}
+use Rattle.nq_keeper.specs.declared.keeper.KeepFault.{KeepFault}
 use Rattle.nq_keeper.specs.Keeping.{Commits, StaysOrEnds, told_after}
 use Rattle.nq_model.specs.Change.{AreHeadsWithin, IsChangeWithin, IsWithinBounds, applied, change_of_heads, heads_of, opened_heads}
 use Rattle.nq_model.specs.Kept.{Kept}

@@ -10,7 +10,7 @@ use Rattle.nq_keeper.specs.declared.requests.boot.starting.StartFault.{StartFaul
 use Rattle.nq_keeper.specs.declared.requests.boot.starting.StartFault.TheVariants.{Failed, Memory, Spent}
 use Rattle.nq_keeper.specs.declared.requests.boot.starting.Started.{Started}
 use Rattle.nq_io.specs.Faults.{Rose}
-use Rattle.nq_keeper.specs.declared.KeepFault.{KeepFault}
+use Rattle.nq_keeper.specs.declared.keeper.KeepFault.{KeepFault}
 use Rattle.nq_keeper.specs.Keeping.{StaysOrEnds}
 use Rattle.nq_model.specs.Kept.{Kept}
 use Rattle.nq_model.specs.Profile.{skew, write_slack}

@@ -8,8 +8,8 @@ use Rattle.nq_base.specs.declared.Gate.{Gate}
 use Rattle.nq_base.specs.declared.Request.{Request}
 use Rattle.nq_base.specs.declared.Who.{Who}
 use Rattle.nq_io.specs.Faults.{Rose}
-use Rattle.nq_keeper.specs.declared.KeepFault.{KeepFault}
-use Rattle.nq_keeper.specs.declared.KeepFault.TheVariants.{Failed, Memory}
+use Rattle.nq_keeper.specs.declared.keeper.KeepFault.{KeepFault}
+use Rattle.nq_keeper.specs.declared.keeper.KeepFault.TheVariants.{Failed, Memory}
 use Rattle.nq_keeper.specs.Keeping.{StaysOrEnds}
 use Rattle.nq_model.specs.Change.{applied_if}
 use Rattle.nq_model.specs.Decided.{change_with, decided, effect_of, fresh_change, sequence_decided}

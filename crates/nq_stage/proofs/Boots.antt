@@ -15,7 +15,7 @@ use Rattle.nq_stage.specs.Answering.{Answer, write, unstaged, own_stage, own_com
 use Rattle.nq_stage.specs.Bodies.{Bodies, body_of}
 use Rattle.nq_stage.specs.PoolLaws.{after, pool_after}
 use Rattle.nq_stage.proofs.Newest.{answers-with-its-boot}
-use Rattle.nq_stage.specs.declared.Commit.{Commit}
+use Rattle.nq_stage.specs.declared.messages.Commit.{Commit}
 use Rattle.nq_stage.specs.Messages.{written_of}
 use Rattle.nq_stage.specs.Reading.{Stage}
 use Rattle.nq_stage.specs.declared.run.event.StagedEvent.{StagedEvent}

@@ -5,9 +5,9 @@ use Rattle.nq_base.specs.declared.Request.{Request}
 use Rattle.nq_base.specs.declared.Who.{Who}
 use Rattle.nq_datagrams.specs.Messages.{bytes_of}
 use Rattle.nq_model.specs.Message.{call}
-use Rattle.nq_stage.specs.declared.Commit.{Commit}
-use Rattle.nq_stage.specs.declared.Pushed.{Pushed}
-use Rattle.nq_stage.specs.declared.Written.{Written}
+use Rattle.nq_stage.specs.declared.messages.Commit.{Commit}
+use Rattle.nq_stage.specs.declared.messages.Pushed.{Pushed}
+use Rattle.nq_stage.specs.declared.messages.Written.{Written}
 use Rattle.nq_xdr.specs.Message.{spelling, numbers, call_with, null}
 use Rattle.nq_xdr.proofs.Messages.{message_again, null_fits}
 use Rattle.nq_stage.specs.Messages.{commit, stage, head_of, stage_bytes, commit_bytes, pushed_bytes, written_bytes, written_of, write_of, write_bytes, IsWritten, IsFront, IsPushed}

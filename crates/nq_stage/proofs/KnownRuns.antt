@@ -18,7 +18,7 @@ use Rattle.nq_model.specs.Message.{Message, Packet, datagram_of}
 use Rattle.nq_model.specs.Server.{ServerStep}
 use Rattle.nq_model.specs.Profile.{most_hosts}
 use Rattle.nq_model.specs.World.{Head, World, from_host, after_server, after_client, at_client, after_hearing, sending_host, deliver_to_client, deliver_to, deliver, first_clients, start, step}
-use Rattle.nq_stage.specs.declared.Written.{Written}
+use Rattle.nq_stage.specs.declared.messages.Written.{Written}
 use Rattle.nq_stage.specs.Theorem.{BringsBlock, EventBrings}
 use Rattle.walk_steps.proofs.ClientMoves.{none-some}
 use Rattle.walk_steps.proofs.Packets.{In}

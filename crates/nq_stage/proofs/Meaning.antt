@@ -17,8 +17,8 @@ use Rattle.nq_model.specs.ClientStep.{restart}
 use Rattle.nq_model.specs.Journal.{Each}
 use Rattle.nq_model.specs.Message.{Message, Packet, call, reply, error}
 use Rattle.nq_model.specs.World.{World, after_server, after_client, at_client, from_host, step}
-use Rattle.nq_stage.specs.declared.Pushed.{Pushed}
-use Rattle.nq_stage.specs.declared.Written.{Written}
+use Rattle.nq_stage.specs.declared.messages.Pushed.{Pushed}
+use Rattle.nq_stage.specs.declared.messages.Written.{Written}
 use Rattle.nq_stage.specs.Messages.{stage_bytes, commit_bytes, write_bytes, written_of, IsPushed}
 use Rattle.nq_stage.specs.Reading.{push_in}
 use Rattle.nq_stage.specs.Outer.{Outer, Side, Outside}

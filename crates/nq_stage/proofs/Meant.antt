@@ -21,8 +21,8 @@ use Rattle.nq_model.specs.Stepped.{most_events}
 use Rattle.nq_model.specs.World.{Head, World, start, step}
 use Rattle.nq_stage.specs.Answering.{Answer, write, unstaged, own_stage, own_commit, stage_if_own, staged, answered}
 use Rattle.nq_stage.specs.Bodies.{others, with_body}
-use Rattle.nq_stage.specs.declared.Commit.{Commit}
-use Rattle.nq_stage.specs.declared.Written.{Written}
+use Rattle.nq_stage.specs.declared.messages.Commit.{Commit}
+use Rattle.nq_stage.specs.declared.messages.Written.{Written}
 use Rattle.nq_stage.specs.Reading.{Stage, stage_in, is_unstaged_in}
 use Rattle.nq_stage.proofs.Again.{stages-are-read}
 use Rattle.nq_stage.specs.declared.run.event.StagedEvent.{StagedEvent}

@@ -8,7 +8,7 @@ use Rattle.nq_xdr.specs.declared.rpc.message.Message.{Message as Said}
 use Rattle.nq_xdr.specs.declared.rpc.message.Message.TheVariants as said
 use Rattle.nq_xdr.specs.declared.rpc.fault.RpcFault.{RpcFault}
 use Rattle.nq_xdr.specs.RpcReading.{message_at}
-use Rattle.nq_stage.specs.declared.Commit.{Commit}
+use Rattle.nq_stage.specs.declared.messages.Commit.{Commit}
 use Rattle.nq_stage.specs.Messages.{commit, stage}
 use Rattle.nq_stage.specs.Reading.{Stage, call_as, call_by, call_in, stage_by, stage_in, commit_by, commit_in}
 use Rattle.nq_stage.specs.Outer.{Outer, Side, Outside}

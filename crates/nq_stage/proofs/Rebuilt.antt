@@ -12,9 +12,9 @@ use Rattle.nq_model.specs.Journal.{Each}
 use Rattle.nq_model.specs.World.{World, step}
 use Rattle.nq_stage.specs.Answering.{Answer, write, unstaged, own_stage, own_commit, commit_if_own, stage_if_own, answered, answered_as}
 use Rattle.nq_stage.specs.Bodies.{Bodies as Pool, body_of}
-use Rattle.nq_stage.specs.declared.Commit.{Commit}
-use Rattle.nq_stage.specs.declared.Pushed.{Pushed}
-use Rattle.nq_stage.specs.declared.Written.{Written}
+use Rattle.nq_stage.specs.declared.messages.Commit.{Commit}
+use Rattle.nq_stage.specs.declared.messages.Pushed.{Pushed}
+use Rattle.nq_stage.specs.declared.messages.Written.{Written}
 use Rattle.nq_stage.specs.Messages.{write_bytes, written_of}
 use Rattle.nq_stage.specs.Reading.{stage_in, commit_in}
 use Rattle.nq_stage.specs.Writes.{is_same}

@@ -33,9 +33,9 @@ use Rattle.nq_model.specs.Bounds.{BootsWithin}
 use Rattle.nq_model.specs.WritesAreAccounted.{WaitingAreUnsaved, IsDelayedBy, StillHas}
 use Rattle.nq_xdr.specs.Message.{auth, numbers, outcome, spelling}
 use Rattle.nq_xdr.specs.RpcReading.{behind_auth, call_at, ended, bounds_at, accepted_as, accepted_at, denied_as, denied_at, outcome_at, reply_at, message_at}
-use Rattle.nq_stage.specs.declared.Commit.{Commit}
-use Rattle.nq_stage.specs.declared.Pushed.{Pushed}
-use Rattle.nq_stage.specs.declared.Written.{Written}
+use Rattle.nq_stage.specs.declared.messages.Commit.{Commit}
+use Rattle.nq_stage.specs.declared.messages.Pushed.{Pushed}
+use Rattle.nq_stage.specs.declared.messages.Written.{Written}
 use Rattle.nq_stage.specs.Messages.{written_bytes, stage_bytes, staged_bytes, pushed_bytes, commit_bytes, unstaged_bytes, write_bytes, IsPushed}
 use Rattle.nq_stage.specs.Reading.{call_as, call_in, results_of, results_in, end_at, written_at, body_at, base_at, front_at, stage_at, commit_at, push_at, staged_at, unstaged_at, stage_in, commit_in, push_in, verifier_in, is_unstaged_in}
 use Rattle.nq_stage.proofs.Again.{commits-are-read}

@@ -11,8 +11,8 @@ use Rattle.nq_stage.specs.Answering.{answered, write, unstaged}
 use Rattle.nq_stage.specs.Bodies.{Bodies}
 use Rattle.nq_stage.specs.PoolLaws.{pool_after}
 use Rattle.nq_model.specs.WritesAreAccounted.{WaitingAreUnsaved}
-use Rattle.nq_stage.specs.declared.Commit.{Commit}
-use Rattle.nq_stage.specs.declared.Written.{Written}
+use Rattle.nq_stage.specs.declared.messages.Commit.{Commit}
+use Rattle.nq_stage.specs.declared.messages.Written.{Written}
 use Rattle.nq_stage.specs.Messages.{write_bytes}
 use Rattle.nq_stage.specs.declared.run.event.StagedEvent.{StagedEvent}
 use Rattle.nq_stage.specs.Outer.{Outer, Outside}

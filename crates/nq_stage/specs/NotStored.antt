@@ -5,7 +5,7 @@ use Rattle.nq_base.specs.declared.Party.{Party}
 use Rattle.nq_model.specs.World.{Head}
 use Rattle.nq_stage.specs.Answering.{answered, unstaged}
 use Rattle.nq_model.specs.WritesAreAccounted.{WaitingAreUnsaved}
-use Rattle.nq_stage.specs.declared.Commit.{Commit}
+use Rattle.nq_stage.specs.declared.messages.Commit.{Commit}
 use Rattle.nq_stage.specs.declared.run.event.StagedEvent.{StagedEvent}
 use Rattle.nq_stage.specs.Outer.{Outer, Outside}
 use Rattle.nq_stage.specs.Outside.{outside_step, outside_run}

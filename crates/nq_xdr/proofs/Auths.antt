@@ -2,8 +2,8 @@
 -- is passed over is spelled so.
 use Rattle.std.proofs.Common.{◌≡◌, ℕ, ◌*◌, ◌^◌, ◌<◌, ◌≤◌, cond, eqb, List, ◌++◌, length, Result, Ok, Err, refl, sym, ap, subst, ◌∙◌, append_assoc, arith, inl, inr}
 use Rattle.std.proofs.lemmas.Bool.{cond_both, eqb-true, eqb-false, ne_eqb}
-use Rattle.nq_xdr.specs.declared.XdrFault.{XdrFault}
-use Rattle.nq_xdr.specs.declared.XdrFault.TheVariants as xdr
+use Rattle.nq_xdr.specs.declared.fault.XdrFault.{XdrFault}
+use Rattle.nq_xdr.specs.declared.fault.XdrFault.TheVariants as xdr
 use Rattle.nq_xdr.specs.Item.{word, opaque}
 use Rattle.nq_xdr.specs.Fault.{IsOpaqueFault}
 use Rattle.nq_xdr.specs.Reading.{◌>>=◌, word_at, opaque_at}

@@ -2,7 +2,7 @@
 use Rattle.std.specs.Prelude.{◌≡◌, ℕ, ◌*◌, ◌^◌, ◌<◌, ◌⊎◌, List, [], ◌++◌, length}
 use Rattle.nq_xdr.specs.Item.{word}
 use Rattle.nq_xdr.specs.Fault.{BeginsWithWord, IsOpaqueFault}
-use Rattle.nq_xdr.specs.declared.XdrFault.TheVariants as xdr
+use Rattle.nq_xdr.specs.declared.fault.XdrFault.TheVariants as xdr
 use Rattle.nq_xdr.specs.declared.rpc.fault.RpcFault.{RpcFault}
 use Rattle.nq_xdr.specs.declared.rpc.fault.RpcFault.TheVariants.{Short, BadKind, BadAuth, Xdr, Memory}
 use Rattle.nq_xdr.specs.declared.rpc.message.CallMessage.{CallMessage}

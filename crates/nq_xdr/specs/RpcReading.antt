@@ -1,7 +1,7 @@
 -- Reading a message from the left: the message, or the first fault.
 use Rattle.std.specs.Prelude.{◌≡◌, ◌⊎◌, ℕ, List, length, Result, Ok, Err, ◌==◌, if◌then◌else◌, IsOk}
-use Rattle.nq_xdr.specs.declared.XdrFault.{XdrFault}
-use Rattle.nq_xdr.specs.declared.XdrFault.TheVariants as xdr
+use Rattle.nq_xdr.specs.declared.fault.XdrFault.{XdrFault}
+use Rattle.nq_xdr.specs.declared.fault.XdrFault.TheVariants as xdr
 use Rattle.nq_xdr.specs.Reading.{◌>>=◌, map_err, word_at, opaque_at}
 use Rattle.nq_xdr.specs.declared.rpc.fault.RpcFault.{RpcFault}
 use Rattle.nq_xdr.specs.declared.rpc.fault.RpcFault.TheVariants.{Short, BadKind, BadAuth, Xdr, Memory}

@@ -3,7 +3,7 @@ use Rattle.nq_image.specs.Check.{Check, tested}
 use Rattle.nq_image.specs.Layout.{block_place, piece}
 use Rattle.nq_image.specs.Reading.{Reads}
 use Rattle.nq_image.specs.Tables.{tables_blocks, tables_checks, tables_marks}
-use Rattle.nq_image.specs.declared.ImageFault.{ImageFault}
+use Rattle.nq_image.specs.declared.fault.ImageFault.{ImageFault}
 use Rattle.nq_image.proofs.Shifting.{blocks-told-later, marks-later, reads-moved, shifted}
 use Rattle.nq_image.specs.PlanReading.{IsMoved}
 use Rattle.nq_image.proofs.plan.reading.read_all_blocks.Goals as goal

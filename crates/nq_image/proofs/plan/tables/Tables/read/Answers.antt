@@ -6,8 +6,8 @@ use Rattle.nq_image.specs.Layout.{block_place}
 use Rattle.nq_image.specs.Reading.{Reads}
 use Rattle.nq_image.specs.Seen.{seen_rows}
 use Rattle.nq_image.specs.Tables.{held, tables_blocks, tables_checks, tables_marks}
-use Rattle.nq_image.specs.declared.ImageFault.TheVariants.{BadField}
-use Rattle.nq_image.specs.declared.Slot.{Slot}
+use Rattle.nq_image.specs.declared.fault.ImageFault.TheVariants.{BadField}
+use Rattle.nq_image.specs.declared.rows.Slot.{Slot}
 use Rattle.nq_image.proofs.Founding.{all-read, blocks-wrong, held-wrong, holds-on, holds-wrong, ids-wrong, rows-wrong, written-back}
 use Rattle.nq_image.specs.Held.{HeldTables}
 use Rattle.nq_image.specs.PlanReading.{rows_of}
