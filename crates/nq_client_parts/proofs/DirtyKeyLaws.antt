@@ -1,7 +1,7 @@
 -- Keys are compared by their files and blocks.
 use Rattle.std.proofs.Common.{◌≡◌, ℕ, ◌==◌, ◌&&◌, Bool, arith}
 use Rattle.std.proofs.lemmas.Bool.Decides.{nat_tests}
-use Rattle.nq_client_parts.specs.contracts.entries.KeyPartialEq.TheImpl as keys
+use Rattle.nq_client_parts.specs.contracts.dirty.entries.KeyPartialEq.TheImpl as keys
 use Rattle.nq_client_parts.specs.declared.dirty.entries.Key.{Key}
 
 flipped : (a b m n : ℕ) → ((a == b) && (m == n)) ≡ ((b == a) && (n == m))

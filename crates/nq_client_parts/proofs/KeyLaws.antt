@@ -1,7 +1,7 @@
 -- Keys are compared by their files and blocks.
 use Rattle.std.proofs.Common.{◌≡◌, ℕ, ◌==◌, ◌&&◌, arith}
 use Rattle.std.proofs.lemmas.Bool.Decides.{nat_tests}
-use Rattle.nq_client_parts.specs.contracts.entries.KeyPartialEq.TheImpl as keys
+use Rattle.nq_client_parts.specs.contracts.cache.entries.KeyPartialEq.TheImpl as keys
 use Rattle.nq_client_parts.proofs.Kept.{IsKeyEquality}
 
 flipped : (a b m n : ℕ) → ((a == b) && (m == n)) ≡ ((b == a) && (n == m))
