@@ -13,10 +13,10 @@ mod heads;
 pub mod journal;
 mod laws;
 mod lines;
+mod numbers;
 mod print;
 mod schedules;
 mod scripts;
-mod words;
 pub mod words;
 
 pub use calls::parse_call;

@@ -7,7 +7,8 @@ ghost use Rattle.nq_script.specs.declared.lines.Line.{Line};
 
 use crate::calls::call_of;
 use crate::heads::Head;
-use crate::words::{number, number_then, number32, ranged, read_told, rest_after};
+use crate::numbers::{number_then, ranged, rest_after};
+use crate::words::{number, number32, read_told};
 use nq_base::{Event, Host, Told};
 
 /// A line after the head.
