@@ -17,7 +17,7 @@ pub mod Heads
 pub mod Takings
 pub mod Ends
 pub mod Faults
-pub mod Counts
+pub mod HostsCounts
 pub mod LoopsLoops
 pub mod PrintedLoops
 pub mod Room
@@ -28,5 +28,5 @@ pub mod SomeServed
 pub mod SomeTurns
 pub mod Steps
 pub mod ToldAnswers
-pub mod Turns
+pub mod HostsTurns
 pub mod Windows

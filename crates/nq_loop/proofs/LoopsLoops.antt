@@ -25,9 +25,9 @@ use Rattle.nq_laws.proofs.Queue.{there-is}
 use Rattle.nq_loop.specs.InTime.{played}
 use Rattle.nq_loop.specs.LoopTurns.{MakesTurns}
 use Rattle.nq_loop.specs.LoopsAreAnswered.{first_moment, most_due, ticks_enough, LoopsAreAnswered}
-use Rattle.nq_loop.proofs.Counts.{begun_all, all-few, due-none}
+use Rattle.nq_loop.proofs.HostsCounts.{begun_all, all-few, due-none}
 use Rattle.nq_loop.proofs.Steps.{in-parts}
-use Rattle.nq_loop.proofs.Turns.{Since, Before, Calling, Behind, Given, rounds-keep, calls-keep, receives-keep}
+use Rattle.nq_loop.proofs.HostsTurns.{Since, Before, Calling, Behind, Given, rounds-keep, calls-keep, receives-keep}
 use Rattle.nq_loop.proofs.Windows.{lawful-now, none-open-now}
 
 all-below : (count : ℕ) (test : ℕ → Bool) → ((h : ℕ) → h < count → test h ≡ true) → all_below count test ≡ true

@@ -22,7 +22,7 @@ use Rattle.walk_steps.proofs.Tests.{is-below, is-not-below}
 use Rattle.nq_loop.specs.InTime.{played, comes_in_time, all_in_time}
 use Rattle.nq_loop.specs.LoopsAreAnswered.{most_due}
 use Rattle.nq_loop.specs.LoopTurns.{MakesTurn}
-use Rattle.nq_loop.proofs.Counts.{due-some}
+use Rattle.nq_loop.proofs.HostsCounts.{due-some}
 use Rattle.nq_loop.proofs.Steps.{in-parts, below-keeps}
 
 -- ---- room

@@ -12,7 +12,7 @@ ghost use Rattle.nq_script.specs.Reading.{file_of};
 ghost use Rattle.nq_script.specs.Text.{text_of};
 
 use crate::faults::ScriptFault;
-use crate::numbers::{ranged, rest_after};
+use crate::fields::{ranged, rest_after};
 use crate::words::cut;
 use nq_base::{FileList, Name};
 use std::alloc::Global;

@@ -9,11 +9,11 @@
 mod calls;
 pub mod command;
 mod faults;
+mod fields;
 mod heads;
 pub mod journal;
 mod laws;
 mod lines;
-mod numbers;
 mod print;
 mod schedules;
 mod scripts;

@@ -27,7 +27,7 @@ use Rattle.nq_image.specs.declared.plan.placing.Placed.{Placed}
 use Rattle.nq_disk.specs.Ranges.{applied}
 use Rattle.nq_store.proofs.Files.{HasId, each-file, found-at, known-file, none-at, position-none, position-some, row-has-not, unknown-files}
 use Rattle.nq_store.proofs.Filing.{of-row}
-use Rattle.nq_store.proofs.Writing.{cleared-ranges, written-over}
+use Rattle.nq_store.proofs.ImagesWriting.{cleared-ranges, written-over}
 
 -- ---- the body of a block
 

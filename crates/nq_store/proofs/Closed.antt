@@ -23,7 +23,7 @@ use Rattle.nq_image.specs.PlanReading.{ArePartsOf, HoldsIn, held_in}
 use Rattle.nq_disk.specs.Whole.{found}
 use Rattle.nq_disk.proofs.Opening.{blanked-outside, length-blanked, opened-closed}
 use Rattle.nq_store.specs.Reading.{IsClosedImage, ReadsImage}
-use Rattle.nq_store.proofs.Opening.{blank, unblank-agrees}
+use Rattle.nq_store.proofs.ImagesOpening.{blank, unblank-agrees}
 
 -- ---- what is read is held
 

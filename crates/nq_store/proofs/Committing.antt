@@ -23,7 +23,7 @@ use Rattle.nq_store.specs.Storing.{IsKeptOn, IsReady, LeavesKept, OpensWhole, ke
 use Rattle.nq_image.proofs.Agreeing.{agree-kept, agree-stands}
 use Rattle.nq_store.proofs.Fitting.{change-fits}
 use Rattle.nq_store.proofs.ImagesZeroing.{all-zeros, zeroed-agrees}
-use Rattle.nq_store.proofs.Opening.{change-settled, change-stands, closed-stands}
+use Rattle.nq_store.proofs.ImagesOpening.{change-settled, change-stands, closed-stands}
 use Rattle.nq_store.proofs.Seats.{new-are-free}
 use Rattle.nq_store.proofs.Keeping.{held-kept, known, stands-kept}
 

@@ -28,7 +28,7 @@ use Rattle.nq_store.specs.Changing.{HasZeros, new_blocks}
 use Rattle.nq_store.proofs.Files.{HasId, each-row, found-at, known-file, name-of, none-at, position-some, unknown-files, unnamed-files}
 use Rattle.nq_store.proofs.Filing.{AreOwn, IsFiled, IsRight, IsSeated, can-stand, has-bodies, new-filed, row-filed, same-filed}
 use Rattle.nq_store.proofs.Seats.{AreNew, IsNew, free-are-new, new-blocks-are}
-use Rattle.nq_store.proofs.Writing.{file-ranges, written-over}
+use Rattle.nq_store.proofs.ImagesWriting.{file-ranges, written-over}
 
 -- what is known of a file that is new
 pub record IsNewRow (bytes : List ℕ) (s : Standing) (row : FileRow) : Type 0 where

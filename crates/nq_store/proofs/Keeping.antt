@@ -15,7 +15,7 @@ use Rattle.nq_image.specs.Held.{HeldTables, IsHeldOf}
 use Rattle.nq_store.specs.Laws.{tells-bytes}
 use Rattle.nq_store.specs.Storing.{IsKeptOn, IsSound, LeavesKept, answered, content_while, counted, if_within, kept_of, kept_on}
 use Rattle.nq_image.proofs.Owning.{rows-of, standing-apart}
-use Rattle.nq_store.proofs.Opening.{closed-stands}
+use Rattle.nq_store.proofs.ImagesOpening.{closed-stands}
 use Rattle.nq_store.proofs.Rows.{AreApartRows, rows-apart}
 
 -- ---- what bytes stand for

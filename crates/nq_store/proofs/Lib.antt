@@ -29,12 +29,12 @@ pub mod ImagesZeroing
 pub mod Files
 pub mod Seats
 pub mod Filing
-pub mod Writing
+pub mod ImagesWriting
 pub mod Steps
 pub mod FileStep
 pub mod BlockStep
 pub mod Marks
 pub mod Whole
-pub mod Opening
+pub mod ImagesOpening
 pub mod Fitting
 pub mod Closed

@@ -19,7 +19,7 @@ use Rattle.nq_image.proofs.Sizes.{length-heads, length-host}
 use Rattle.nq_image.specs.Ranges.{heads_ranges, host_ranges}
 use Rattle.nq_disk.specs.Ranges.{applied}
 use Rattle.nq_store.specs.Changing.{HasZeros}
-use Rattle.nq_store.proofs.Writing.{written-over, zeros-behind}
+use Rattle.nq_store.proofs.ImagesWriting.{written-over, zeros-behind}
 
 -- new bytes in which other things stand, for another kept state. The blocks that a file gets have their zeros still
 pub record IsStep (old new fresh : List ℕ) (t : Standing) (k : Kept) : Type 0 where

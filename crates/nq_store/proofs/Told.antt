@@ -32,7 +32,7 @@ use Rattle.nq_disk.proofs.Front.{front-stays}
 use Rattle.nq_disk.proofs.Opening.{blanked-outside, opened-closed}
 use Rattle.nq_store.specs.Reading.{IsClosedImage, ReadsImage}
 use Rattle.nq_store.proofs.Closed.{blanked_bytes, front-wrong, no-version, read-so, same-parts}
-use Rattle.nq_store.proofs.Opening.{blank}
+use Rattle.nq_store.proofs.ImagesOpening.{blank}
 use Rattle.nq_store.specs.Loading.{AreFrontOf, Gives, IsHeadOf, IsShut, IsShutAs, Loads, OpensTables, is_name}
 use Rattle.nq_store.specs.Migrating.{IsMigrated, IsOld, Migrates}
 use Rattle.nq_store.specs.Opening.{IsSettledOf, SaysWrong, open_fault}

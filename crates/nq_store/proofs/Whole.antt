@@ -36,7 +36,7 @@ use Rattle.nq_store.proofs.Filing.{blocks-here, blocks-with}
 use Rattle.nq_store.proofs.Marks.{marks-then}
 use Rattle.nq_store.proofs.Seats.{below-of, once-of}
 use Rattle.nq_store.proofs.Steps.{IsStep, heads-step, host-step}
-use Rattle.nq_store.proofs.Writing.{applied-both}
+use Rattle.nq_store.proofs.ImagesWriting.{applied-both}
 
 -- ---- ids are below the next one
 

@@ -1,4 +1,4 @@
-use Rattle.nq_store.proofs.Opening.{closed-stands}
+use Rattle.nq_store.proofs.ImagesOpening.{closed-stands}
 use Rattle.nq_store.proofs.images.settled.a_closed_image_opens_as_it_stands.Goals as goal
 
 pub returns : goal.returns

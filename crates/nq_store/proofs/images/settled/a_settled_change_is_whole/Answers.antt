@@ -1,4 +1,4 @@
-use Rattle.nq_store.proofs.Opening.{change-settled, change-stands}
+use Rattle.nq_store.proofs.ImagesOpening.{change-settled, change-stands}
 use Rattle.nq_store.proofs.images.settled.a_settled_change_is_whole.Goals as goal
 
 pub returns-clause-written : goal.returns-clause-written

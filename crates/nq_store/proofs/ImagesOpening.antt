@@ -31,7 +31,7 @@ use Rattle.nq_disk.proofs.Front.{front-stays}
 use Rattle.nq_disk.proofs.Opening.{blanked-outside, length-blanked, opened-closed}
 use Rattle.nq_store.specs.Changing.{CanBeWritten, HasZeros, IsWritten, new_blocks}
 use Rattle.nq_store.proofs.Whole.{change-is-written}
-use Rattle.nq_store.proofs.Writing.{written-over, zeros-behind}
+use Rattle.nq_store.proofs.ImagesWriting.{written-over, zeros-behind}
 
 abbrev pub blank : List ℕ → List ℕ
 blank bytes = blanked 28672 12288 bytes

@@ -1,7 +1,7 @@
 use Rattle.std.proofs.lemmas.Slice.Eq.{strip_prefix_is}
 use Rattle.std.proofs.lemmas.Bool.Decides.{Decides-eqb}
 use Rattle.nq_script.proofs.Cuts.{after-stripped}
-use Rattle.nq_script.proofs.numbers.rest_after.Goals as goal
+use Rattle.nq_script.proofs.fields.rest_after.Goals as goal
 
 pub returns : goal.returns
 returns c =

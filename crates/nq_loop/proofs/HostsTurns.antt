@@ -22,7 +22,7 @@ use Rattle.walk_steps.proofs.Rows.{same-number}
 use Rattle.nq_laws.specs.WholeCallsAnswered.{served_rounds_for}
 use Rattle.nq_loop.specs.InTime.{played, none_under_way, comes_in_time, all_in_time}
 use Rattle.nq_loop.specs.LoopsAreAnswered.{most_due}
-use Rattle.nq_loop.proofs.Counts.{begun_all, all-same, begins-own, begins-other, one-more, due-some}
+use Rattle.nq_loop.proofs.HostsCounts.{begun_all, all-same, begins-own, begins-other, one-more, due-some}
 use Rattle.nq_loop.proofs.Steps.{in-parts, below-keeps}
 use Rattle.nq_loop.proofs.Windows.{Window, lawful-now, window-delivers, window-ticks, window-calls, call-server, round-last}
 
