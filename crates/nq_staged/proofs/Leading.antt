@@ -24,7 +24,7 @@ use Rattle.nq_staged.proofs.Sending.{there}
 use Rattle.nq_staged.specs.Around.{AroundOver, once_sent, over}
 use Rattle.nq_staged.specs.Worlds.{IsLeft, IsReady, IsTested, Leads, Reaches, RunsInner, StagedOver, stepped_outside}
 use Rattle.nq_staged.specs.Taking.{IsTakenIn, running}
-use Rattle.nq_staged.specs.declared.taking.Taken.{Taken}
+use Rattle.nq_staged.specs.declared.commit.taking.Taken.{Taken}
 
 -- ---- an event of the inner world
 

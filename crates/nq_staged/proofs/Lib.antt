@@ -1,3 +1,10 @@
+pub mod Steps
+pub mod Onward
+pub mod Tellable
+pub mod Keeping
+pub mod Outcomes
+mod Endings
+pub mod Printed
 pub mod Travelling
 pub mod Sending
 pub mod TakenIn
@@ -6,10 +13,3 @@ pub mod Bounded
 pub mod Agreeing
 pub mod Reaching
 pub mod Leading
-pub mod Steps
-pub mod Onward
-pub mod Tellable
-pub mod Keeping
-pub mod Outcomes
-mod Endings
-pub mod Printed

@@ -21,7 +21,7 @@ use Rattle.nq_stage.specs.Outer.{Outer, Side, Outside}
 use Rattle.nq_stage.specs.Outside.{beside, heard_by, inner, inner_delivery, offers, offers_body, sends, sends_stage, served_commit, served_stage, takes_commit, takes_stage, told_side}
 use Rattle.nq_staged.specs.Around.{AroundOver, counted, offers_at, once_sent, over, side_offers, side_offers_as}
 use Rattle.nq_staged.specs.Taking.{IsTakenIn, Leading, running, taken_by}
-use Rattle.nq_staged.specs.declared.taking.Taken.{Taken}
+use Rattle.nq_staged.specs.declared.commit.taking.Taken.{Taken}
 use Rattle.nq_staged.proofs.Sending.{none-due, set-same}
 
 -- nothing was done, and nothing was to be done

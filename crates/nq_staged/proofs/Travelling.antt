@@ -1,15 +1,20 @@
 -- What travels, as two lists that are kept side by side.
-use Rattle.std.proofs.Common.{◌≡◌, ℕ, zero, suc, ◌+◌, List, [], ◌∷◌, ◌++◌, length, Option, Some, None, refl, sym, ap, ◌∙◌, arith}
+use Rattle.std.proofs.Common.{◌≡◌, ℕ, zero, suc, ◌+◌, List, [], ◌∷◌, ◌++◌, length, map, Option, Some, None, refl, sym, ap, ◌∙◌, arith}
 use Rattle.std.specs.Prelude.{slice_get}
 use Rattle.nq_base.specs.declared.Party.{Party}
 use Rattle.nq_link.specs.Packets.{Datagram}
 use Rattle.nq_stage.specs.Outer.{Outer}
-use Rattle.nq_staged.specs.Around.{outer_of, travelling}
+use Rattle.nq_staged.specs.Around.{datagram_of, outer_of, travelling}
 
 pub length_travelling : (ds : List Datagram) (stands : List (Option ℕ)) → length ds ≡ length stands → length (travelling ds stands) ≡ length ds
 length_travelling [] stands same = refl
 length_travelling (d ∷ ds) [] same = absurd (omega arith)
 length_travelling (d ∷ ds) (s ∷ stands) same = ap suc (length_travelling ds stands (omega arith))
+
+pub datagrams_travelling : (ds : List Datagram) (stands : List (Option ℕ)) → length ds ≡ length stands → ds ≡ map datagram_of (travelling ds stands)
+datagrams_travelling [] stands same = refl
+datagrams_travelling (d ∷ ds) [] same = absurd (omega arith)
+datagrams_travelling (d ∷ ds) (s ∷ stands) same = ap (λ l. d ∷ l) (datagrams_travelling ds stands (omega arith))
 
 pub at_travelling : (ds : List Datagram) (stands : List (Option ℕ)) (k : ℕ) (d : Datagram) (s : Option ℕ) → slice_get ds k ≡ Some d → slice_get stands k ≡ Some s
     → slice_get (travelling ds stands) k ≡ Some (outer_of d s)

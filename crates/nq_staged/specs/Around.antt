@@ -32,6 +32,10 @@ counts_of c = record { staged = c.staged; commits = c.commits; unstaged = c.unst
 abbrev pub outer_of : Datagram → Option ℕ → Outer
 outer_of d stands = record { sender = d.sender; to = d.to; bytes = d.bytes; stands = stands }
 
+-- what travels outside as a datagram
+abbrev pub datagram_of : Outer → Datagram
+datagram_of p = record { sender = p.sender; to = p.to; bytes = p.bytes }
+
 -- datagrams with the inner packets for which they stand
 abbrev pub travelling : List Datagram → List (Option ℕ) → List Outer
 travelling [] stands = []

@@ -1,9 +1,9 @@
-pub mod Line
 pub mod Text
 pub mod TextLaws
-pub mod Around
-pub mod Taking
-pub mod Worlds
 pub mod Playing
 pub mod Going
 pub mod Running
+pub mod Line
+pub mod Around
+pub mod Taking
+pub mod Worlds

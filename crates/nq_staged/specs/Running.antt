@@ -6,7 +6,7 @@ use Rattle.std.specs.List.{AllByRecursion}
 use Rattle.std.specs.Prelude.{◌≡◌, ◌⊎◌, ℕ, List, ◌++◌, Option, codes, map, reverse}
 use Rattle.nq_base.specs.declared.SkewBroken.{SkewBroken}
 use Rattle.nq_replay.specs.Texts.{IsTellable}
-use Rattle.nq_staged.specs.Worlds.{IsFaithful, PlaysOutside, StagedOver}
+use Rattle.nq_staged.specs.Worlds.{PlaysOutside, StagedOver}
 use Rattle.nq_base.specs.declared.ending.ending.Ending.{Ending}
 use Rattle.nq_io.specs.Faults.{Rose}
 use Rattle.nq_io.specs.Sink.{AppendsFront}
@@ -73,9 +73,8 @@ abbrev pub end_of : Head → List StagedEvent → Outside
 end_of head events = outside_run (beginning head) events
 
 -- The text of the inner schedule, each of whose events has a line, the journal of its run, and what was counted. The inner schedule is
--- within skew and keeps to the bounds, and the staged run is faithful to its run.
+-- within skew and keeps to the bounds.
 pub record IsPrinted (head : Head) (events : List StagedEvent) (bytes : List ℕ) : Type 0 where
-  pub faithful : IsFaithful (beginning head) (end_of head events)
   pub lawful : IsLawful (beginning head) (end_of head events).ran
   pub text : List ℕ
   pub spelled : SpellsSchedule head (map once (reverse (end_of head events).ran)) text

@@ -5,7 +5,7 @@ use Rattle.nq_model.specs.World.{World}
 use Rattle.nq_stage.specs.Outer.{Outside}
 use Rattle.nq_stage.specs.Outside.{inner}
 use Rattle.nq_staged.specs.Around.{AroundOver, counted, once_sent, over}
-use Rattle.nq_staged.specs.declared.taking.Taken.{Taken}
+use Rattle.nq_staged.specs.declared.commit.taking.Taken.{Taken}
 
 -- the world with staged writes that a packet leads to, for the inner world and its events
 abbrev pub Leading : Type 0

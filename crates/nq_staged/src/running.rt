@@ -10,6 +10,7 @@ ghost use Rattle.nq_model.specs.Stepped.{out_of_skew};
 ghost use Rattle.nq_replay.specs.Playing.{beginning};
 ghost use Rattle.nq_replay.specs.declared.play.played.Played.{Played};
 ghost use Rattle.nq_replay.specs.Ending.{IsUnlessFault};
+ghost use Rattle.nq_world.specs.Beginning.{NeverFails};
 ghost use Rattle.nq_replay.specs.Schedules.{HasReason};
 ghost use Rattle.nq_replay.specs.declared.Bound.{Bound};
 ghost use Rattle.nq_script.specs.Heads.{FitsHead};
@@ -20,13 +21,13 @@ ghost use Rattle.nq_staged.specs.Playing.{play};
 ghost use Rattle.nq_staged.specs.Running.{EndsStaged, EndsStagedPlayed, EndsStagedText, FaultyStaged, IsTold, PassesStaged, PrintsRun, RunsStaged, StopsStaged};
 ghost use Rattle.nq_staged.specs.Text.{IsOfHost};
 ghost use Rattle.nq_stage.specs.declared.run.event.StagedEvent.{StagedEvent};
-ghost use Rattle.nq_world.specs.Beginning.{NeverFails};
 ghost use Rattle.nq_world.specs.Playing.{HasSettings};
 
+use crate::commit::StagedWorld;
 use crate::lines::play;
 use crate::offer::Offer;
 use crate::printing::count_text;
-use crate::world::StagedWorld;
+use nq_base::NoMemory;
 use nq_base::ending::Ending;
 use nq_io::{Sink, Source, Whole, read_all};
 use nq_keeper::{Keeper, ListKeeper};
@@ -34,7 +35,7 @@ use nq_replay::asides::{MixedScript, read_script};
 use nq_replay::play::Played;
 use nq_replay::{print_parts, schedule_text, tell_over, tell_script, tell_stop};
 use nq_script::{Head, ScriptFault};
-use nq_world::MOST_EVENTS;
+use nq_world::{MOST_EVENTS, NewFault, begin_surely};
 use std::alloc::Global;
 
 /// Reads a staged schedule to the end of the input, of at most so many bytes, and runs it: a schedule of version 2 that may have
@@ -131,13 +132,38 @@ fn run_over<L: Keeper + Drop, K: Sink>(
     ensures { EndsStagedPlayed result script.now.script.head (play script.now.script.head (mixed script.now.asides.items script.now.script.lines))
         (K.held out.old) (K.held out.new) (K.faults out.old) (K.faults out.new) }
 {
-    let Ok(mut world) = StagedWorld::begin(alloc, &script.script.head, keeper) else {
+    let Ok(mut world) = begin_staged(alloc, &script.script.head, keeper) else {
         return Ending::Memory;
     };
     let played = play_over(alloc, &mut world, script);
     let ending = tell(alloc, &script.script.head, &world, played, out);
     let _keeper = world.into_keeper();
     ending
+}
+
+/// The staged world before the first event of a schedule with this head, over a keeper that keeps nothing yet and never fails.
+///
+/// # Errors
+///
+/// Only want of memory.
+fn begin_staged<L: Keeper + Drop>(
+    alloc: Global,
+    head: &Head,
+    keeper: L,
+) -> Result<StagedWorld<L>, NoMemory>
+    requires fits { FitsHead head.now }
+    requires empty { L.content keeper ≡ Some empty_kept }
+    requires never { NeverFails L.faults L.follows keeper }
+    ensures plays { IfOk result (λ w. PlaysOutside (beginning head.now) [] w (L.content w.inner.server.keeper)) }
+    ensures settings { IfOk result (λ w. HasSettings head.now.hosts head.now.longest head.now.term w.inner) }
+    ensures never { IfOk result (λ w. NeverFails L.faults L.follows w.inner.server.keeper) }
+{
+    let world = begin_surely(alloc, head, keeper)?;
+    match StagedWorld::new(alloc, world, head.hosts) {
+        Ok(world) => Ok(world),
+        Err(NewFault::Memory(_keeper)) => Err(NoMemory::Memory),
+        Err(NewFault::Failed(_keeper)) => unreachable!(),
+    }
 }
 
 /// Plays a staged schedule over a world in which nothing was played before. A flow may have one delivery more than there may be
