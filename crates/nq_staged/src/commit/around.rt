@@ -107,7 +107,7 @@ impl Around {
     }
 
     /// How many packets have gone out.
-    #[tactic(auto, using(crate::commit::proofs::Travelling::length_travelling))]
+    #[tactic(auto, using(crate::proofs::Travelling::length_travelling))]
     pub(crate) fn sent(&self) -> u64
         ensures { result ≡ length self.now.sent }
     {
@@ -115,7 +115,7 @@ impl Around {
     }
 
     /// The packets that have gone out.
-    #[tactic(auto, using(crate::commit::proofs::Travelling::datagrams_travelling))]
+    #[tactic(auto, using(crate::proofs::Travelling::datagrams_travelling))]
     pub(crate) fn packets(&self) -> &Packets
         ensures { result.now.datagrams ≡ map datagram_of self.now.sent }
     {
@@ -123,7 +123,7 @@ impl Around {
     }
 
     /// The packet of a number that travels.
-    #[tactic(auto, using(crate::commit::proofs::Travelling::at_travelling))]
+    #[tactic(auto, using(crate::proofs::Travelling::at_travelling))]
     pub(crate) fn read(&self, number: u64) -> Result<Outgoing, NoMemory>
         requires { number < length self.now.sent }
         ensures { IfOk result (λ p. slice_get self.now.sent number ≡ Some p) }
@@ -261,7 +261,7 @@ impl Around {
     }
 
     /// Makes a packet of a host due, through that host's side.
-    #[tactic(auto, using(crate::commit::proofs::Sending::due_passed))]
+    #[tactic(auto, using(crate::proofs::Sending::due_passed))]
     fn pass_client(&mut self, host: Host, to: Party, bytes: Vec<u8>) -> Result<(), NoMemory>
         ensures prepared { OnOk result (self.new ≡ prepared_from self.old (record { sender = Party.Client host; to = to; bytes = bytes.items }) (Party.Client host)) }
         ensures refused { OnErr result (self.new ≡ self.old) }
@@ -322,7 +322,7 @@ fn pass_at(
 }
 
 /// The bytes as which a packet of this number goes out through a side.
-#[tactic(auto, using(crate::commit::proofs::Sending::passes_short, crate::commit::proofs::Sending::passes_whole))]
+#[tactic(auto, using(crate::proofs::Sending::passes_short, crate::proofs::Sending::passes_whole))]
 fn pass(
     side: &mut HostSide,
     alloc: Global,
@@ -342,7 +342,7 @@ fn pass(
 }
 
 /// Adds a packet to those that travel.
-#[tactic(auto, using(crate::commit::proofs::Travelling::travelling_more))]
+#[tactic(auto, using(crate::proofs::Travelling::travelling_more))]
 fn push(
     packets: &mut Packets,
     stands: &mut Vec<Option<u64>>,

@@ -7,7 +7,7 @@ use nq_base::Host;
 use nq_script::words::number;
 
 /// The host of a line `stage H`, H below the number of hosts; None exactly where the line is not of that form.
-#[tactic(auto, unfolding(crate::commit::specs::Line::stage_line))]
+#[tactic(auto, unfolding(crate::specs::Line::stage_line))]
 pub fn parse_stage(line: &[u8], hosts: u32) -> Option<Host>
     ensures { result ≡ stage_line hosts line.now }
 {

@@ -69,7 +69,7 @@ impl Around {
     }
 
     /// The server takes in a packet of a host: a STAGE is given to the pool.
-    #[tactic(auto, using(crate::commit::proofs::TakenIn::stage_taken))]
+    #[tactic(auto, using(crate::proofs::TakenIn::stage_taken))]
     fn serve(&mut self, host: Host, packet: &Outgoing) -> Taken
         requires { self.old.due ≡ None }
         ensures { IsTakenIn result packet.now.stands self.old self.new (λ w ran. served_stage (over w ran self.old) host packet.now (own_stage host packet.now.bytes)) }
@@ -153,7 +153,7 @@ impl Around {
     }
 
     /// A host's side offers a body of these delayed writes.
-    #[tactic(auto, using(crate::commit::proofs::TakenIn::offers_shown))]
+    #[tactic(auto, using(crate::proofs::TakenIn::offers_shown))]
     pub(crate) fn offer(&mut self, host: Host, dirty: &Dirty) -> Result<(), NoMemory>
         requires { self.old.due ≡ None }
         ensures offers { OnOk result ((w : World) (ran : List Event) (c : Client) → c.dirty ≡ dirty.now.dirty → c.push ≡ dirty.now.push
@@ -235,7 +235,7 @@ fn offer_at(
 }
 
 /// The STAGE that a side offers of these delayed writes.
-#[tactic(auto, using(crate::commit::proofs::TakenIn::offers_some, crate::commit::proofs::TakenIn::offers_nothing))]
+#[tactic(auto, using(crate::proofs::TakenIn::offers_some, crate::proofs::TakenIn::offers_nothing))]
 fn offer_by(side: &mut HostSide, alloc: Global, dirty: &Dirty) -> Result<Option<Vec<u8>>, NoMemory>
     ensures offers { IfOk result (λ o. (option_map (λ v. v.items) o, side.new) ≡ side_offers side.old dirty.now.dirty dirty.now.push) }
     ensures refused { OnErr result (side.new ≡ side.old) }

@@ -53,7 +53,7 @@ fn side_of<K: Keeper>(alloc: Global, world: &World<K>, host: Host) -> HostSide
 }
 
 /// The sides of the hosts of a world, of which there are so many.
-#[tactic(auto, using(crate::commit::proofs::Reaching::sides_more, crate::commit::proofs::Reaching::sides_all))]
+#[tactic(auto, using(crate::proofs::Reaching::sides_more, crate::proofs::Reaching::sides_all))]
 fn sides_of<K: Keeper>(
     alloc: Global,
     world: &World<K>,
