@@ -8,16 +8,14 @@ use crate::NoMemory;
 use crate::chart::{Part, text_of};
 use nq_base::{Mode, Name, Party};
 use std::alloc::Global;
+use std::str;
 
 /// Appends a name, which is printable ASCII, behind a word.
 pub(crate) fn named(alloc: Global, word: &str, name: &Name) -> Result<String, NoMemory>
     ensures { IfOk result (λ text. Extends word.now (string_bytes text)) }
 {
-    let mut text = String::new(alloc);
-    text.push_str(word)?;
-    for byte in name.as_bytes() {
-        text.push(*byte as char)?;
-    }
+    let letters = str::from_utf8(name.as_bytes()).unwrap_or("");
+    let text = text_of(alloc, &[Part::Text(word), Part::Text(letters)])?;
     Ok(text)
 }
 
