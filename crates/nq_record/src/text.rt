@@ -6,6 +6,7 @@ ghost use Rattle.nq_record.specs.Words.{mode_word};
 
 use crate::NoMemory;
 use crate::chart::{Part, text_of};
+use crate::lists::Growing;
 use nq_base::{Mode, Name, Party};
 use std::alloc::Global;
 use std::str;
@@ -29,18 +30,18 @@ pub(crate) fn owned(alloc: Global, words: &str) -> Result<String, NoMemory>
 /// A form in which these numbers stand for the signs `#`, in their order. A sign for which there is no number is left out, and so is
 /// a number for which there is no sign.
 pub(crate) fn filled(alloc: Global, form: &str, numbers: &[u64]) -> Result<String, NoMemory> {
-    let mut text = String::new(alloc);
+    let mut parts = Growing::new(alloc);
     let mut signs = 0usize;
     for words in form.split('#') {
         if signs > 0 {
             if let Some(number) = numbers.get(signs - 1) {
-                text.push_str(text_of(alloc, &[Part::Number(*number)])?.as_str())?;
+                parts.push(Part::Number(*number));
             }
         }
-        text.push_str(words)?;
+        parts.push(Part::Text(words));
         signs = signs.saturating_add(1);
     }
-    Ok(text)
+    text_of(alloc, &parts.finish()?)
 }
 
 /// The word of a kind of lease.
