@@ -8,6 +8,7 @@ use crate::columns::{put_left, put_right};
 use crate::record::{Act, Moment, Record, Sent};
 use crate::spans::{Change, Kind};
 use crate::text::{mode_word, party_parts};
+use nq_base::Mode;
 use std::alloc::Global;
 
 /// Appends a line for each event: its number, who acts and what the clock of that party shows, what happens, how many rows the server
@@ -119,21 +120,22 @@ fn tell_change(change: &Change, page: &mut Page) {
     page.put(&[Part::Text(sign)]);
     match change.kind {
         Kind::Recovery => page.put(&[Part::Text("recovery")]),
-        Kind::Lease { file, mode } => page.put(&[
-            Part::Text("lease "),
-            Part::Text(mode_word(mode)),
-            Part::Text(" "),
-            Part::Number(file.0 as u64),
-        ]),
-        Kind::Row { file, host, mode } => page.put(&[
-            Part::Text("row "),
-            Part::Text(mode_word(mode)),
-            Part::Text(" "),
-            Part::Number(file.0 as u64),
-            Part::Text(" of host "),
-            Part::Number(host.0 as u64),
-        ]),
+        Kind::Lease { file, mode } => tell_lease("lease ", mode, file.0, page),
+        Kind::Row { file, host, mode } => {
+            tell_lease("row ", mode, file.0, page);
+            page.put(&[Part::Text(" of host "), Part::Number(host.0 as u64)]);
+        }
     }
+}
+
+/// Puts a word, the kind of a lease and its file.
+fn tell_lease(word: &str, mode: Mode, file: u32, page: &mut Page) {
+    page.put(&[
+        Part::Text(word),
+        Part::Text(mode_word(mode)),
+        Part::Text(" "),
+        Part::Number(file as u64),
+    ]);
 }
 
 /// Puts the packets that an event sends.
