@@ -4,7 +4,7 @@ ghost use Rattle.nq_record.specs.Page.{Extends};
 
 use crate::NoMemory;
 use crate::chart::{Page, Part};
-use crate::columns::{put_left, put_right};
+use crate::columns::{put_blanks, put_right};
 use crate::record::{Act, Moment, Record, Sent};
 use crate::spans::{Change, Kind};
 use crate::text::{mode_word, party_parts};
@@ -43,9 +43,13 @@ pub(crate) fn tell_moment(record: &Record, place: usize, page: &mut Page) {
 /// Puts the columns of an event that have a fixed width.
 fn tell_act(record: &Record, place: usize, moment: &Moment, page: &mut Page) {
     put_right(page, place as u64, 6, " ");
-    put_left(page, &party_parts(moment.party), 8);
+    let clock = page.len().saturating_add(8);
+    page.put(&party_parts(moment.party));
+    put_blanks(page, clock);
     put_right(page, moment.clock.0, 7, "  ");
-    put_left(page, &act_parts(record, place, moment.act), 52);
+    let counts = page.len().saturating_add(52);
+    tell_what(record, place, moment.act, page);
+    put_blanks(page, counts);
     tell_counts(moment, page);
 }
 
@@ -57,39 +61,27 @@ fn tell_counts(moment: &Moment, page: &mut Page) {
     put_right(page, moment.dirty as u64, 4, "");
 }
 
-/// What happens, in words.
-fn act_parts(record: &Record, place: usize, act: Act) -> [Part; 4] {
-    match act {
-        Act::Arrival(number) => arrival_parts(record, place, number),
-        Act::Call => alone("call"),
-        Act::Tick => alone("tick"),
-        Act::Restart => alone("restart"),
-        Act::Crash => alone("crash"),
-    }
-}
-
-/// A word alone.
-fn alone(word: &str) -> [Part; 4] {
-    [
-        Part::Text(word),
-        Part::Text(""),
-        Part::Text(""),
-        Part::Text(""),
-    ]
-}
-
-/// An arrival in words.
-fn arrival_parts(record: &Record, place: usize, number: u64) -> [Part; 4] {
-    let (again, words) = match record.packets.get(number as usize) {
-        Some(sent) => (again_word(sent, place), sent.words.as_str()),
-        None => ("", ""),
+/// Puts what happens.
+fn tell_what(record: &Record, place: usize, act: Act, page: &mut Page) {
+    let word = match act {
+        Act::Arrival(number) => return tell_arrival(record, place, number, page),
+        Act::Call => "call",
+        Act::Tick => "tick",
+        Act::Restart => "restart",
+        Act::Crash => "crash",
     };
-    [
-        Part::Text("deliver "),
-        Part::Number(number),
-        Part::Text(again),
-        Part::Text(words),
-    ]
+    page.put(&[Part::Text(word)]);
+}
+
+/// Puts an arrival.
+fn tell_arrival(record: &Record, place: usize, number: u64, page: &mut Page) {
+    page.put(&[Part::Text("deliver "), Part::Number(number)]);
+    if let Some(sent) = record.packets.get(number as usize) {
+        page.put(&[
+            Part::Text(again_word(sent, place)),
+            Part::Text(sent.words.as_str()),
+        ]);
+    }
 }
 
 /// What stands between the number of a packet that arrives and its words.
