@@ -36,6 +36,11 @@ impl<T: Drop> Growing<T> {
         }
     }
 
+    /// Takes the last item out.
+    pub(crate) fn pop(&mut self) -> Option<T> {
+        self.items.pop()
+    }
+
     /// Adds an item, if there was memory to make it.
     pub(crate) fn add(&mut self, made: Result<T, NoMemory>) {
         match made {
