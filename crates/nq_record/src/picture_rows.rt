@@ -100,7 +100,6 @@ pub(crate) fn rows_of(
     from: usize,
     to: usize,
 ) -> Result<Rows, NoMemory> {
-    let marked = marked(alloc, record)?;
     let mut clocks = Clocks::new(alloc, (record.hosts as usize).saturating_add(1))?;
     let mut rows = Rows::new(alloc, from, to);
     let mut idle = Idle {
@@ -111,7 +110,7 @@ pub(crate) fn rows_of(
     for (place, moment) in record.moments.iter().enumerate() {
         clocks.show(place_of(record.hosts, moment.party), moment.clock.0);
         if place >= from && place <= to {
-            if is_idle(&marked, place, moment) {
+            if is_idle(moment) {
                 idle.add(place, moment);
             } else {
                 idle.end(alloc, record.hosts, &mut rows, &mut clocks);
@@ -123,32 +122,9 @@ pub(crate) fn rows_of(
     Ok(rows)
 }
 
-/// Which events begin or end something that lasts.
-fn marked(alloc: Global, record: &Record) -> Result<Vec<bool>, NoMemory> {
-    let mut marked = vec![in alloc; false; record.moments.len()]?;
-    for span in &record.spans {
-        mark(&mut marked, span.first);
-        if !span.open {
-            mark(&mut marked, span.last);
-        }
-    }
-    Ok(marked)
-}
-
-/// Marks an event.
-fn mark(marked: &mut Vec<bool>, place: usize) {
-    if let Some(mark) = marked.get_mut(place) {
-        *mark = true;
-    }
-}
-
 /// Whether an event is a tick in which nothing else happens.
-fn is_idle(marked: &Vec<bool>, place: usize, moment: &Moment) -> bool {
-    let is_marked = match marked.get(place) {
-        Some(mark) => *mark,
-        None => false,
-    };
-    matches!(moment.act, Act::Tick) && moment.sent == 0 && moment.made == 0 && !is_marked
+fn is_idle(moment: &Moment) -> bool {
+    matches!(moment.act, Act::Tick) && moment.sent == 0 && moment.made == 0 && moment.changed == 0
 }
 
 /// Ticks in which nothing else happens, one after the other.
