@@ -8,7 +8,7 @@ use crate::lists::Growing;
 use crate::picture_rows::{Rows, packet_words, rows_of};
 use crate::record::{Record, Sent};
 use crate::spans::{Kind, Span};
-use crate::text::{owned, party_name};
+use crate::text::{owned, party_parts};
 use nq_base::{Host, Mode, Party};
 use std::alloc::Global;
 
@@ -39,14 +39,9 @@ fn place_of_host(left: u32, host: u32) -> usize {
 /// The side of a party that is turned away from the others; the server has its bars on the right.
 pub(crate) fn outer(hosts: u32, party: Party) -> Side {
     match party {
-        Party::Server => Side::Right,
-        Party::Client(host) => outer_of_host(hosts_left(hosts), host.0),
+        Party::Client(host) if host.0 < hosts_left(hosts) => Side::Left,
+        _ => Side::Right,
     }
-}
-
-/// The side of a host that is turned away from the server, where so many stand left of it.
-fn outer_of_host(left: u32, host: u32) -> Side {
-    if host < left { Side::Left } else { Side::Right }
 }
 
 /// The events from `from` to `to` of a run as a chart, with a column for each host and one for the server. Ticks in which nothing
@@ -94,7 +89,7 @@ fn columns(alloc: Global, hosts: u32) -> Result<Vec<Column>, NoMemory>
 /// A party.
 fn column(alloc: Global, hosts: u32, party: &Party) -> Result<Column, NoMemory> {
     let bars = outer(hosts, *party);
-    let name = party_name(alloc, *party)?;
+    let name = text_of(alloc, &party_parts(*party))?;
     Ok(Column { name, bars })
 }
 

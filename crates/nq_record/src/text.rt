@@ -55,11 +55,6 @@ pub(crate) fn mode_word(mode: Mode) -> &'static str
     }
 }
 
-/// The name of a party.
-pub(crate) fn party_name(alloc: Global, party: Party) -> Result<String, NoMemory> {
-    text_of(alloc, &party_parts(party))
-}
-
 /// The parts of the name of a party.
 pub(crate) fn party_parts(party: Party) -> [Part<'static>; 2] {
     match party {
