@@ -8,6 +8,7 @@ use crate::record::{Act, Moment, Record, Sent};
 use crate::text::{filled, owned};
 use nq_base::Party;
 use std::alloc::Global;
+use std::mem;
 
 /// The rows of a chart, and in which of them each event stands.
 #[derive(Drop)]
@@ -84,12 +85,8 @@ impl Clocks {
 
     /// What the clocks show; from then on nothing is untold.
     fn take(&mut self, alloc: Global) -> Result<Vec<Option<u64>>, NoMemory> {
-        let mut told = Growing::new(alloc);
-        for shown in self.shown.iter_mut() {
-            told.push(*shown);
-            *shown = None;
-        }
-        told.finish()
+        let untold = vec![in alloc; None; self.shown.len()]?;
+        Ok(mem::replace(&mut self.shown, untold))
     }
 }
 
