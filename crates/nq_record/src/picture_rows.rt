@@ -144,19 +144,6 @@ impl Idle {
         self.count = self.count.saturating_add(1);
     }
 
-    /// How they are named at the edge.
-    fn name(&self, alloc: Global) -> Result<String, NoMemory> {
-        let form = if self.count == 1 { "#" } else { "#-#" };
-        let last = self.first.saturating_add(self.count).saturating_sub(1);
-        filled(alloc, form, &[self.first as u64, last as u64])
-    }
-
-    /// What is told of them.
-    fn text(&self, alloc: Global) -> Result<String, NoMemory> {
-        let form = if self.count == 1 { "tick" } else { "# ticks" };
-        filled(alloc, form, &[self.count as u64])
-    }
-
     /// Gives them a row, if there are any.
     fn end(&mut self, alloc: Global, hosts: u32, rows: &mut Rows, clocks: &mut Clocks) {
         if self.count > 0 {
@@ -167,11 +154,19 @@ impl Idle {
 
     /// Their row.
     fn row(&self, alloc: Global, hosts: u32, clocks: &mut Clocks) -> Result<Row, NoMemory> {
-        let mut notes = Growing::new(alloc);
+        let (name, text) = if self.count == 1 {
+            ("#", "tick")
+        } else {
+            ("#-#", "# ticks")
+        };
+        let last = self.first.saturating_add(self.count).saturating_sub(1);
+        let name = filled(alloc, name, &[self.first as u64, last as u64]);
+        let text = filled(alloc, text, &[self.count as u64]);
         let side = outer(hosts, self.party);
-        notes.add(note(side, Sign::Plain, self.text(alloc)));
+        let mut notes = Growing::new(alloc);
+        notes.add(note(side, Sign::Plain, text));
         let party = place_of(hosts, self.party);
-        row(self.name(alloc), clocks.take(alloc), party, notes.finish())
+        row(name, clocks.take(alloc), party, notes.finish())
     }
 }
 
