@@ -4,9 +4,9 @@ ghost use Rattle.std.specs.Prelude.{◌≡◌, IfOk};
 ghost use Rattle.nq_record.specs.Words.{sign_of};
 
 use crate::NoMemory;
-use crate::chart::Sign;
+use crate::chart::{Sign, filled};
 use crate::record::Noted;
-use crate::text::{filled, named};
+use crate::text::named;
 use nq_base::{Entry, Mode, Name, Said, Spans, Told};
 use std::alloc::Global;
 

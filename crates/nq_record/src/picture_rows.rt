@@ -1,11 +1,11 @@
 //! Events as the rows of a chart.
 
 use crate::NoMemory;
-use crate::chart::{Note, Part, Row, Side, Sign, text_of};
+use crate::chart::{Note, Part, Row, Side, Sign, filled, text_of};
 use crate::drawing::{outer, place_of};
 use crate::lists::Growing;
 use crate::record::{Act, Moment, Record, Sent};
-use crate::text::{filled, owned};
+use crate::text::owned;
 use nq_base::Party;
 use std::alloc::Global;
 use std::mem;

@@ -75,7 +75,7 @@ fn tell_what(record: &Record, place: usize, act: Act, page: &mut Page) {
 
 /// Puts an arrival.
 fn tell_arrival(record: &Record, place: usize, number: u64, page: &mut Page) {
-    page.put(&[Part::Text("deliver "), Part::Number(number)]);
+    page.fill("deliver #", &[number]);
     if let Some(sent) = record.packets.get(number as usize) {
         page.put(&[
             Part::Text(again_word(sent, place)),
@@ -102,7 +102,7 @@ fn tell_changes(record: &Record, moment: &Moment, page: &mut Page) {
         }
     }
     if let Some(blocks) = moment.delays {
-        page.put(&[Part::Text(" | delayed "), Part::Number(blocks as u64)]);
+        page.fill(" | delayed #", &[blocks as u64]);
     }
 }
 
@@ -115,7 +115,7 @@ fn tell_change(change: &Change, page: &mut Page) {
         Kind::Lease { file, mode } => tell_lease("lease ", mode, file.0, page),
         Kind::Row { file, host, mode } => {
             tell_lease("row ", mode, file.0, page);
-            page.put(&[Part::Text(" of host "), Part::Number(host.0 as u64)]);
+            page.fill(" of host #", &[host.0 as u64]);
         }
     }
 }
@@ -142,11 +142,7 @@ fn tell_packets(record: &Record, moment: &Moment, page: &mut Page) {
 
 /// Puts a packet that is sent, behind a bar: its number, to whom it goes, and what it says.
 fn tell_packet(number: u64, sent: &Sent, page: &mut Page) {
-    page.put(&[
-        Part::Text(" | sends "),
-        Part::Number(number),
-        Part::Text(" to "),
-    ]);
+    page.fill(" | sends # to ", &[number]);
     page.put(&party_parts(sent.to));
     page.put(&[Part::Text(": "), Part::Text(sent.words.as_str())]);
 }

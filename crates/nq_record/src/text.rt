@@ -6,7 +6,6 @@ ghost use Rattle.nq_record.specs.Words.{mode_word};
 
 use crate::NoMemory;
 use crate::chart::{Part, text_of};
-use crate::lists::Growing;
 use nq_base::{Mode, Name, Party};
 use std::alloc::Global;
 use std::str;
@@ -25,23 +24,6 @@ pub(crate) fn owned(alloc: Global, words: &str) -> Result<String, NoMemory>
     ensures { IfOk result (λ text. string_bytes text ≡ words.now) }
 {
     Ok(String::from_str(alloc, words)?)
-}
-
-/// A form in which these numbers stand for the signs `#`, in their order. A sign for which there is no number is left out, and so is
-/// a number for which there is no sign.
-pub(crate) fn filled(alloc: Global, form: &str, numbers: &[u64]) -> Result<String, NoMemory> {
-    let mut parts = Growing::new(alloc);
-    let mut signs = 0usize;
-    for words in form.split('#') {
-        if signs > 0 {
-            if let Some(number) = numbers.get(signs - 1) {
-                parts.push(Part::Number(*number));
-            }
-        }
-        parts.push(Part::Text(words));
-        signs = signs.saturating_add(1);
-    }
-    text_of(alloc, &parts.finish()?)
 }
 
 /// The word of a kind of lease.
