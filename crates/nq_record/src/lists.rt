@@ -3,11 +3,11 @@
 use crate::NoMemory;
 use std::alloc::Global;
 
-/// A list that grows. Once memory was wanting it takes nothing more, and `finish` tells of it.
+/// A list that grows. Once memory was wanting it takes nothing more, and `is_short` and `finish` tell of it.
 #[derive(Drop)]
 pub(crate) struct Growing<T> {
-    items: Vec<T>,
-    is_short: bool,
+    pub(crate) items: Vec<T>,
+    pub(crate) is_short: bool,
 }
 
 impl<T: Drop> Growing<T> {

@@ -34,7 +34,7 @@ fn titles(page: &mut Page, chart: &Chart) {
 
 /// The legend.
 pub(crate) fn legend(page: &mut Page, layout: &Layout) {
-    for entry in &layout.legend.entries {
+    for entry in &layout.legend.entries.items {
         put_sample(page, entry);
         page.fill(
             "<text x=\"#\" y=\"#\">",

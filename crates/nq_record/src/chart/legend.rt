@@ -1,7 +1,7 @@
 //! What the colours and arrows mean.
 
-use crate::chart::NoMemory;
 use crate::chart::style::LETTER;
+use crate::lists::Growing;
 use std::alloc::Global;
 
 /// What a sample in the legend shows: arrows, and bars.
@@ -75,15 +75,15 @@ const APART: u64 = 18;
 /// The legend.
 #[derive(Drop)]
 pub(crate) struct Legend {
-    pub(crate) entries: Vec<Entry>,
+    pub(crate) entries: Growing<Entry>,
     /// Where the first row begins, in pixels from the upper edge.
     pub(crate) end: u64,
 }
 
 impl Legend {
     /// Gives each entry its place, in lines that are no wider than the page.
-    pub(crate) fn of(alloc: Global, width: u64) -> Result<Legend, NoMemory> {
-        let mut entries = Vec::new(alloc);
+    pub(crate) fn of(alloc: Global, width: u64) -> Legend {
+        let mut entries = Growing::new(alloc);
         let mut x = LEFT;
         let mut y = 44;
         for sample in &SAMPLES {
@@ -97,12 +97,12 @@ impl Legend {
                 sample: *sample,
                 x,
                 y,
-            })?;
+            });
             x = x.saturating_add(wide).saturating_add(16);
         }
-        Ok(Legend {
+        Legend {
             entries,
             end: y.saturating_add(46),
-        })
+        }
     }
 }
