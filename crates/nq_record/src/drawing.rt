@@ -60,7 +60,7 @@ pub fn picture(
     ensures { IfOk result (λ chart. vec_len chart.columns ≡ «record».now.hosts + 1) }
 {
     let columns = columns(alloc, record.hosts)?;
-    let shown = rows_of(alloc, record, from, to)?;
+    let shown = rows_of(alloc, record, from, to);
     let packets = packets(alloc, record, &shown)?;
     let bars = bars(alloc, record, &shown)?;
     let rows = shown.finish()?;
@@ -79,10 +79,9 @@ fn columns(alloc: Global, hosts: u32) -> Result<Vec<Column>, NoMemory>
 {
     let mut columns = Vec::new(alloc);
     let left = hosts_left(hosts);
-    for place in 0..hosts {
+    for place in 0..=hosts {
         columns.push(column(alloc, hosts, &party_at(left, place))?)?;
     }
-    columns.push(column(alloc, hosts, &party_at(left, hosts))?)?;
     Ok(columns)
 }
 

@@ -66,38 +66,38 @@ impl Rows {
 /// What the clocks show that no row has told yet, by the places of the parties.
 #[derive(Drop)]
 struct Clocks {
-    shown: Vec<Option<u64>>,
+    shown: Growing<Option<u64>>,
 }
 
 impl Clocks {
-    /// Clocks that all show 0.
-    fn new(alloc: Global, parties: usize) -> Result<Clocks, NoMemory> {
-        let shown = vec![in alloc; Some(0u64); parties]?;
-        Ok(Clocks { shown })
+    /// Clocks of so many parties that all show this time.
+    fn new(alloc: Global, parties: usize, time: Option<u64>) -> Clocks {
+        let mut shown = Growing::new(alloc);
+        for _ in 0..parties {
+            shown.push(time);
+        }
+        Clocks { shown }
     }
 
     /// Notes what a clock shows.
     fn show(&mut self, place: usize, time: u64) {
-        if let Some(shown) = self.shown.get_mut(place) {
+        if let Some(shown) = self.shown.items.get_mut(place) {
             *shown = Some(time);
         }
     }
 
     /// What the clocks show; from then on nothing is untold.
     fn take(&mut self, alloc: Global) -> Result<Vec<Option<u64>>, NoMemory> {
-        let untold = vec![in alloc; None; self.shown.len()]?;
-        Ok(mem::replace(&mut self.shown, untold))
+        let untold = Clocks::new(alloc, self.shown.len(), None);
+        let Clocks { shown } = mem::replace(self, untold);
+        shown.finish()
     }
 }
 
 /// The rows of the events from `from` to `to`. Ticks in which nothing else happens share a row.
-pub(crate) fn rows_of(
-    alloc: Global,
-    record: &Record,
-    from: usize,
-    to: usize,
-) -> Result<Rows, NoMemory> {
-    let mut clocks = Clocks::new(alloc, (record.hosts as usize).saturating_add(1))?;
+pub(crate) fn rows_of(alloc: Global, record: &Record, from: usize, to: usize) -> Rows {
+    let parties = (record.hosts as usize).saturating_add(1);
+    let mut clocks = Clocks::new(alloc, parties, Some(0));
     let mut rows = Rows::new(alloc, from, to);
     let mut idle = Idle {
         first: from,
@@ -116,7 +116,7 @@ pub(crate) fn rows_of(
         }
     }
     idle.end(alloc, record.hosts, &mut rows, &mut clocks);
-    Ok(rows)
+    rows
 }
 
 /// Whether an event is a tick in which nothing else happens.
