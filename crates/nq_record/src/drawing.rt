@@ -61,15 +61,17 @@ pub fn picture(
 {
     let columns = columns(alloc, record.hosts)?;
     let shown = rows_of(alloc, record, from, to);
-    let packets = packets(alloc, record, &shown)?;
-    let bars = bars(alloc, record, &shown)?;
-    let rows = shown.finish()?;
+    let packets = packets(alloc, record, &shown);
+    let bars = bars(alloc, record, &shown);
+    if shown.is_short() || packets.is_short || bars.is_short {
+        return Err(NoMemory::Memory);
+    }
     Ok(Chart {
         title,
         columns,
-        rows,
-        packets,
-        bars,
+        rows: shown.into_rows(),
+        packets: packets.into_items(),
+        bars: bars.into_items(),
     })
 }
 
@@ -104,34 +106,45 @@ fn party_at(left: u32, place: u32) -> Party {
 }
 
 /// The packets that are sent or arrive in the rows that are shown.
-fn packets(alloc: Global, record: &Record, shown: &Rows) -> Result<Vec<Packet>, NoMemory> {
+fn packets(alloc: Global, record: &Record, shown: &Rows) -> Growing<Packet> {
     let mut packets = Growing::new(alloc);
     for (number, sent) in record.packets.iter().enumerate() {
-        let arrivals = arrivals(alloc, sent, shown)?;
-        let row = shown.row_of(sent.sent);
-        let is_lost = sent.arrivals.is_empty() && row.is_some();
-        if is_lost || !arrivals.is_empty() {
-            let text = packet_words(alloc, number as u64, sent, "");
-            packets.add(packet(record.hosts, sent, row, arrivals, text));
+        if is_shown(sent, shown) {
+            packets.add(packet(alloc, record.hosts, number as u64, sent, shown));
         }
     }
-    packets.finish()
+    packets
 }
 
-/// A packet that is told of in a text, if there was memory for it.
+/// Whether a packet arrives in one of the rows that are shown, or is sent in one of them and never arrives.
+fn is_shown(sent: &Sent, shown: &Rows) -> bool {
+    if sent.arrivals.is_empty() {
+        return shown.row_of(sent.sent).is_some();
+    }
+    for moment in &sent.arrivals {
+        if shown.row_of(*moment).is_some() {
+            return true;
+        }
+    }
+    false
+}
+
+/// A packet of this number.
 fn packet(
+    alloc: Global,
     hosts: u32,
+    number: u64,
     sent: &Sent,
-    row: Option<usize>,
-    arrivals: Vec<usize>,
-    text: Result<String, NoMemory>,
+    shown: &Rows,
 ) -> Result<Packet, NoMemory> {
+    let text = packet_words(alloc, number, sent, "")?;
+    let arrivals = arrivals(alloc, sent, shown)?;
     Ok(Packet {
         from: place_of(hosts, sent.from),
         to: place_of(hosts, sent.to),
-        sent: row,
+        sent: shown.row_of(sent.sent),
         arrivals,
-        text: text?,
+        text,
     })
 }
 
@@ -147,7 +160,7 @@ fn arrivals(alloc: Global, sent: &Sent, shown: &Rows) -> Result<Vec<usize>, NoMe
 }
 
 /// The bars of what lasts in the rows that are shown.
-fn bars(alloc: Global, record: &Record, shown: &Rows) -> Result<Vec<Bar>, NoMemory> {
+fn bars(alloc: Global, record: &Record, shown: &Rows) -> Growing<Bar> {
     let mut bars = Growing::new(alloc);
     for span in &record.spans {
         if span.first <= shown.to && span.last >= shown.from {
@@ -158,7 +171,7 @@ fn bars(alloc: Global, record: &Record, shown: &Rows) -> Result<Vec<Bar>, NoMemo
             }
         }
     }
-    bars.finish()
+    bars
 }
 
 /// The bar of something that lasts.

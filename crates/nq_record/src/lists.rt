@@ -49,6 +49,12 @@ impl<T: Drop> Growing<T> {
         }
     }
 
+    /// The items, as many as there was memory for.
+    pub(crate) fn into_items(self) -> Vec<T> {
+        let Growing { items, is_short: _ } = self;
+        items
+    }
+
     /// The items.
     pub(crate) fn finish(self) -> Result<Vec<T>, NoMemory> {
         let Growing { items, is_short } = self;

@@ -50,16 +50,20 @@ impl Rows {
         }
     }
 
-    /// The rows.
-    pub(crate) fn finish(self) -> Result<Vec<Row>, NoMemory> {
+    /// Whether memory was wanting.
+    pub(crate) fn is_short(&self) -> bool {
+        self.rows.is_short || self.places.is_short
+    }
+
+    /// The rows, as many as there was memory for.
+    pub(crate) fn into_rows(self) -> Vec<Row> {
         let Rows {
             from: _,
             to: _,
             rows,
-            places,
+            places: _places,
         } = self;
-        places.finish()?;
-        rows.finish()
+        rows.into_items()
     }
 }
 
@@ -160,28 +164,33 @@ impl Idle {
             ("#-#", "# ticks")
         };
         let last = self.first.saturating_add(self.count).saturating_sub(1);
-        let name = filled(alloc, name, &[self.first as u64, last as u64]);
-        let text = filled(alloc, text, &[self.count as u64]);
         let side = outer(hosts, self.party);
+        let text = filled(alloc, text, &[self.count as u64]);
         let mut notes = Growing::new(alloc);
         notes.add(note(side, Sign::Plain, text));
         let party = place_of(hosts, self.party);
-        row(name, clocks.take(alloc), party, notes.finish())
+        let numbers = [self.first as u64, last as u64];
+        row(alloc, name, &numbers, clocks, party, notes)
     }
 }
 
-/// A row, if there was memory for what stands in it.
+/// A row with these notes, whose name is a form and its numbers.
 fn row(
-    name: Result<String, NoMemory>,
-    clocks: Result<Vec<Option<u64>>, NoMemory>,
+    alloc: Global,
+    form: &str,
+    numbers: &[u64],
+    clocks: &mut Clocks,
     party: usize,
-    notes: Result<Vec<Note>, NoMemory>,
+    notes: Growing<Note>,
 ) -> Result<Row, NoMemory> {
+    let notes = notes.finish()?;
+    let name = filled(alloc, form, numbers)?;
+    let clocks = clocks.take(alloc)?;
     Ok(Row {
-        name: name?,
-        clocks: clocks?,
+        name,
+        clocks,
         party,
-        notes: notes?,
+        notes,
     })
 }
 
@@ -202,18 +211,13 @@ fn event_row(
     moment: &Moment,
     clocks: &mut Clocks,
 ) -> Result<Row, NoMemory> {
-    let name = filled(alloc, "#", &[place as u64]);
     let party = place_of(record.hosts, moment.party);
-    row(
-        name,
-        clocks.take(alloc),
-        party,
-        notes(alloc, record, moment),
-    )
+    let notes = notes(alloc, record, moment);
+    row(alloc, "#", &[place as u64], clocks, party, notes)
 }
 
 /// The notes of an event.
-fn notes(alloc: Global, record: &Record, moment: &Moment) -> Result<Vec<Note>, NoMemory> {
+fn notes(alloc: Global, record: &Record, moment: &Moment) -> Growing<Note> {
     let mut notes = Growing::new(alloc);
     let side = arrival_note(alloc, record, moment, &mut notes);
     entry_notes(alloc, record, moment, side, &mut notes);
@@ -221,7 +225,7 @@ fn notes(alloc: Global, record: &Record, moment: &Moment) -> Result<Vec<Note>, N
     if notes.len() == 0 {
         notes.add(note(side, Sign::Plain, owned(alloc, act_word(moment.act))));
     }
-    notes.finish()
+    notes
 }
 
 /// The note of the packet that arrives, if one does; the side on which the other notes stand.
