@@ -14,10 +14,8 @@ pub(crate) fn put_right(page: &mut Page, number: u64, width: usize, end: &str) {
     page.put(&[Part::Number(number), Part::Text(end)]);
 }
 
-/// Puts parts, with so many blanks behind them that they fill a column.
-pub(crate) fn put_left(page: &mut Page, parts: &[Part], width: usize) {
-    let end = page.len().saturating_add(width);
-    page.put(parts);
+/// Puts so many blanks that the page ends there.
+pub(crate) fn put_blanks(page: &mut Page, end: usize) {
     for _ in page.len()..end {
         page.put(&[Part::Text(" ")]);
     }

@@ -1,7 +1,7 @@
 //! Bars beside each other.
 
-use crate::chart::NoMemory;
 use crate::chart::chart::{Bar, Chart};
+use crate::lists::Growing;
 use std::alloc::Global;
 
 /// A lane beside a party, in which bars stand one below the other.
@@ -17,20 +17,25 @@ struct Lane {
 /// The lane of each bar, and how many lanes each party has.
 #[derive(Drop)]
 pub(crate) struct Lanes {
-    lanes: Vec<Lane>,
-    places: Vec<u64>,
+    lanes: Growing<Lane>,
+    places: Growing<u64>,
 }
 
 impl Lanes {
     /// Gives each bar the first lane of its party that is free.
-    pub(crate) fn of(alloc: Global, chart: &Chart) -> Result<Lanes, NoMemory> {
-        let mut lanes = Vec::new(alloc);
-        let mut places = Vec::new(alloc);
+    pub(crate) fn of(alloc: Global, chart: &Chart) -> Lanes {
+        let mut lanes = Growing::new(alloc);
+        let mut places = Growing::new(alloc);
         for bar in &chart.bars {
-            let place = take_lane(&mut lanes, bar)?;
-            places.push(place)?;
+            let place = take_lane(&mut lanes, bar);
+            places.push(place);
         }
-        Ok(Lanes { lanes, places })
+        Lanes { lanes, places }
+    }
+
+    /// Whether memory was wanting.
+    pub(crate) fn is_short(&self) -> bool {
+        self.lanes.is_short || self.places.is_short
     }
 
     /// The lane of a bar.
@@ -43,7 +48,7 @@ impl Lanes {
 
     /// How many lanes a party has.
     pub(crate) fn count(&self, party: usize) -> u64 {
-        count(&self.lanes, party)
+        count(&self.lanes.items, party)
     }
 }
 
@@ -53,18 +58,18 @@ fn count(lanes: &[Lane], party: usize) -> u64 {
 }
 
 /// Takes the first lane that is free where a bar begins, or a new one.
-fn take_lane(lanes: &mut Vec<Lane>, bar: &Bar) -> Result<u64, NoMemory> {
-    for lane in lanes.iter_mut() {
+fn take_lane(lanes: &mut Growing<Lane>, bar: &Bar) -> u64 {
+    for lane in lanes.items.iter_mut() {
         if lane.party == bar.party && lane.last < bar.first {
             lane.last = bar.last;
-            return Ok(lane.place);
+            return lane.place;
         }
     }
-    let place = count(lanes, bar.party);
+    let place = count(&lanes.items, bar.party);
     lanes.push(Lane {
         party: bar.party,
         place,
         last: bar.last,
-    })?;
-    Ok(place)
+    });
+    place
 }

@@ -1,9 +1,9 @@
 //! Where the parties stand.
 
-use crate::chart::NoMemory;
 use crate::chart::bars::Lanes;
 use crate::chart::chart::{Chart, Side};
 use crate::chart::style::{CLOCK, LANE, LETTER};
+use crate::lists::Growing;
 use std::alloc::Global;
 
 /// How far from its line the first thing beside a party stands, in pixels.
@@ -37,15 +37,15 @@ impl Post {
 /// The parties on the page.
 #[derive(Drop)]
 pub(crate) struct Posts {
-    posts: Vec<Post>,
+    pub(crate) posts: Growing<Post>,
     /// How wide the page is, in pixels.
     pub(crate) width: u64,
 }
 
 impl Posts {
     /// Gives each party its place: so far from the next one that no text of the one reaches the line of the other.
-    pub(crate) fn of(alloc: Global, chart: &Chart, lanes: &Lanes) -> Result<Posts, NoMemory> {
-        let mut posts = Vec::new(alloc);
+    pub(crate) fn of(alloc: Global, chart: &Chart, lanes: &Lanes) -> Posts {
+        let mut posts = Growing::new(alloc);
         let mut x = edge(chart.columns.len() as u64);
         let mut before = 0;
         for (place, column) in chart.columns.iter().enumerate() {
@@ -63,10 +63,10 @@ impl Posts {
             x = x.saturating_add(apart);
             post.x = x;
             before = room(chart, place, Side::Right, &post);
-            posts.push(post)?;
+            posts.push(post);
         }
         let width = x.saturating_add(before).max(360);
-        Ok(Posts { posts, width })
+        Posts { posts, width }
     }
 
     /// A party.

@@ -20,7 +20,10 @@ use std::alloc::Global;
 pub fn draw(alloc: Global, chart: &Chart, page: &mut Vec<u8>) -> Result<(), NoMemory>
     ensures { Extends page.old.items page.new.items }
 {
-    let layout = Layout::of(alloc, chart)?;
+    let layout = Layout::of(alloc, chart);
+    if layout.is_short() {
+        return Err(NoMemory::Memory);
+    }
     let mut drawn = Page::new(alloc);
     open(&mut drawn, chart, &layout);
     legend(&mut drawn, &layout);

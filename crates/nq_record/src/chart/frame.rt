@@ -3,7 +3,7 @@
 use crate::chart::chart::Chart;
 use crate::chart::columns::edge;
 use crate::chart::layout::Layout;
-use crate::chart::legend::{ENTRIES, Entry, Place, SAMPLE, Sample};
+use crate::chart::legend::{Entry, SAMPLE, Sample};
 use crate::chart::pages::Page;
 use crate::chart::parts::Part;
 use crate::chart::style::{CLOCK, HEADS, STYLE};
@@ -12,28 +12,21 @@ use crate::chart::style::{CLOCK, HEADS, STYLE};
 pub(crate) fn open(page: &mut Page, chart: &Chart, layout: &Layout) {
     let width = layout.posts.width;
     let height = layout.steps.end.saturating_add(16);
-    page.put(&[
-        Part::Text("<svg xmlns=\"http://www.w3.org/2000/svg\" width=\""),
-        Part::Number(width),
-        Part::Text("\" height=\""),
-        Part::Number(height),
-        Part::Text("\" viewBox=\"0 0 "),
-        Part::Number(width),
-        Part::Text(" "),
-        Part::Number(height),
-        Part::Text("\" role=\"img\">\n"),
-        Part::Text(STYLE),
-        Part::Text(HEADS),
-    ]);
+    page.fill(
+        "<svg xmlns=\"http://www.w3.org/2000/svg\" width=\"#\" height=\"#\" viewBox=\"0 0 # #\" role=\"img\">\n",
+        &[width, height, width, height],
+    );
+    page.put(&[Part::Text(STYLE), Part::Text(HEADS)]);
     titles(page, chart);
 }
 
 /// The title, for those who see the page and for those who hear it.
 fn titles(page: &mut Page, chart: &Chart) {
     let title = chart.title.as_str();
-    page.put_within(&[Part::Text("\n<title>")], title, "</title>\n");
+    page.put_within("\n<title>", &[], title, "</title>\n");
     page.put_within(
-        &[Part::Text("<text class=\"h\" x=\"8\" y=\"22\">")],
+        "<text class=\"h\" x=\"8\" y=\"22\">",
+        &[],
         title,
         "</text>\n",
     );
@@ -41,49 +34,32 @@ fn titles(page: &mut Page, chart: &Chart) {
 
 /// The legend.
 pub(crate) fn legend(page: &mut Page, layout: &Layout) {
-    for (number, entry) in ENTRIES.iter().enumerate() {
-        if let Some(place) = layout.legend.get(number) {
-            legend_entry(page, entry, place);
-        }
+    for entry in &layout.legend.entries.items {
+        put_sample(page, entry);
+        page.fill(
+            "<text x=\"#\" y=\"#\">",
+            &[entry.x.saturating_add(SAMPLE), entry.y],
+        );
+        page.put(&[Part::Text(entry.sample.name()), Part::Text("</text>\n")]);
     }
 }
 
-/// An entry of the legend.
-fn legend_entry(page: &mut Page, entry: &Entry, place: Place) {
-    put_sample(page, entry.sample, place);
-    page.put(&[
-        Part::Text("<text x=\""),
-        Part::Number(place.x.saturating_add(SAMPLE)),
-        Part::Text("\" y=\""),
-        Part::Number(place.y),
-        Part::Text("\">"),
-        Part::Text(entry.name),
-        Part::Text("</text>\n"),
-    ])
-}
-
-/// A sample of a bar or an arrow.
-fn put_sample(page: &mut Page, sample: Sample, place: Place) {
-    match sample {
-        Sample::Bar(class) => page.put(&[
-            Part::Text("<rect class=\""),
-            Part::Text(class),
-            Part::Text("\" x=\""),
-            Part::Number(place.x),
-            Part::Text("\" y=\""),
-            Part::Number(place.y.saturating_sub(10)),
-            Part::Text("\" width=\"26\" height=\"12\"/>"),
-        ]),
-        Sample::Arrow(class) => page.put(&[
-            Part::Text("<path class=\""),
-            Part::Text(class),
-            Part::Text("\" d=\"M"),
-            Part::Number(place.x),
-            Part::Text(" "),
-            Part::Number(place.y.saturating_sub(4)),
-            Part::Text("h26\"/>"),
-        ]),
-    }
+/// The sample of an entry: a bar or an arrow.
+fn put_sample(page: &mut Page, entry: &Entry) {
+    let (mark, form, above) = match entry.sample {
+        Sample::Packet | Sample::Again | Sample::Lost => (
+            "<path class=\"",
+            "\" d=\"M# #h26\"/>",
+            4,
+        ),
+        _ => (
+            "<rect class=\"",
+            "\" x=\"#\" y=\"#\" width=\"26\" height=\"12\"/>",
+            10,
+        ),
+    };
+    page.put(&[Part::Text(mark), Part::Text(entry.sample.class())]);
+    page.fill(form, &[entry.x, entry.y.saturating_sub(above)]);
 }
 
 /// The names and lines of the parties.
@@ -102,30 +78,14 @@ fn party(page: &mut Page, chart: &Chart, layout: &Layout, place: usize) {
     let top = layout.legend.end;
     let above = top.saturating_sub(10);
     page.put_within(
-        &[
-            Part::Text("<path class=\"v\" d=\"M"),
-            Part::Number(post.x),
-            Part::Text(" "),
-            Part::Number(top),
-            Part::Text("V"),
-            Part::Number(layout.steps.end),
-            Part::Text("\"/><text class=\"p\" x=\""),
-            Part::Number(post.x),
-            Part::Text("\" y=\""),
-            Part::Number(above),
-            Part::Text("\">"),
-        ],
+        "<path class=\"v\" d=\"M# #V#\"/><text class=\"p\" x=\"#\" y=\"#\">",
+        &[post.x, top, layout.steps.end, post.x, above],
         name,
         "</text>",
     );
     page.put_within(
-        &[
-            Part::Text("<text class=\"d e\" x=\""),
-            Part::Number(clock_at(place)),
-            Part::Text("\" y=\""),
-            Part::Number(above),
-            Part::Text("\">"),
-        ],
+        "<text class=\"d e\" x=\"#\" y=\"#\">",
+        &[clock_at(place), above],
         name,
         "</text>\n",
     );

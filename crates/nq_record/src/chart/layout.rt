@@ -1,6 +1,5 @@
 //! Where all stands.
 
-use crate::chart::NoMemory;
 use crate::chart::bars::Lanes;
 use crate::chart::chart::Chart;
 use crate::chart::columns::Posts;
@@ -19,16 +18,24 @@ pub(crate) struct Layout {
 
 impl Layout {
     /// Gives all of a chart its place.
-    pub(crate) fn of(alloc: Global, chart: &Chart) -> Result<Layout, NoMemory> {
-        let lanes = Lanes::of(alloc, chart)?;
-        let posts = Posts::of(alloc, chart, &lanes)?;
-        let legend = Legend::of(alloc, posts.width)?;
-        let steps = Steps::of(alloc, chart, legend.end)?;
-        Ok(Layout {
+    pub(crate) fn of(alloc: Global, chart: &Chart) -> Layout {
+        let lanes = Lanes::of(alloc, chart);
+        let posts = Posts::of(alloc, chart, &lanes);
+        let legend = Legend::of(alloc, posts.width);
+        let steps = Steps::of(alloc, chart, legend.end);
+        Layout {
             lanes,
             posts,
             legend,
             steps,
-        })
+        }
+    }
+
+    /// Whether memory was wanting.
+    pub(crate) fn is_short(&self) -> bool {
+        self.lanes.is_short()
+            || self.posts.posts.is_short
+            || self.legend.entries.is_short
+            || self.steps.steps.is_short
     }
 }

@@ -1,56 +1,67 @@
 //! What the colours and arrows mean.
 
-use crate::chart::NoMemory;
 use crate::chart::style::LETTER;
+use crate::lists::Growing;
 use std::alloc::Global;
 
-/// What a sample in the legend shows.
+/// What a sample in the legend shows: arrows, and bars.
 #[derive(Clone, Copy)]
 pub(crate) enum Sample {
-    /// A bar of this class.
-    Bar(&'static str),
-    /// An arrow of this class.
-    Arrow(&'static str),
+    Packet,
+    Again,
+    Lost,
+    Reading,
+    Writing,
+    NonCaching,
+    Recovery,
 }
 
-/// A sample and its name.
+impl Sample {
+    /// Its class.
+    pub(crate) fn class(self) -> &'static str {
+        match self {
+            Sample::Packet => "a",
+            Sample::Again => "a g",
+            Sample::Lost => "x",
+            Sample::Reading => "n1",
+            Sample::Writing => "n2",
+            Sample::NonCaching => "n0",
+            Sample::Recovery => "n3",
+        }
+    }
+
+    /// Its name.
+    pub(crate) fn name(self) -> &'static str {
+        match self {
+            Sample::Packet => "packet",
+            Sample::Again => "arrives again",
+            Sample::Lost => "lost",
+            Sample::Reading => "reading lease",
+            Sample::Writing => "writing lease",
+            Sample::NonCaching => "non-caching lease",
+            Sample::Recovery => "recovery",
+        }
+    }
+}
+
+/// The samples, in their order.
+const SAMPLES: [Sample; 7] = [
+    Sample::Packet,
+    Sample::Again,
+    Sample::Lost,
+    Sample::Reading,
+    Sample::Writing,
+    Sample::NonCaching,
+    Sample::Recovery,
+];
+
+/// A sample, and where it stands on the page, in pixels from the left and from the upper edge.
 #[derive(Clone, Copy)]
 pub(crate) struct Entry {
     pub(crate) sample: Sample,
-    pub(crate) name: &'static str,
+    pub(crate) x: u64,
+    pub(crate) y: u64,
 }
-
-/// The entries of the legend, in their order.
-pub(crate) const ENTRIES: [Entry; 7] = [
-    Entry {
-        sample: Sample::Arrow("a"),
-        name: "packet",
-    },
-    Entry {
-        sample: Sample::Arrow("a g"),
-        name: "arrives again",
-    },
-    Entry {
-        sample: Sample::Arrow("x"),
-        name: "lost",
-    },
-    Entry {
-        sample: Sample::Bar("n1"),
-        name: "reading lease",
-    },
-    Entry {
-        sample: Sample::Bar("n2"),
-        name: "writing lease",
-    },
-    Entry {
-        sample: Sample::Bar("n0"),
-        name: "non-caching lease",
-    },
-    Entry {
-        sample: Sample::Bar("n3"),
-        name: "recovery",
-    },
-];
 
 /// Where the left edge of the legend is, in pixels.
 const LEFT: u64 = 8;
@@ -61,47 +72,37 @@ pub(crate) const SAMPLE: u64 = 38;
 /// How far the lines of the legend stand apart, in pixels.
 const APART: u64 = 18;
 
-/// A place on the page, in pixels from the left and from the upper edge.
-#[derive(Clone, Copy)]
-pub(crate) struct Place {
-    pub(crate) x: u64,
-    pub(crate) y: u64,
-}
-
-/// Where the entries of the legend stand.
+/// The legend.
 #[derive(Drop)]
 pub(crate) struct Legend {
-    places: Vec<Place>,
+    pub(crate) entries: Growing<Entry>,
     /// Where the first row begins, in pixels from the upper edge.
     pub(crate) end: u64,
 }
 
 impl Legend {
     /// Gives each entry its place, in lines that are no wider than the page.
-    pub(crate) fn of(alloc: Global, width: u64) -> Result<Legend, NoMemory> {
-        let mut places = Vec::new(alloc);
+    pub(crate) fn of(alloc: Global, width: u64) -> Legend {
+        let mut entries = Growing::new(alloc);
         let mut x = LEFT;
         let mut y = 44;
-        for entry in &ENTRIES {
-            let wide = SAMPLE.saturating_add((entry.name.len() as u64).saturating_mul(LETTER));
+        for sample in &SAMPLES {
+            let letters = sample.name().len() as u64;
+            let wide = SAMPLE.saturating_add(letters.saturating_mul(LETTER));
             if x.saturating_add(wide) > width {
                 x = LEFT;
                 y = APART.saturating_add(y);
             }
-            places.push(Place { x, y })?;
+            entries.push(Entry {
+                sample: *sample,
+                x,
+                y,
+            });
             x = x.saturating_add(wide).saturating_add(16);
         }
-        Ok(Legend {
-            places,
+        Legend {
+            entries,
             end: y.saturating_add(46),
-        })
-    }
-
-    /// Where an entry stands.
-    pub(crate) fn get(&self, entry: usize) -> Option<Place> {
-        match self.places.get(entry) {
-            Some(place) => Some(*place),
-            None => None,
         }
     }
 }

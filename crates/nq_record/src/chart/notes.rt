@@ -39,15 +39,8 @@ fn edge_of(page: &mut Page, width: u64, row: &Row, step: Step) {
 /// The name of a moment, over a thin line.
 fn name(page: &mut Page, width: u64, row: &Row, step: Step) {
     page.put_within(
-        &[
-            Part::Text("<path class=\"r\" d=\"M0 "),
-            Part::Number(step.top),
-            Part::Text("H"),
-            Part::Number(width),
-            Part::Text("\"/><text class=\"d\" x=\"8\" y=\""),
-            Part::Number(step.arrive.saturating_add(12)),
-            Part::Text("\">"),
-        ],
+        "<path class=\"r\" d=\"M0 #H#\"/><text class=\"d\" x=\"8\" y=\"#\">",
+        &[step.top, width, step.arrive.saturating_add(12)],
         row.name.as_str(),
         "</text>\n",
     );
@@ -64,15 +57,10 @@ fn clocks(page: &mut Page, row: &Row, step: Step) {
 
 /// What the clock of a party shows.
 fn clock(page: &mut Page, place: usize, time: u64, step: Step) {
-    page.put(&[
-        Part::Text("<text class=\"d e\" x=\""),
-        Part::Number(clock_at(place)),
-        Part::Text("\" y=\""),
-        Part::Number(step.arrive.saturating_add(12)),
-        Part::Text("\">"),
-        Part::Number(time),
-        Part::Text("</text>"),
-    ]);
+    page.fill(
+        "<text class=\"d e\" x=\"#\" y=\"#\">#</text>",
+        &[clock_at(place), step.arrive.saturating_add(12), time],
+    );
 }
 
 /// The notes of all moments, each beside the party that acts.
@@ -92,15 +80,11 @@ fn dot(page: &mut Page, row: &Row, post: Post, step: Step) {
         Some(note) => class(note.sign),
         None => "d",
     };
-    page.put(&[
-        Part::Text("<circle class=\""),
-        Part::Text(class),
-        Part::Text("\" cx=\""),
-        Part::Number(post.x),
-        Part::Text("\" cy=\""),
-        Part::Number(step.arrive.saturating_add(8)),
-        Part::Text("\" r=\"4\"/>"),
-    ]);
+    page.put(&[Part::Text("<circle class=\""), Part::Text(class)]);
+    page.fill(
+        "\" cx=\"#\" cy=\"#\" r=\"4\"/>",
+        &[post.x, step.arrive.saturating_add(8)],
+    );
 }
 
 /// The notes on a side, one below the other.
@@ -117,21 +101,10 @@ fn side_notes(page: &mut Page, row: &Row, side: Side, post: Post, step: Step) {
 /// A note.
 fn note(page: &mut Page, shown: &Note, post: Post, y: u64) {
     let from = post.text_from(shown.side);
-    let (ending, x) = match shown.side {
-        Side::Left => (" e\" x=\"", post.x.saturating_sub(from)),
-        Side::Right => ("\" x=\"", post.x.saturating_add(from)),
+    let (form, x) = match shown.side {
+        Side::Left => (" e\" x=\"#\" y=\"#\">", post.x.saturating_sub(from)),
+        Side::Right => ("\" x=\"#\" y=\"#\">", post.x.saturating_add(from)),
     };
-    page.put_within(
-        &[
-            Part::Text("<text class=\""),
-            Part::Text(class(shown.sign)),
-            Part::Text(ending),
-            Part::Number(x),
-            Part::Text("\" y=\""),
-            Part::Number(y),
-            Part::Text("\">"),
-        ],
-        shown.text.as_str(),
-        "</text>\n",
-    );
+    page.put(&[Part::Text("<text class=\""), Part::Text(class(shown.sign))]);
+    page.put_within(form, &[x, y], shown.text.as_str(), "</text>\n");
 }

@@ -48,20 +48,10 @@ fn arrows(page: &mut Page, layout: &Layout, packet: &Packet, from: Post, to: Pos
 
 /// An arrow from a sending to an arrival, each a place in pixels from the left and from the upper edge.
 fn arrow(page: &mut Page, class: &str, from: (u64, u64), to: (u64, u64), text: &str) {
+    page.put(&[Part::Text("<path class=\""), Part::Text(class)]);
     page.put_within(
-        &[
-            Part::Text("<path class=\""),
-            Part::Text(class),
-            Part::Text("\" d=\"M"),
-            Part::Number(from.0),
-            Part::Text(" "),
-            Part::Number(from.1),
-            Part::Text("L"),
-            Part::Number(to.0),
-            Part::Text(" "),
-            Part::Number(to.1),
-            Part::Text("\"><title>"),
-        ],
+        "\" d=\"M# #L# #\"><title>",
+        &[from.0, from.1, to.0, to.1],
         text,
         "</title></path>\n",
     );
@@ -111,20 +101,10 @@ fn bar(page: &mut Page, layout: &Layout, shown: &Bar, post: Post, lane: u64) {
     };
     let y = first.arrive;
     let high = last.send.saturating_sub(y);
+    page.put(&[Part::Text("<rect class=\""), Part::Text(class(shown.tint))]);
     page.put_within(
-        &[
-            Part::Text("<rect class=\""),
-            Part::Text(class(shown.tint)),
-            Part::Text("\" x=\""),
-            Part::Number(x),
-            Part::Text("\" y=\""),
-            Part::Number(y),
-            Part::Text("\" width=\""),
-            Part::Number(BAR),
-            Part::Text("\" height=\""),
-            Part::Number(high),
-            Part::Text("\" rx=\"2\"><title>"),
-        ],
+        "\" x=\"#\" y=\"#\" width=\"#\" height=\"#\" rx=\"2\"><title>",
+        &[x, y, BAR, high],
         shown.text.as_str(),
         "</title></rect>\n",
     );
@@ -140,13 +120,8 @@ fn letters(page: &mut Page, shown: &Bar, x: u64, y: u64, high: u64) {
         return;
     }
     page.put_within(
-        &[
-            Part::Text("<text class=\"b\" transform=\"translate("),
-            Part::Number(x.saturating_add(3)),
-            Part::Text(" "),
-            Part::Number(y.saturating_add(3)),
-            Part::Text(")rotate(90)\">"),
-        ],
+        "<text class=\"b\" transform=\"translate(# #)rotate(90)\">",
+        &[x.saturating_add(3), y.saturating_add(3)],
         shown.text.as_str(),
         "</text>\n",
     );

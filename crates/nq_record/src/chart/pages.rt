@@ -5,7 +5,7 @@ ghost use Rattle.std.specs.List.{flat_map};
 ghost use Rattle.nq_record.specs.Page.{Closes, Extends, added, escaped_byte, spelled};
 
 use crate::chart::NoMemory;
-use crate::chart::parts::{Part, text_of};
+use crate::chart::parts::{Part, filled, text_of};
 use crate::chart::text::escape;
 use std::alloc::Global;
 use std::marker::Model;
@@ -54,9 +54,17 @@ impl Page {
         }
     }
 
-    /// Adds a text as XML reads it again, between parts before it and an end behind it.
-    pub(crate) fn put_within(&mut self, mark: &[Part], text: &str, end: &str) {
-        self.put(mark);
+    /// Adds a form in which these numbers stand for the signs `#`, in their order.
+    pub(crate) fn fill(&mut self, form: &str, numbers: &[u64]) {
+        match filled(self.alloc, form, numbers) {
+            Ok(text) => self.put(&[Part::Text(text.as_str())]),
+            Err(_) => self.is_short = true,
+        }
+    }
+
+    /// Adds a text as XML reads it again, between a form with its numbers before it and an end behind it.
+    pub(crate) fn put_within(&mut self, form: &str, numbers: &[u64], text: &str, end: &str) {
+        self.fill(form, numbers);
         self.escape(text);
         self.put(&[Part::Text(end)]);
     }

@@ -1,8 +1,8 @@
 //! Where the moments stand.
 
-use crate::chart::NoMemory;
 use crate::chart::chart::{Chart, Row, Side};
 use crate::chart::style::LINE;
+use crate::lists::Growing;
 use std::alloc::Global;
 
 /// A moment on the page. All is in pixels from the upper edge.
@@ -19,23 +19,23 @@ pub(crate) struct Step {
 /// The moments on the page.
 #[derive(Drop)]
 pub(crate) struct Steps {
-    steps: Vec<Step>,
+    pub(crate) steps: Growing<Step>,
     /// Where the last one ends.
     pub(crate) end: u64,
 }
 
 impl Steps {
     /// Gives each moment its place, the first one below the head: so high that its notes stand one below the other.
-    pub(crate) fn of(alloc: Global, chart: &Chart, head: u64) -> Result<Steps, NoMemory> {
-        let mut steps = Vec::new(alloc);
+    pub(crate) fn of(alloc: Global, chart: &Chart, head: u64) -> Steps {
+        let mut steps = Growing::new(alloc);
         let mut top = head;
         for row in &chart.rows {
             let arrive = top.saturating_add(6);
             let send = arrive.saturating_add(height(row));
-            steps.push(Step { top, arrive, send })?;
+            steps.push(Step { top, arrive, send });
             top = send.saturating_add(6);
         }
-        Ok(Steps { steps, end: top })
+        Steps { steps, end: top }
     }
 
     /// A moment.
