@@ -74,16 +74,6 @@ pub stands_linked : (key : Spot) (whole before : List Entry) (who : Who) (file b
 stands_linked key whole before who file block e entry h =
     subst (λ k. is_link Writes k entry ≡ true) (sym e) (stands_linked_at whole before who file block entry h)
 
--- a Z that cuts a block has the key of its file
-cuts_linked_at : (file block : ℕ) (entry : Entry) → cuts entry file block ≡ true → is_link Cuts (block_spot file 0) entry ≡ true
-cuts_linked_at file block (Z who q on from to) h =
-    let p = and_parts (nat_eq on file) (nat_le to block) h in
-    and_from (nat_eq on file) (nat_eq 0 0) p.0 refl
-cuts_linked_at file block other h = absurd (cc)
-
-pub cuts_linked : (key : Spot) (file block : ℕ) → key ≡ block_spot file 0 → (entry : Entry) → cuts entry file block ≡ true → is_link Cuts key entry ≡ true
-cuts_linked key file block e entry h = subst (λ k. is_link Cuts k entry ≡ true) (sym e) (cuts_linked_at file block entry h)
-
 -- ---- values
 
 value_past : (test : Entry → Bool) (file block : ℕ) (x : Entry) (before : List Entry) → test x ≡ false → cuts x file block ≡ false

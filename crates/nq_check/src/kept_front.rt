@@ -1,6 +1,6 @@
 //! A fast pass over the answers that are kept.
 
-ghost use Rattle.std.specs.Prelude.{◌≡◌, IfOk, IsTrue, Some, reverse, take, true};
+ghost use Rattle.std.specs.Prelude.{◌≡◌, [], IfOk, IsTrue, Some, reverse, take, true};
 ghost use Rattle.std.specs.List.{slice_get};
 ghost use Rattle.nq_check.specs.Fronts.{KeepsBelow};
 ghost use Rattle.nq_check.specs.Kept.{is_kept, is_kept_at};
@@ -108,6 +108,28 @@ fn is_kept_at(
     }
 }
 
+/// How far the answers of a journal are kept, one after another, behind a trail that has nothing yet.
+fn keep_all(
+    trail: &mut Trail,
+    tables: &Tables,
+    fates: &Fates,
+    whole: &[Entry],
+    ordered: usize,
+) -> Result<usize, NoMemory>
+    requires tables { AreTables whole.now tables.now }
+    requires ordered { KeepsBelow Rule.Ordered whole.now ordered }
+    requires none { (trail.old.delays.heads.entries ≡ []) × (trail.old.delays.earlier.items ≡ []) }
+    ensures { IfOk result (KeepsBelow Rule.Synchronized whole.now) }
+{
+    for (place, entry) in whole.iter().enumerate() {
+        if place >= ordered || !is_kept_at(tables, fates, trail, whole, place, entry) {
+            return Ok(place);
+        }
+        take_in(trail, tables, whole, place, entry)?;
+    }
+    Ok(whole.len())
+}
+
 /// How far the answers of a journal are kept, one after another, among its entries that stand in order.
 pub(crate) fn kept_front(
     alloc: Global,
@@ -121,11 +143,5 @@ pub(crate) fn kept_front(
     ensures { IfOk result (KeepsBelow Rule.Synchronized whole.now) }
 {
     let mut trail = no_trail(alloc);
-    for (place, entry) in whole.iter().enumerate() {
-        if place >= ordered || !is_kept_at(tables, fates, &trail, whole, place, entry) {
-            return Ok(place);
-        }
-        take_in(&mut trail, tables, whole, place, entry)?;
-    }
-    Ok(whole.len())
+    keep_all(&mut trail, tables, fates, whole, ordered)
 }

@@ -5,30 +5,17 @@ ghost use Rattle.nq_model.specs.Journal.{call_of, told_by};
 ghost use Rattle.nq_model.specs.JournalTest.{exists, is_answer, is_open, speaks_of};
 ghost use Rattle.nq_model.specs.LegalTest.{is_reading};
 ghost use Rattle.nq_model.specs.OrderedTest.{call_resizes, has_open, is_open_call, open_call, writes};
-ghost use Rattle.nq_model.specs.ReportedTest.{is_busy_answer, is_reporting};
+ghost use Rattle.nq_model.specs.ReportedTest.{is_reporting};
 
-use crate::rules::entries::{is_busy_answer, told_by};
-use crate::sought::{Sought, is_near};
+use crate::rules::entries::told_by;
+use crate::sought::{Sought, is_among, is_near};
 use nq_base::{BlockNo, Entry, FileId, Told, Who};
 
 /// Whether an A of a call stands among the entries.
 pub(crate) fn is_answered(entries: &[Entry], by: &Who, n: u64) -> bool
     ensures { result ≡ exists (is_answer by.now n) (reverse entries.now) }
 {
-    is_near(entries, 0, Sought::Answer { who: by, q: n })
-}
-
-#[tactic(auto, using(crate::proofs::Backwards::last_first))]
-/// Whether an A `busy` of a call stands among the entries.
-pub(crate) fn is_busy(entries: &[Entry], by: &Who, n: u64) -> bool
-    ensures { result ≡ exists (is_busy_answer by.now n) (reverse entries.now) }
-{
-    let mut found = false;
-    for entry in entries {
-        let here = is_busy_answer(entry, by, n);
-        found = here || found;
-    }
-    found
+    is_among(entries, Sought::Answer { who: by, q: n })
 }
 
 #[tactic(auto, using(crate::proofs::Backwards::last_first))]

@@ -3,13 +3,14 @@
 ghost use Rattle.std.specs.Prelude.{◌≡◌, ◌≤◌, length, reverse};
 ghost use Rattle.nq_model.specs.JournalTest.{each, exists, is_call, throughout};
 ghost use Rattle.nq_model.specs.LegalTest.{is_counted_by};
-ghost use Rattle.nq_model.specs.OrderedTest.{is_before_call, is_busy_next, is_call_below, is_call_in_order, is_in_order, is_no_other, is_numbered, is_read_in_order, is_resize_by, is_resize_in_order, is_write_in_order, is_write_of};
+ghost use Rattle.nq_model.specs.OrderedTest.{is_before_call, is_busy_next, is_call_below, is_call_in_order, is_in_order, is_no_other, is_numbered, is_read_in_order, is_resize_in_order, is_write_in_order, is_write_of};
 
 use crate::rules::calls::{
     call_of, has_open, is_answered, is_open, is_open_call, open_call, resizes, writes,
 };
-use crate::rules::entries::{is_call, is_call_below, is_numbered, is_resize_by};
+use crate::rules::entries::{is_call, is_call_below, is_numbered};
 use crate::rules::legal::{is_counted, is_counted_by};
+use crate::sought::{Sought, is_among};
 use nq_base::{BlockNo, Entry, FileId, Number, Said, Who};
 
 // ---- calls
@@ -155,24 +156,13 @@ fn is_write_in_order(before: &[Entry], write: &Writing) -> bool
 
 // ---- resizes, removals and reads
 
-#[tactic(auto, using(crate::proofs::Backwards::last_first))]
-/// Whether a Z of a call stands among the entries.
-fn is_resized(before: &[Entry], by: &Who, n: u64) -> bool
-    ensures { result ≡ exists (is_resize_by by.now n) (reverse before.now) }
-{
-    let mut found = false;
-    for entry in before {
-        let here = is_resize_by(entry, by, n);
-        found = here || found;
-    }
-    found
-}
-
 /// Whether a Z stands in order.
 fn is_resize_in_order(before: &[Entry], by: &Who, n: u64, on: FileId, to: u32) -> bool
     ensures { result ≡ is_resize_in_order (reverse before.now) by.now n on to }
 {
-    is_open(before, by, n) && resizes(on, to, call_of(before, by, n)) && !is_resized(before, by, n)
+    is_open(before, by, n)
+        && resizes(on, to, call_of(before, by, n))
+        && !is_among(before, Sought::Resize { who: by, q: n })
 }
 
 #[tactic(auto, using(crate::proofs::Backwards::last_first))]

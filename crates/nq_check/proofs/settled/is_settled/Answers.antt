@@ -5,12 +5,12 @@ use Rattle.nq_model.specs.SynchronizedTest.{is_named_loss}
 use Rattle.nq_check.proofs.OwnWrite.{or_here, or_there}
 use Rattle.nq_check.proofs.settled.is_settled.Goals as goal
 
-pub returns-then-is_stored_at : goal.returns-then-is_stored_at
-returns-then-is_stored_at c =
-    let yes : IsTrue c.is_stored_at.result = search rules in
+pub returns-then-is_there : goal.returns-then-is_there
+returns-then-is_there c =
+    let yes : IsTrue c.is_there.result = search rules in
     λ t. or_here (is_stored (reverse c.args.stores.now) c.args.write.now)
     (exists (is_named_loss (reverse c.args.whole.now) (reverse c.args.answered.now) c.args.write.now) (reverse c.args.whole.now))
-    (c.is_stored_at.ensures yes)
+    (c.is_there.ensures yes)
 
 pub returns : goal.returns
 returns c =
