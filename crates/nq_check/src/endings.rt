@@ -267,21 +267,6 @@ fn take_end(ends: &mut Ends, place: usize, entry: &Entry) -> Result<(), NoMemory
     Ok(())
 }
 
-/// How far a lease ended before each L and behind each write that it covers, one entry after another.
-fn end_all(ends: &mut Ends, tables: &Tables, whole: &[Entry]) -> Result<usize, NoMemory>
-    requires { AreTables whole.now tables.now }
-    ensures { IfOk result (λ front. PassBetween (is_ended whole.now) whole.now 0 front) }
-{
-    let rising = rising_front(whole);
-    for (place, entry) in whole.iter().enumerate() {
-        if place >= rising || !is_ended_at(ends, tables, whole, place, entry) {
-            return Ok(place);
-        }
-        take_end(ends, place, entry)?;
-    }
-    Ok(whole.len())
-}
-
 /// A place below which a lease ended before each L and behind each write that it covers.
 pub(crate) fn endings_front(
     alloc: Global,
@@ -291,11 +276,18 @@ pub(crate) fn endings_front(
     requires { AreTables whole.now tables.now }
     ensures { IfOk result (λ front. PassBetween (is_ended whole.now) whole.now 0 front) }
 {
+    let rising = rising_front(whole);
     let mut ends = Ends {
         silent: HashMap::new(alloc),
         opened: 0,
         boot: 0,
         booted: 0,
     };
-    end_all(&mut ends, tables, whole)
+    for (place, entry) in whole.iter().enumerate() {
+        if place >= rising || !is_ended_at(&ends, tables, whole, place, entry) {
+            return Ok(place);
+        }
+        take_end(&mut ends, place, entry)?;
+    }
+    Ok(whole.len())
 }

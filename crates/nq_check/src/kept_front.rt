@@ -57,27 +57,6 @@ fn is_seen_kept(
     }
 }
 
-/// Whether what the A at a place says, which says ok, is kept.
-fn is_ok_kept(
-    tables: &Tables,
-    fates: &Fates,
-    trail: &Trail,
-    whole: &[Entry],
-    place: usize,
-    entry: &Entry,
-    asked: &Asked,
-) -> bool
-    requires ready { IsReady whole.now place tables.now trail.now.delays }
-    requires there { slice_get whole.now place ≡ Some entry.now }
-    requires answer { is_answer asked.now.who.now asked.now.q entry.now ≡ true }
-    ensures { result ≡ is_kept (reverse whole.now) (reverse (take place whole.now)) asked.now.who.now asked.now.q asked.now.call }
-{
-    if is_seen_kept(tables, fates, trail, whole, place, entry, asked) {
-        return true;
-    }
-    is_kept(whole, &whole[..place], asked.who, asked.q, &asked.call)
-}
-
 /// Whether an A that says ok is kept, where links show what its call asks.
 fn is_kept_at(
     tables: &Tables,
@@ -102,7 +81,8 @@ fn is_kept_at(
                 q: *q,
                 call: call_along(&tables.calls, whole, who, *q),
             };
-            is_ok_kept(tables, fates, trail, whole, place, entry, &asked)
+            is_seen_kept(tables, fates, trail, whole, place, entry, &asked)
+                || is_kept(whole, &whole[..place], who, *q, &asked.call)
         }
         _ => true,
     }

@@ -1,9 +1,9 @@
 //! A fast test of entries that stand in order: it is true only where they do.
 
-ghost use Rattle.std.specs.Prelude.{◌≡◌, ◌+◌, ◌<◌, [], Some, IfOk, IsTrue, length, reverse, drop};
+ghost use Rattle.std.specs.Prelude.{◌≡◌, ◌+◌, ◌<◌, Some, IfOk, IsTrue, length, reverse, drop};
 ghost use Rattle.std.specs.List.{slice_get};
 ghost use Rattle.nq_check.specs.Fronts.{KeepsBelow};
-ghost use Rattle.nq_check.specs.InOrder.{AreLines, IsNext, StandsInOrder, is_else};
+ghost use Rattle.nq_check.specs.InOrder.{IsNext, StandsInOrder, is_else};
 ghost use Rattle.nq_check.specs.Tables.{AreTables};
 ghost use Rattle.nq_model.specs.OrderedTest.{is_busy_next};
 ghost use Rattle.nq_check.specs.declared.rules.Rule.TheVariants.{Ordered};
@@ -101,20 +101,6 @@ fn stands(
     }
 }
 
-/// How far the entries stand in order, one after another.
-fn order_all(lines: &mut Lines, tables: &Tables, whole: &[Entry]) -> Result<usize, NoMemory>
-    requires tables { AreTables whole.now tables.now }
-    requires none { AreLines (reverse whole.now) [] lines.old.entries }
-    ensures { IfOk result (λ front. KeepsBelow Ordered whole.now front) }
-{
-    for (place, entry) in whole.iter().enumerate() {
-        if !stands(tables, whole, lines, place, entry)? {
-            return Ok(place);
-        }
-    }
-    Ok(whole.len())
-}
-
 /// A place below which each entry stands in order.
 pub(crate) fn ordered_front(
     alloc: Global,
@@ -125,5 +111,10 @@ pub(crate) fn ordered_front(
     ensures { IfOk result (λ front. KeepsBelow Ordered whole.now front) }
 {
     let mut lines = HashMap::new(alloc);
-    order_all(&mut lines, tables, whole)
+    for (place, entry) in whole.iter().enumerate() {
+        if !stands(tables, whole, &mut lines, place, entry)? {
+            return Ok(place);
+        }
+    }
+    Ok(whole.len())
 }

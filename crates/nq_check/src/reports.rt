@@ -181,25 +181,6 @@ fn front_with(passes: bool, place: usize, front: usize) -> usize
     if passes { front } else { place }
 }
 
-/// How far each L is reported. The latest entries are looked at first.
-fn report_all(next: &mut Heads, found: &Found, whole: &[Entry]) -> Result<usize, NoMemory>
-    requires tables { AreTables whole.now found.now.tables.now }
-    requires ordered { KeepsBelow Rule.Ordered whole.now found.now.ordered }
-    ensures { IfOk result (λ front. PassBetween (is_told whole.now) whole.now 0 front) }
-{
-    let mut front = whole.len();
-    let mut left = whole.len();
-    while left > 0 {
-        let place = left - 1;
-        let entry = &whole[place];
-        let told = is_told(found, next, whole, place, entry);
-        front = front_with(told, place, front);
-        take_report(next, whole, place, entry)?;
-        left = place;
-    }
-    Ok(front)
-}
-
 /// A place below which each L is reported.
 pub(crate) fn reports_front(
     alloc: Global,
@@ -211,5 +192,15 @@ pub(crate) fn reports_front(
     ensures { IfOk result (λ front. PassBetween (is_told whole.now) whole.now 0 front) }
 {
     let mut next = HashMap::new(alloc);
-    report_all(&mut next, found, whole)
+    let mut front = whole.len();
+    let mut left = whole.len();
+    while left > 0 {
+        let place = left - 1;
+        let entry = &whole[place];
+        let told = is_told(found, &next, whole, place, entry);
+        front = front_with(told, place, front);
+        take_report(&mut next, whole, place, entry)?;
+        left = place;
+    }
+    Ok(front)
 }

@@ -82,24 +82,6 @@ fn is_named_loss(
     }
 }
 
-/// Whether the entry at a place is an L that covers a write, and an A before the answer names it.
-fn is_told_at(
-    tables: &Tables,
-    fates: &Fates,
-    whole: &[Entry],
-    answered: &[Entry],
-    at: usize,
-    write: &Entry,
-) -> bool
-    requires tables { AreTables whole.now tables.now }
-    ensures { IsTrue result → exists (is_named_loss (reverse whole.now) (reverse answered.now) write.now) (reverse whole.now) ≡ true }
-{
-    match entry_at(whole, at) {
-        Some(entry) => is_named_loss(tables, &fates.named, whole, answered, write, entry),
-        None => false,
-    }
-}
-
 /// Whether an S among the `stores` covers a write, or an L that is told.
 fn is_settled(
     tables: &Tables,
@@ -116,7 +98,10 @@ fn is_settled(
     if is_there(stores, fate, Sought::Store(write)) {
         return true;
     }
-    is_told_at(tables, fates, whole, answered, fate, write)
+    match entry_at(whole, fate) {
+        Some(entry) => is_named_loss(tables, &fates.named, whole, answered, write, entry),
+        None => false,
+    }
 }
 
 /// Whether each of the delayed writes that have to be settled is stored, by an S among the `stores`, or told. Those before

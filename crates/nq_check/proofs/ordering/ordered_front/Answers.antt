@@ -4,7 +4,7 @@ use Rattle.nq_check.specs.InOrder.{AreLines}
 use Rattle.nq_check.specs.declared.rules.Rule.TheVariants.{Ordered}
 use Rattle.nq_check.proofs.MovesOn.{one_more}
 use Rattle.nq_check.proofs.Places.{taken_here}
-use Rattle.nq_check.proofs.ordering.order_all.Goals as goal
+use Rattle.nq_check.proofs.ordering.ordered_front.Goals as goal
 
 pub stands-requires-clause-there : goal.stands-requires-clause-there
 stands-requires-clause-there c = (

@@ -3,13 +3,13 @@ use Rattle.std.proofs.lemmas.Option.{slice_get_read}
 use Rattle.nq_check.specs.Losses.{is_told}
 use Rattle.nq_check.proofs.Passing.{pass_back, pass_none}
 use Rattle.nq_check.proofs.Reporting.{next_before, none_next}
-use Rattle.nq_check.proofs.reports.report_all.Goals as goal
+use Rattle.nq_check.proofs.reports.reports_front.Goals as goal
 
 pub loop-left-init : goal.loop-left-init
 loop-left-init c =
     let whole = c.args.whole.now in (
       omega arith,
-      none_next whole (length whole) c.args.next.now.entries refl,
+      none_next whole (length whole) c.new-next.result.entries refl,
       pass_none (is_told whole) whole (length whole) (length whole) (omega arith),
     )
 

@@ -2,7 +2,7 @@ use Rattle.std.proofs.Common.{rules, ◌≡◌, true, length, refl, arith}
 use Rattle.std.proofs.lemmas.Option.{slice_get_read}
 use Rattle.nq_check.specs.Losses.{is_ended}
 use Rattle.nq_check.proofs.Passing.{pass_up}
-use Rattle.nq_check.proofs.endings.end_all.Goals as goal
+use Rattle.nq_check.proofs.endings.endings_front.Goals as goal
 
 pub is_ended_at-requires-clause-linked : goal.is_ended_at-requires-clause-linked
 is_ended_at-requires-clause-linked c = record {
