@@ -1,14 +1,14 @@
 -- The value that stands for a read, by the last write that does and the last cut.
 use Rattle.std.proofs.Common.{◌≡◌, ◌<◌, ◌≤◌, ℕ, zero, suc, ◌+◌, ◌-◌, List, [], ◌∷◌, length, take, drop, reverse, Some, Bool, true, false, ◌&&◌, ◌||◌, inl, inr, refl, sym, ◌∙◌, ap, subst, arith}
-use Rattle.std.specs.Prelude.{if◌then◌else◌, nat_eq, nat_le}
+use Rattle.std.specs.Prelude.{if◌then◌else◌, nat_eq}
 use Rattle.std.specs.List.{slice_get}
-use Rattle.std.proofs.lemmas.Bool.{and_parts, and_from, cases_Bool, cases_lt}
+use Rattle.std.proofs.lemmas.Bool.{and_parts, cases_Bool, cases_lt}
 use Rattle.std.proofs.lemmas.Option.{slice_get_cases}
 use Rattle.nq_base.specs.declared.Entry.{Entry}
-use Rattle.nq_base.specs.declared.Entry.TheVariants.{W, Z}
+use Rattle.nq_base.specs.declared.Entry.TheVariants.{W}
 use Rattle.nq_base.specs.declared.Who.{Who}
 use Rattle.nq_check.specs.declared.links.Kind.{Kind}
-use Rattle.nq_check.specs.declared.links.Kind.TheVariants.{Writes, Cuts}
+use Rattle.nq_check.specs.declared.links.Kind.TheVariants.{Writes}
 use Rattle.nq_check.specs.Links.{IsFree, block_spot, is_link}
 use Rattle.nq_check.specs.Marks.{Spot}
 use Rattle.nq_check.specs.Tables.{HasBetween, NoneBetween}
