@@ -5,15 +5,14 @@ use Rattle.nq_check.specs.declared.rules.Rule.TheVariants.{Ordered, Synchronized
 use Rattle.nq_check.proofs.Linking.{linked_next, none_linked}
 use Rattle.nq_check.proofs.MovesOn.{none_below, one_more}
 use Rattle.nq_check.proofs.OwnWrite.{keeps_less}
-use Rattle.nq_check.proofs.kept_front.kept_front.Goals as goal
+use Rattle.nq_check.proofs.kept_front.keep_all.Goals as goal
 
 pub loop-place-init : goal.loop-place-init
 loop-place-init c =
     let whole = c.args.whole.now in
-    let trail = c.no_trail-trail.result in (
+    let trail = c.args.trail.now in (
       none_below Synchronized whole,
-      none_linked Delays whole trail.delays.heads.entries trail.delays.earlier.items c.no_trail-trail.ensures.0
-          c.no_trail-trail.ensures.1,
+      none_linked Delays whole trail.delays.heads.entries trail.delays.earlier.items c.requires.none.0 c.requires.none.1,
     )
 
 pub is_kept_at-requires-clause-ready : goal.is_kept_at-requires-clause-ready
