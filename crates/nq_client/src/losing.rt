@@ -1,14 +1,14 @@
 //! Delayed writes that are lost.
 
-ghost use Rattle.std.specs.Prelude.{◌≡◌, ◌≤◌, length, option_map, IsTrue, IfOk, OnOk, OnErr};
+ghost use Rattle.std.specs.Prelude.{◌≡◌, ◌≤◌, length, option_map, IsTrue, IfOk};
 ghost use Rattle.nq_model.specs.Client.{is_clean_in, losses_of, notice_on};
-ghost use Rattle.nq_model.specs.Hear.{all_dirty_in, breaks_chain, loses, push_refused, reports, vacates_noticed, without_lease};
+ghost use Rattle.nq_model.specs.Hear.{all_dirty_in, breaks_chain, loses, push_refused, reports, vacates_noticed};
 ghost use Rattle.nq_client.specs.Hearing.{IsSilent};
 ghost use Rattle.nq_client.specs.Losing.{IsReadyFor, Keeps, SendsNothing};
 ghost use Rattle.nq_client_parts.specs.Lost.{waiting};
-ghost use Rattle.nq_client.specs.Prepared.{IsPrepared, Leaves};
+ghost use Rattle.nq_client.specs.Prepared.{Comes, IsPrepared, Leaves};
 ghost use Rattle.nq_client.specs.State.{under_way};
-ghost use Rattle.nq_client.specs.Step.{HasRoom, step_of};
+ghost use Rattle.nq_client.specs.Step.{step_of};
 
 use crate::state::{State, UnderWay};
 use crate::step::Step;
@@ -82,34 +82,20 @@ impl Step {
         self.reports(file, named);
     }
 
-    /// No lease is held on a file any more.
-    #[tactic(auto, unfolding(nq_model::specs::Hear::without_lease))]
-    fn drops_lease(&mut self, file: FileId)
-        ensures step { step_of self.new ≡ without_lease (step_of self.old) file }
-        ensures quiet { SendsNothing self.old self.new }
-        ensures losses { self.new.state.losses ≡ self.old.state.losses }
-        ensures dirty { self.new.state.dirty ≡ self.old.state.dirty }
-        ensures entries { self.new.entries ≡ self.old.entries }
-        ensures kept { Keeps self.old self.new }
-    {
-        self.state.leases.remove(file);
-    }
-
     /// A push was refused: its file's delayed writes are lost, and no lease is held on it any more; a notice is answered,
     /// and a call that waits is told.
     ///
     /// # Errors
     ///
     /// Only want of memory, and then nothing changed.
+    #[tactic(auto, unfolding(nq_model::specs::Hear::without_lease))]
     pub(crate) fn push_refused(&mut self, file: FileId) -> Result<(), NoMemory>
         requires { IsPrepared file self.old }
-        ensures done { OnOk result (step_of self.new ≡ push_refused (step_of self.old) file) }
-        ensures room { OnOk result (HasRoom self.new) }
-        ensures refused { OnErr result (self.new ≡ self.old) }
+        ensures { Comes result (push_refused (step_of self.old) file) self.old self.new }
     {
         let ready = ready_to_lose(&self.state, file)?;
         let named = self.loses(file, ready);
-        self.drops_lease(file);
+        self.state.leases.remove(file);
         self.follows_loss(file, named);
         Ok(())
     }

@@ -4,7 +4,7 @@ ghost use Rattle.std.specs.Prelude.{◌≡◌, ◌≤◌, ◌<◌, ◌^◌, is_s
 ghost use Rattle.std.specs.Option.{ForSome};
 ghost use Rattle.nq_model.specs.Hear.{breaks_chain, takes_optional, then_caches};
 ghost use Rattle.nq_client.specs.Losing.{IsReadyFor, Keeps};
-ghost use Rattle.nq_client.specs.Prepared.{IsPrepared};
+ghost use Rattle.nq_client.specs.Prepared.{Comes, IsPrepared};
 ghost use Rattle.nq_client.specs.Step.{step_of};
 ghost use Rattle.nq_client.specs.Taking.{IsTaking};
 
@@ -79,10 +79,7 @@ impl Step {
     ) -> Result<(), NoMemory>
         requires prepared { IsPrepared file self.old }
         requires sent { sent < 2 ^ 62 }
-        ensures step { OnOk result (step_of self.new ≡ takes_optional (step_of self.old) file grant.now sent) }
-        ensures spare { OnOk result (3 ≤ self.new.entries.spare) }
-        ensures block { OnOk result (1 ≤ self.new.state.dirty.spare) }
-        ensures refused { OnErr result (self.new ≡ self.old) }
+        ensures { Comes result (takes_optional (step_of self.old) file grant.now sent) self.old self.new }
     {
         let Some(given) = grant else {
             return Ok(());
