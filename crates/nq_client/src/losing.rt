@@ -1,6 +1,7 @@
 //! Delayed writes that are lost.
 
-ghost use Rattle.std.specs.Prelude.{◌≡◌, ◌≤◌, length, option_map, IsTrue, IfOk};
+ghost use Rattle.std.specs.Prelude.{◌≡◌, ◌≤◌, length, is_some, option_map, if◌then◌else◌, IsTrue, IfOk};
+ghost use Rattle.std.specs.Option.{ForSome};
 ghost use Rattle.nq_model.specs.Client.{is_clean_in, losses_of, notice_on};
 ghost use Rattle.nq_model.specs.Hear.{all_dirty_in, breaks_chain, loses, push_refused, reports, vacates_noticed};
 ghost use Rattle.nq_client.specs.Hearing.{IsSilent};
@@ -100,17 +101,19 @@ impl Step {
         Ok(())
     }
 
-    /// A grant broke the chain of a lease: the delayed writes of its file are lost; a notice is answered, and a call that
+    /// Where a grant broke the chain of a lease, the delayed writes of its file are lost; a notice is answered, and a call that
     /// waits is told.
-    pub(crate) fn breaks_chain(&mut self, file: FileId, ready: Losing)
+    pub(crate) fn breaks_chain(&mut self, file: FileId, losing: Option<Losing>)
         requires prepared { IsPrepared file self.old }
-        requires ready { IsReadyFor ready file self.old.state }
-        ensures step { step_of self.new ≡ breaks_chain (step_of self.old) file }
+        requires ready { ForSome losing (λ r. IsReadyFor r file self.old.state) }
+        ensures step { step_of self.new ≡ (if is_some losing then breaks_chain (step_of self.old) file else step_of self.old) }
         ensures spare { 3 ≤ self.new.entries.spare }
         ensures block { 1 ≤ self.new.state.dirty.spare }
         ensures kept { Keeps self.old self.new }
     {
-        let named = self.loses(file, ready);
-        self.follows_loss(file, named);
+        if let Some(ready) = losing {
+            let named = self.loses(file, ready);
+            self.follows_loss(file, named);
+        }
     }
 }

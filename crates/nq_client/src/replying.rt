@@ -3,7 +3,7 @@
 ghost use Rattle.std.specs.Prelude.{◌≡◌, ◌<◌, ◌^◌, Some, OnOk, OnErr};
 ghost use Rattle.std.specs.Option.{ForSome};
 ghost use Rattle.nq_model.specs.Client.{pushing};
-ghost use Rattle.nq_model.specs.Hear.{done, done_push, done_renewal, refused, refused_push, replied};
+ghost use Rattle.nq_model.specs.Hear.{done, done_push, done_renewal, refused, replied};
 ghost use Rattle.nq_client_parts.specs.Jobs.{job_of};
 ghost use Rattle.nq_client.specs.Prepared.{Comes, IsPrepared};
 ghost use Rattle.nq_client_parts.specs.Calls.{file_at_stake};
@@ -57,17 +57,6 @@ impl Step {
         }
     }
 
-    /// A push was refused: the delayed writes of its file are lost.
-    fn refused_push(&mut self, request: &Request) -> Result<(), NoMemory>
-        requires { IsPrepared (file_at_stake request.now) self.old }
-        ensures { Comes result (refused_push (step_of self.old) request.now) self.old self.new }
-    {
-        match request {
-            Request::Write { file, .. } => self.push_refused(*file),
-            _ => Ok(()),
-        }
-    }
-
     /// A request was done, by what it was for.
     #[tactic(auto, unfolding(nq_model::specs::Hear::attached))]
     fn done(&mut self, job: Job, asked: &Asked, packet: u64, reply: &Reply) -> Result<(), NoMemory>
@@ -105,7 +94,11 @@ impl Step {
                     self.pauses();
                 }
             }
-            Job::Pushing => return self.refused_push(asked.request()),
+            // The delayed writes of the push's file are lost.
+            Job::Pushing => match asked.request() {
+                Request::Write { file, .. } => return self.push_refused(*file),
+                _ => {}
+            },
         }
         Ok(())
     }

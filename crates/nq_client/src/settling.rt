@@ -5,11 +5,11 @@ ghost use Rattle.nq_base.specs.Plain.{plain_answer, plain_said};
 ghost use Rattle.nq_base.specs.declared.Answer.{Answer};
 ghost use Rattle.nq_base.specs.declared.Answer.TheVariants.{Ok as ok};
 ghost use Rattle.nq_base.specs.declared.Value.{Value};
-ghost use Rattle.nq_model.specs.Client.{in_state, lease_on};
+ghost use Rattle.nq_model.specs.Client.{lease_on};
 ghost use Rattle.nq_model.specs.Settle.{body_in, delays, is_full_in, settle, ticket_is_for_call};
 ghost use Rattle.nq_client.specs.Losing.{Keeps};
 ghost use Rattle.nq_client.specs.Prepared.{Leaves};
-ghost use Rattle.nq_client.specs.Settling.{called_body, ended, goes_on_delayed, settles_body, settles_put, settles_read, settles_sync, settles_write, tells_read, with_written, writes};
+ghost use Rattle.nq_client.specs.Settling.{called_body, ended, goes_on_delayed, settles_body, settles_put, settles_read, settles_sync, settles_write, tells_read, writes};
 ghost use Rattle.nq_client.specs.State.{under_way};
 ghost use Rattle.nq_client.specs.Step.{HasNumbers, HasRoom, step_of};
 
@@ -252,17 +252,10 @@ impl Step {
         requires { 1 ≤ self.old.entries.spare }
         ensures { step_of self.new ≡ goes_on_delayed (step_of self.old) q sync }
     {
-        if sync {
-            self.marks_written();
-        } else {
+        if !sync {
             self.ends_call(q, Answer::Ok(Value::Nothing), Said::Ok);
+            return;
         }
-    }
-
-    /// The write of the call under way was delayed.
-    fn marks_written(&mut self)
-        ensures { step_of self.new ≡ in_state (step_of self.old) (record (step_of self.old).client { call = with_written (step_of self.old).client.call }) }
-    {
         match &mut self.state.call {
             Some(u) => u.written = true,
             None => {}

@@ -1,9 +1,7 @@
 //! Grants that are taken.
 
-ghost use Rattle.std.specs.Prelude.{◌≡◌, ◌≤◌, ◌<◌, ◌^◌, is_some, IfOk, OnErr, OnOk, if◌then◌else◌};
-ghost use Rattle.std.specs.Option.{ForSome};
-ghost use Rattle.nq_model.specs.Hear.{breaks_chain, takes_optional, then_caches};
-ghost use Rattle.nq_client.specs.Losing.{IsReadyFor, Keeps};
+ghost use Rattle.std.specs.Prelude.{◌≡◌, ◌≤◌, ◌<◌, ◌^◌, IfOk, OnErr, OnOk};
+ghost use Rattle.nq_model.specs.Hear.{takes_optional, then_caches};
 ghost use Rattle.nq_client.specs.Prepared.{Comes, IsPrepared};
 ghost use Rattle.nq_client.specs.Step.{step_of};
 ghost use Rattle.nq_client.specs.Taking.{IsTaking};
@@ -50,21 +48,6 @@ fn ready_to_take(
 }
 
 impl Step {
-    /// The delayed writes of a file are lost where a grant broke the chain of its lease.
-    fn breaks_with(&mut self, file: FileId, losing: Option<Losing>)
-        requires prepared { IsPrepared file self.old }
-        requires ready { ForSome losing (λ r. IsReadyFor r file self.old.state) }
-        ensures step { step_of self.new ≡ (if is_some losing then breaks_chain (step_of self.old) file else step_of self.old) }
-        ensures spare { 3 ≤ self.new.entries.spare }
-        ensures block { 1 ≤ self.new.state.dirty.spare }
-        ensures kept { Keeps self.old self.new }
-    {
-        match losing {
-            Some(ready) => self.breaks_chain(file, ready),
-            None => {}
-        }
-    }
-
     /// Takes a grant, if there is one, whose request was first sent at `sent`. Where it breaks the chain of a lease over delayed
     /// writes, these are lost.
     ///
@@ -85,7 +68,7 @@ impl Step {
             return Ok(());
         };
         let Taking { held, losing } = ready_to_take(&self.state, file, given, sent)?;
-        self.breaks_with(file, losing);
+        self.breaks_chain(file, losing);
         self.holds(file, given, sent, held);
         Ok(())
     }
@@ -115,7 +98,7 @@ impl Step {
                 let Taking { held, losing } = ready_to_take(&self.state, file, given, sent)?;
                 let alloc = self.state.alloc;
                 caches_read(&mut self.state.cache, alloc, file, block, body, grant)?;
-                self.breaks_with(file, losing);
+                self.breaks_chain(file, losing);
                 self.keeps(file, given, sent, held);
                 Ok(())
             }

@@ -19,4 +19,4 @@ returns-in_ok-caches_read-in-Some-clause-step c =
     let u = step_of (record s { state = record s.state { cache = c.caches_read.new.cache } }) in
     let cached : u ≡ with_clean t (clean_after_reply c.args.file c.args.block c.args.body.now c.args.grant.now t.client.revisions t.client.clean) =
     ap (λ (k : Cached). step_of (record s { state = record s.state { cache = k } })) c.in_ok-caches_read-in-Some.ensures.cached in
-    read_taken t u (step_of c.breaks_with.new.self) (step_of c.keeps.new.self) c.args.file c.args.block c.args.body.now c.args.grant.now c.in-Some.given c.args.sent (is_some arm.field-0.losing) c.in-Some.is lost cached c.breaks_with.ensures.step c.keeps.ensures.step
+    read_taken t u (step_of c.breaks_chain.new.self) (step_of c.keeps.new.self) c.args.file c.args.block c.args.body.now c.args.grant.now c.in-Some.given c.args.sent (is_some arm.field-0.losing) c.in-Some.is lost cached c.breaks_chain.ensures.step c.keeps.ensures.step
