@@ -5,9 +5,9 @@ ghost use Rattle.std.specs.Option.{ForSome};
 ghost use Rattle.nq_model.specs.Client.{is_clean_in, losses_of, notice_on};
 ghost use Rattle.nq_model.specs.Hear.{all_dirty_in, breaks_chain, loses, push_refused, reports, vacates_noticed};
 ghost use Rattle.nq_client.specs.Hearing.{IsSilent};
-ghost use Rattle.nq_client.specs.Losing.{IsReadyFor, Keeps, SendsNothing};
+ghost use Rattle.nq_client.specs.Losing.{IsReadyFor, Keeps, SendsNothing, Uses};
 ghost use Rattle.nq_client_parts.specs.Lost.{waiting};
-ghost use Rattle.nq_client.specs.Prepared.{Comes, IsPrepared, Leaves};
+ghost use Rattle.nq_client.specs.Prepared.{Comes, IsPrepared};
 ghost use Rattle.nq_client.specs.State.{under_way};
 ghost use Rattle.nq_client.specs.Step.{step_of};
 
@@ -44,8 +44,7 @@ impl Step {
         ensures quiet { SendsNothing self.old self.new }
         ensures clean { IsTrue (is_clean_in file self.new.state.dirty.dirty self.new.state.dirty.push) }
         ensures named { result ≡ losses_of file self.new.state.losses.items }
-        ensures left { Leaves (length (all_dirty_in file self.old.state.dirty.dirty self.old.state.dirty.push)) self.old self.new }
-        ensures kept { Keeps self.old self.new }
+        ensures left { Uses (length (all_dirty_in file self.old.state.dirty.dirty self.old.state.dirty.push)) self.old self.new }
     {
         let Losing { found, after, told } = ready;
         self.state.dirty.lose(file);
@@ -60,8 +59,7 @@ impl Step {
         requires room { 1 ≤ self.old.entries.spare }
         requires named { named ≡ losses_of file self.old.state.losses.items }
         ensures step { step_of self.new ≡ reports (step_of self.old) file }
-        ensures left { Leaves 1 self.old self.new }
-        ensures kept { Keeps self.old self.new }
+        ensures left { Uses 1 self.old self.new }
     {
         match waiting(&self.state.call, file) {
             Some(q) => self.names_losses(q, file, named),
@@ -76,8 +74,7 @@ impl Step {
         requires silent { IsSilent self.old }
         requires clean { IsTrue (is_clean_in file self.old.state.dirty.dirty self.old.state.dirty.push) }
         ensures step { step_of self.new ≡ reports (vacates_noticed (step_of self.old) file (notice_on file self.old.state.notices.items)) file }
-        ensures left { Leaves 1 self.old self.new }
-        ensures kept { Keeps self.old self.new }
+        ensures left { Uses 1 self.old self.new }
     {
         self.vacates_noticed(file);
         self.reports(file, named);

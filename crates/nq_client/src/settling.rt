@@ -7,8 +7,7 @@ ghost use Rattle.nq_base.specs.declared.Answer.TheVariants.{Ok as ok};
 ghost use Rattle.nq_base.specs.declared.Value.{Value};
 ghost use Rattle.nq_model.specs.Client.{lease_on};
 ghost use Rattle.nq_model.specs.Settle.{body_in, delays, is_full_in, settle, ticket_is_for_call};
-ghost use Rattle.nq_client.specs.Losing.{Keeps};
-ghost use Rattle.nq_client.specs.Prepared.{Leaves};
+ghost use Rattle.nq_client.specs.Losing.{Uses};
 ghost use Rattle.nq_client.specs.Settling.{called_body, ended, goes_on_delayed, settles_body, settles_put, settles_read, settles_sync, settles_write, tells_read, writes};
 ghost use Rattle.nq_client.specs.State.{under_way};
 ghost use Rattle.nq_client.specs.Step.{HasNumbers, HasRoom, step_of};
@@ -49,8 +48,7 @@ impl Step {
     pub(crate) fn ends_call(&mut self, q: u64, answer: Answer, said: Said)
         requires { 1 ≤ self.old.entries.spare }
         ensures step { step_of self.new ≡ ended (step_of self.old) q (plain_answer answer) (plain_said said) }
-        ensures left { Leaves 1 self.old self.new }
-        ensures kept { Keeps self.old self.new }
+        ensures left { Uses 1 self.old self.new }
     {
         self.state.call = None;
         self.entries.note(Entry::A {
