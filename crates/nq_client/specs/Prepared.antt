@@ -31,3 +31,14 @@ pub record Came (t : ClientStep) (new : Step) : Type 0 where
 abbrev pub Comes : {A E : Type 0} → Result A E → ClientStep → (old new : Step) → Type 0
 Comes (Ok x) t old new = Came t new
 Comes (Err e) t old new = new ≡ old
+
+-- a grant was taken, with room for three entries and a block that becomes dirty
+pub record Took (t : ClientStep) (new : Step) : Type 0 where
+  pub step : step_of new ≡ t
+  pub spare : 3 ≤ new.entries.spare
+  pub block : 1 ≤ new.state.dirty.spare
+
+-- what comes of a grant: it is taken, or nothing where memory is wanting
+abbrev pub Takes : {A E : Type 0} → Result A E → ClientStep → (old new : Step) → Type 0
+Takes (Ok x) t old new = Took t new
+Takes (Err e) t old new = new ≡ old

@@ -4,9 +4,9 @@ ghost use Rattle.std.specs.Prelude.{◌≡◌, ◌≤◌, ◌∷◌, [], None, l
 ghost use Rattle.nq_base.specs.Plain.{plain_answer};
 ghost use Rattle.nq_model.specs.Message.{call};
 ghost use Rattle.nq_wire.specs.Request.{HasSpelling};
-ghost use Rattle.nq_client.specs.Finishing.{Grows, HasLetters, HasRooms, Posts, longest_call};
+ghost use Rattle.nq_client.specs.Finishing.{Finishes, HasLetters, HasRooms, Posts, longest_call};
 ghost use Rattle.nq_client.specs.Outcome.{IsHeard, or_pending};
-ghost use Rattle.nq_client.specs.Step.{IsBegun, request_message, step_of, vacated_message};
+ghost use Rattle.nq_client.specs.Step.{IsBegun, request_message, vacated_message};
 
 use crate::asked::Asked;
 use crate::heard::Heard;
@@ -111,10 +111,7 @@ impl Step {
         requires letters { HasLetters letters.old }
         requires places { 2 ≤ out.old.spare }
         requires room { length self.old.entries.items ≤ log.old.spare }
-        ensures begun { IsBegun (record self.new { answer = None }) }
-        ensures state { self.new.state ≡ self.old.state }
-        ensures answer { self.new.answer ≡ self.old.answer }
-        ensures grows { Grows (step_of self.old) out.old out.new log.old log.new }
+        ensures { Finishes self.old self.new out.old out.new log.old log.new }
     {
         let alloc = self.state.alloc;
         let vacated = self.vacated.take();

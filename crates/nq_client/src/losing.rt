@@ -53,20 +53,6 @@ impl Step {
         told
     }
 
-    /// A call that waits until a file is clean is answered with its losses.
-    #[tactic(auto, using(crate::proofs::Reported::told, crate::proofs::Reported::untold))]
-    fn reports(&mut self, file: FileId, named: Named)
-        requires room { 1 ≤ self.old.entries.spare }
-        requires named { named ≡ losses_of file self.old.state.losses.items }
-        ensures step { step_of self.new ≡ reports (step_of self.old) file }
-        ensures left { Uses 1 self.old self.new }
-    {
-        match waiting(&self.state.call, file) {
-            Some(q) => self.names_losses(q, file, named),
-            None => {}
-        }
-    }
-
     /// What follows the loss of all delayed writes of a file: a notice is answered, and a call that waits is told.
     fn follows_loss(&mut self, file: FileId, named: Named)
         requires room { 1 ≤ self.old.entries.spare }
@@ -77,7 +63,10 @@ impl Step {
         ensures left { Uses 1 self.old self.new }
     {
         self.vacates_noticed(file);
-        self.reports(file, named);
+        match waiting(&self.state.call, file) {
+            Some(q) => self.names_losses(q, file, named),
+            None => {}
+        }
     }
 
     /// A push was refused: its file's delayed writes are lost, and no lease is held on it any more; a notice is answered,

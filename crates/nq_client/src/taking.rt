@@ -1,8 +1,8 @@
 //! Grants that are taken.
 
-ghost use Rattle.std.specs.Prelude.{◌≡◌, ◌≤◌, ◌<◌, ◌^◌, IfOk, OnErr, OnOk};
+ghost use Rattle.std.specs.Prelude.{◌<◌, ◌^◌, IfOk};
 ghost use Rattle.nq_model.specs.Hear.{takes_optional, then_caches};
-ghost use Rattle.nq_client.specs.Prepared.{Comes, IsPrepared};
+ghost use Rattle.nq_client.specs.Prepared.{Comes, IsPrepared, Takes};
 ghost use Rattle.nq_client.specs.Step.{step_of};
 ghost use Rattle.nq_client.specs.Taking.{IsTaking};
 
@@ -88,10 +88,7 @@ impl Step {
     ) -> Result<(), NoMemory>
         requires prepared { IsPrepared file self.old }
         requires sent { sent < 2 ^ 62 }
-        ensures step { OnOk result (step_of self.new ≡ then_caches (takes_optional (step_of self.old) file grant.now sent) file block body.now grant.now) }
-        ensures spare { OnOk result (3 ≤ self.new.entries.spare) }
-        ensures block { OnOk result (1 ≤ self.new.state.dirty.spare) }
-        ensures refused { OnErr result (self.new ≡ self.old) }
+        ensures { Takes result (then_caches (takes_optional (step_of self.old) file grant.now sent) file block body.now grant.now) self.old self.new }
     {
         match grant {
             Some(given) => {
