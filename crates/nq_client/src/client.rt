@@ -289,6 +289,14 @@ impl Client {
             letters: _letters,
             taken: _,
         } = self;
-        step.stop();
+        let Step {
+            state,
+            vacated: _vacated,
+            asks: _,
+            entries: _entries,
+            answer: _answer,
+            cached: _,
+        } = step;
+        state.stop();
     }
 }

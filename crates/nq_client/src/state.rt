@@ -102,15 +102,9 @@ impl State {
             cache: _cache,
             alloc: _,
         } = self;
-        cancel(asked);
+        if let Some(asked) = asked {
+            asked.spent();
+        }
         notices.forgotten();
-    }
-}
-
-/// Gives the request under way up.
-fn cancel(asked: Option<Asked>) {
-    match asked {
-        Some(asked) => asked.spent(),
-        None => {}
     }
 }

@@ -45,17 +45,4 @@ impl Step {
             cached: false,
         }
     }
-
-    /// Ends the client.
-    pub(crate) fn stop(self) {
-        let Step {
-            state,
-            vacated: _vacated,
-            asks: _,
-            entries: _entries,
-            answer: _answer,
-            cached: _,
-        } = self;
-        state.stop();
-    }
 }
