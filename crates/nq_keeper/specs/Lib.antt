@@ -1,3 +1,4 @@
+pub mod Asking
 pub mod Bounds
 pub mod Capped
 pub mod InOrder

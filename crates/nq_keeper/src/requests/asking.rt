@@ -1,8 +1,7 @@
 //! What a fresh request comes to, over a keeper.
 
-ghost use Rattle.std.specs.Prelude.{◌≡◌, ◌<◌, ℕ, IfOk, is_some};
-ghost use Rattle.std.specs.Option.{ForSome};
-ghost use Rattle.nq_keeper.specs.Keeping.{Reads, LeavesOne};
+ghost use Rattle.std.specs.Prelude.{is_some};
+ghost use Rattle.nq_keeper.specs.Asking.{Asks};
 ghost use Rattle.nq_model.specs.Change.{row_of_found, heads_of, space_of};
 ghost use Rattle.nq_model.specs.Decided.{effect_of_create, effect_of_write, effect_of_write_recovering, effect_of_resize, effect_of_remove, effect_of, no_effect};
 ghost use Rattle.nq_model.specs.Kept.{find_file, find_name, blocks_in_all};
@@ -22,20 +21,16 @@ struct Numbers {
 }
 
 /// A decision for which nothing of what is kept is asked.
-fn unasked<K: Keeper>(keeper: &K, verdict: Verdict) -> Effect
-    ensures effect { result ≡ capped (no_effect verdict) }
-    ensures leaves { LeavesOne (K.content keeper.now) (K.leaves keeper.now keeper.now) }
+fn unasked<K: Keeper>(keeper: &mut K, verdict: Verdict) -> Result<Effect, KeepFault>
+    ensures { Asks (λ kept. capped (no_effect verdict)) result (K.content keeper.old) (K.content keeper.new) (K.faults keeper.old) (K.faults keeper.new) (K.follows keeper.old keeper.new) (K.leaves keeper.old keeper.new) }
 {
     keeper.pause();
-    effects::none(verdict)
+    Ok(effects::none(verdict))
 }
 
 /// Reads the server's numbers, and how much is kept.
 fn read_numbers<K: Keeper>(keeper: &mut K) -> Result<Numbers, KeepFault>
-    ensures told { ForSome (K.content keeper.old) (λ kept. IfOk result (λ n. n ≡ record { heads = heads_of kept; space = space_of kept })) }
-    ensures reads { Reads result (K.content keeper.old) (K.content keeper.new) (K.faults keeper.old) (K.faults keeper.new) }
-    ensures follows { K.follows keeper.old keeper.new }
-    ensures leaves { LeavesOne (K.content keeper.old) (K.leaves keeper.old keeper.new) }
+    ensures { Asks (λ kept. record { heads = heads_of kept; space = space_of kept }) result (K.content keeper.old) (K.content keeper.new) (K.faults keeper.old) (K.faults keeper.new) (K.follows keeper.old keeper.new) (K.leaves keeper.old keeper.new) }
 {
     let heads = keeper.heads()?;
     let space = keeper.space()?;
@@ -48,10 +43,7 @@ pub(crate) fn create<K: Keeper>(
     name: &Name,
     blocks: u32,
 ) -> Result<Effect, KeepFault>
-    ensures told { ForSome (K.content keeper.old) (λ kept. IfOk result (λ effect. effect ≡ capped (effect_of_create (space_of kept) (heads_of kept) (is_some (find_name name.now kept.files)) name.now blocks))) }
-    ensures reads { Reads result (K.content keeper.old) (K.content keeper.new) (K.faults keeper.old) (K.faults keeper.new) }
-    ensures follows { K.follows keeper.old keeper.new }
-    ensures leaves { LeavesOne (K.content keeper.old) (K.leaves keeper.old keeper.new) }
+    ensures { Asks (λ kept. capped (effect_of_create (space_of kept) (heads_of kept) (is_some (find_name name.now kept.files)) name.now blocks)) result (K.content keeper.old) (K.content keeper.new) (K.faults keeper.old) (K.faults keeper.new) (K.follows keeper.old keeper.new) (K.leaves keeper.old keeper.new) }
 {
     let found = keeper.by_name(name)?;
     let numbers = read_numbers(keeper)?;
@@ -70,10 +62,7 @@ pub(crate) fn write<K: Keeper>(
     base: Option<PushBase>,
     body: Block,
 ) -> Result<Effect, KeepFault>
-    ensures told { ForSome (K.content keeper.old) (λ kept. IfOk result (λ effect. effect ≡ capped (effect_of_write boot conflict held (row_of_found (find_file file kept.files)) block base body))) }
-    ensures reads { Reads result (K.content keeper.old) (K.content keeper.new) (K.faults keeper.old) (K.faults keeper.new) }
-    ensures follows { K.follows keeper.old keeper.new }
-    ensures leaves { LeavesOne (K.content keeper.old) (K.leaves keeper.old keeper.new) }
+    ensures { Asks (λ kept. capped (effect_of_write boot conflict held (row_of_found (find_file file kept.files)) block base body)) result (K.content keeper.old) (K.content keeper.new) (K.faults keeper.old) (K.faults keeper.new) (K.follows keeper.old keeper.new) (K.leaves keeper.old keeper.new) }
 {
     let row = keeper.file(file)?;
     Ok(effects::write(boot, conflict, held, row, block, base, body))
@@ -86,10 +75,7 @@ pub(crate) fn resize<K: Keeper>(
     file: FileId,
     blocks: u32,
 ) -> Result<Effect, KeepFault>
-    ensures told { ForSome (K.content keeper.old) (λ kept. IfOk result (λ effect. effect ≡ capped (effect_of_resize (blocks_in_all kept.files) conflict (row_of_found (find_file file kept.files)) blocks))) }
-    ensures reads { Reads result (K.content keeper.old) (K.content keeper.new) (K.faults keeper.old) (K.faults keeper.new) }
-    ensures follows { K.follows keeper.old keeper.new }
-    ensures leaves { LeavesOne (K.content keeper.old) (K.leaves keeper.old keeper.new) }
+    ensures { Asks (λ kept. capped (effect_of_resize (blocks_in_all kept.files) conflict (row_of_found (find_file file kept.files)) blocks)) result (K.content keeper.old) (K.content keeper.new) (K.faults keeper.old) (K.faults keeper.new) (K.follows keeper.old keeper.new) (K.leaves keeper.old keeper.new) }
 {
     let row = keeper.file(file)?;
     let space = keeper.space()?;
@@ -102,10 +88,7 @@ pub(crate) fn remove<K: Keeper>(
     conflict: bool,
     file: FileId,
 ) -> Result<Effect, KeepFault>
-    ensures told { ForSome (K.content keeper.old) (λ kept. IfOk result (λ effect. effect ≡ capped (effect_of_remove conflict (row_of_found (find_file file kept.files))))) }
-    ensures reads { Reads result (K.content keeper.old) (K.content keeper.new) (K.faults keeper.old) (K.faults keeper.new) }
-    ensures follows { K.follows keeper.old keeper.new }
-    ensures leaves { LeavesOne (K.content keeper.old) (K.leaves keeper.old keeper.new) }
+    ensures { Asks (λ kept. capped (effect_of_remove conflict (row_of_found (find_file file kept.files)))) result (K.content keeper.old) (K.content keeper.new) (K.faults keeper.old) (K.faults keeper.new) (K.follows keeper.old keeper.new) (K.leaves keeper.old keeper.new) }
 {
     let row = keeper.file(file)?;
     Ok(effects::remove(conflict, row))
@@ -120,13 +103,10 @@ fn write_recovering<K: Keeper>(
     base: Option<PushBase>,
     body: Block,
 ) -> Result<Effect, KeepFault>
-    ensures told { ForSome (K.content keeper.old) (λ kept. IfOk result (λ effect. effect ≡ capped (effect_of_write_recovering opened (row_of_found (find_file file kept.files)) block base body))) }
-    ensures reads { Reads result (K.content keeper.old) (K.content keeper.new) (K.faults keeper.old) (K.faults keeper.new) }
-    ensures follows { K.follows keeper.old keeper.new }
-    ensures leaves { LeavesOne (K.content keeper.old) (K.leaves keeper.old keeper.new) }
+    ensures { Asks (λ kept. capped (effect_of_write_recovering opened (row_of_found (find_file file kept.files)) block base body)) result (K.content keeper.old) (K.content keeper.new) (K.faults keeper.old) (K.faults keeper.new) (K.follows keeper.old keeper.new) (K.leaves keeper.old keeper.new) }
 {
     match base {
-        None => Ok(unasked(keeper, Verdict::TryLater)),
+        None => unasked(keeper, Verdict::TryLater),
         Some(base) => write(keeper, opened, false, true, file, block, Some(base), body),
     }
 }
@@ -137,13 +117,10 @@ fn while_recovering<K: Keeper>(
     request: Request,
     opened: u32,
 ) -> Result<Effect, KeepFault>
-    ensures told { ForSome (K.content keeper.old) (λ kept. IfOk result (λ effect. effect ≡ capped (effect_of kept (Gate.Recovering opened) request))) }
-    ensures reads { Reads result (K.content keeper.old) (K.content keeper.new) (K.faults keeper.old) (K.faults keeper.new) }
-    ensures follows { K.follows keeper.old keeper.new }
-    ensures leaves { LeavesOne (K.content keeper.old) (K.leaves keeper.old keeper.new) }
+    ensures { Asks (λ kept. capped (effect_of kept (Gate.Recovering opened) request)) result (K.content keeper.old) (K.content keeper.new) (K.faults keeper.old) (K.faults keeper.new) (K.follows keeper.old keeper.new) (K.leaves keeper.old keeper.new) }
 {
     match request {
-        Request::Attach { .. } => Ok(unasked(keeper, Verdict::Done)),
+        Request::Attach { .. } => unasked(keeper, Verdict::Done),
         Request::Write {
             file,
             block,
@@ -151,7 +128,7 @@ fn while_recovering<K: Keeper>(
             body,
             ..
         } => write_recovering(keeper, opened, file, block, push, body),
-        _ => Ok(unasked(keeper, Verdict::TryLater)),
+        _ => unasked(keeper, Verdict::TryLater),
     }
 }
 
@@ -163,13 +140,10 @@ fn while_serving<K: Keeper>(
     conflict: bool,
     writing_row: bool,
 ) -> Result<Effect, KeepFault>
-    ensures told { ForSome (K.content keeper.old) (λ kept. IfOk result (λ effect. effect ≡ capped (effect_of kept (Gate.Serving boot conflict writing_row) request))) }
-    ensures reads { Reads result (K.content keeper.old) (K.content keeper.new) (K.faults keeper.old) (K.faults keeper.new) }
-    ensures follows { K.follows keeper.old keeper.new }
-    ensures leaves { LeavesOne (K.content keeper.old) (K.leaves keeper.old keeper.new) }
+    ensures { Asks (λ kept. capped (effect_of kept (Gate.Serving boot conflict writing_row) request)) result (K.content keeper.old) (K.content keeper.new) (K.faults keeper.old) (K.faults keeper.new) (K.follows keeper.old keeper.new) (K.leaves keeper.old keeper.new) }
 {
     match request {
-        Request::Attach { .. } => Ok(unasked(keeper, Verdict::Done)),
+        Request::Attach { .. } => unasked(keeper, Verdict::Done),
         Request::Create { name, blocks, .. } => create(keeper, &name, blocks),
         Request::Write {
             file,
@@ -180,7 +154,7 @@ fn while_serving<K: Keeper>(
         } => write(keeper, boot, conflict, writing_row, file, block, push, body),
         Request::Resize { file, blocks, .. } => resize(keeper, conflict, file, blocks),
         Request::Remove { file, .. } => remove(keeper, conflict, file),
-        _ => Ok(unasked(keeper, Verdict::TryLater)),
+        _ => unasked(keeper, Verdict::TryLater),
     }
 }
 
@@ -190,10 +164,7 @@ pub(crate) fn effect<K: Keeper>(
     request: Request,
     gate: Gate,
 ) -> Result<Effect, KeepFault>
-    ensures told { ForSome (K.content keeper.old) (λ kept. IfOk result (λ effect. effect ≡ capped (effect_of kept gate request))) }
-    ensures reads { Reads result (K.content keeper.old) (K.content keeper.new) (K.faults keeper.old) (K.faults keeper.new) }
-    ensures follows { K.follows keeper.old keeper.new }
-    ensures leaves { LeavesOne (K.content keeper.old) (K.leaves keeper.old keeper.new) }
+    ensures { Asks (λ kept. capped (effect_of kept gate request)) result (K.content keeper.old) (K.content keeper.new) (K.faults keeper.old) (K.faults keeper.new) (K.follows keeper.old keeper.new) (K.leaves keeper.old keeper.new) }
 {
     match gate {
         Gate::Recovering { opened } => while_recovering(keeper, request, opened),

@@ -1,4 +1,5 @@
-use Rattle.std.proofs.Common.{sym, subst, ap, ◌∙◌}
+use Rattle.std.proofs.Common.{rules, arith, sym, subst, ap, ◌∙◌}
+use Rattle.std.proofs.lemmas.Grind.{common_steps}
 use Rattle.std.specs.Option.{ForSome}
 use Rattle.nq_model.specs.Change.{Fits, IsChangeWithin}
 use Rattle.nq_model.specs.Kept.{can_be_kept}
@@ -19,14 +20,20 @@ commit-requires-clause-within g c =
     subst (IsChangeWithin kept) (sym c.change_of-change.ensures)
     (c.requires.within kept told (ap can_be_kept (sym c.row_after-row.ensures) ∙ sym c.can_be_kept.ensures ∙ c.if-not-can_be_kept.false))
 
-pub returns-in_err-commit-clause-leaves : goal.returns-in_err-commit-clause-leaves
-returns-in_err-commit-clause-leaves g c =
-    leaves-kept c.args.who c.args.seq c.args.effect c.change_of-change.result (g.K.Keeper.content c.args.keeper.now) (g.K.Keeper.leaves c.args.keeper.now c.commit.new.self) c.change_of-change.ensures
-    (ap can_be_kept (sym c.row_after-row.ensures) ∙ sym c.can_be_kept.ensures ∙ c.if-not-can_be_kept.false)
-    c.commit.ensures.leaves
+pub returns-in_err-commit : goal.returns-in_err-commit
+returns-in_err-commit g c = record {
+  gives = first_of (search rules, grind (arith, common_steps));
+  follows = c.commit.ensures.follows;
+  leaves = leaves-kept c.args.who c.args.seq c.args.effect c.change_of-change.result (g.K.Keeper.content c.args.keeper.now) (g.K.Keeper.leaves c.args.keeper.now c.commit.new.self) c.change_of-change.ensures
+      (ap can_be_kept (sym c.row_after-row.ensures) ∙ sym c.can_be_kept.ensures ∙ c.if-not-can_be_kept.false)
+      c.commit.ensures.leaves;
+}
 
-pub returns-clause-leaves : goal.returns-clause-leaves
-returns-clause-leaves g c =
-    leaves-kept c.args.who c.args.seq c.args.effect c.change_of-change.result (g.K.Keeper.content c.args.keeper.now) (g.K.Keeper.leaves c.args.keeper.now c.commit.new.self) c.change_of-change.ensures
-    (ap can_be_kept (sym c.row_after-row.ensures) ∙ sym c.can_be_kept.ensures ∙ c.if-not-can_be_kept.false)
-    c.commit.ensures.leaves
+pub returns : goal.returns
+returns g c = record {
+  gives = first_of (search rules, grind (arith, common_steps));
+  follows = c.commit.ensures.follows;
+  leaves = leaves-kept c.args.who c.args.seq c.args.effect c.change_of-change.result (g.K.Keeper.content c.args.keeper.now) (g.K.Keeper.leaves c.args.keeper.now c.commit.new.self) c.change_of-change.ensures
+      (ap can_be_kept (sym c.row_after-row.ensures) ∙ sym c.can_be_kept.ensures ∙ c.if-not-can_be_kept.false)
+      c.commit.ensures.leaves;
+}

@@ -15,3 +15,9 @@ returns-clause-leaves g c =
     one-of found kept _ _ (g.met.K.Keeper.parts _ c.file.new.self _ found c.file.ensures.follows c.block-2.ensures.follows left)
     (c.file.ensures.leaves kept told found)
     (c.block-2.ensures.leaves kept (c.in_ok-row.ensures.reads.0 ∙ told) found)
+
+pub returns-in_err-body-clause-follows : goal.returns-in_err-body-clause-follows
+returns-in_err-body-clause-follows g c = g.met.K.Keeper.follows_on _ c.file.new.self _ c.file.ensures.follows c.block-2.ensures.follows
+
+pub returns-clause-follows : goal.returns-clause-follows
+returns-clause-follows g c = g.met.K.Keeper.follows_on _ c.file.new.self _ c.file.ensures.follows c.block-2.ensures.follows

@@ -1,4 +1,4 @@
-use Rattle.std.proofs.Common.{sym, ◌∙◌}
+use Rattle.std.proofs.Common.{sym, ◌∙◌, inl}
 use Rattle.nq_keeper.proofs.Leaving.{two-of}
 use Rattle.nq_model.specs.Change.{applied, change_of_heads}
 use Rattle.nq_keeper.specs.Booting.{opened_by}
@@ -21,3 +21,9 @@ returns-clause-leaves g c =
     (two-of found kept (applied kept (change_of_heads (heads_opened c.in_ok-heads.heads c.args.longest))) _ _ (g.met.K.Keeper.parts _ c.heads.new.self _ found c.heads.ensures.follows c.keep_heads.ensures.follows left)
     (c.heads.ensures.leaves kept told found)
     (c.keep_heads.ensures.leaves kept (c.in_ok-heads.ensures.reads.0 ∙ told) found))
+
+pub returns-clause-follows : goal.returns-clause-follows
+returns-clause-follows g c = g.met.K.Keeper.follows_on _ c.heads.new.self _ c.heads.ensures.follows c.keep_heads.ensures.follows
+
+pub returns-in_err-heads-clause-leaves : goal.returns-in_err-heads-clause-leaves
+returns-in_err-heads-clause-leaves g c = λ kept told found left. inl (c.heads.ensures.leaves kept told found left)

@@ -1,4 +1,4 @@
-use Rattle.std.proofs.Common.{◌≡◌, ◌<◌, Some, sym, ap, ◌∙◌, subst, arith}
+use Rattle.std.proofs.Common.{◌≡◌, ◌<◌, Some, sym, ap, ◌∙◌, subst, arith, inl}
 use Rattle.nq_keeper.specs.Keeping.{told_after}
 use Rattle.nq_keeper.proofs.Leaving.{two-of}
 use Rattle.nq_model.specs.Change.{applied, change_of_heads, heads_of}
@@ -46,3 +46,15 @@ returns-in-Err-keep_heads-clause-leaves g c =
     (two-of found kept (applied kept (change_of_heads c.after_boot.result)) _ _ (g.met.K.Keeper.parts _ c.heads.new.self _ found c.heads.ensures.follows c.keep_heads.ensures.follows left)
     (c.heads.ensures.leaves kept told found)
     (c.keep_heads.ensures.leaves kept (c.in-Ok.ensures.reads.0 ∙ told) found))
+
+pub returns-in-Ok-keep_heads-clause-follows : goal.returns-in-Ok-keep_heads-clause-follows
+returns-in-Ok-keep_heads-clause-follows g c = g.met.K.Keeper.follows_on _ c.heads.new.self _ c.heads.ensures.follows c.keep_heads.ensures.follows
+
+pub returns-in-Err-keep_heads-clause-follows : goal.returns-in-Err-keep_heads-clause-follows
+returns-in-Err-keep_heads-clause-follows g c = g.met.K.Keeper.follows_on _ c.heads.new.self _ c.heads.ensures.follows c.keep_heads.ensures.follows
+
+pub returns-in-Err-clause-leaves : goal.returns-in-Err-clause-leaves
+returns-in-Err-clause-leaves g c = λ kept told found left. inl (c.heads.ensures.leaves kept told found left)
+
+pub returns-then-heads-ge-LAST_BOOT-clause-leaves : goal.returns-then-heads-ge-LAST_BOOT-clause-leaves
+returns-then-heads-ge-LAST_BOOT-clause-leaves g c = λ kept told found left. inl (c.heads.ensures.leaves kept told found left)
