@@ -6,16 +6,17 @@ ghost use Rattle.nq_world.specs.Playing.{CanCome};
 use crate::seeing::Seer;
 use nq_base::{Event, Host, NoMemory};
 use nq_keeper::Keeper;
+use nq_record::Record;
 use nq_replay::play::Delivered;
-use nq_script::{Line, Lines};
+use nq_script::{Line, Lines, Script};
 use nq_world::{MOST_EVENTS, Stepped, World};
 use std::alloc::Global;
 
 /// How many hosts there are, and the longest term of a boot, in ticks.
 #[derive(Clone, Copy)]
-pub(crate) struct Bounds {
-    pub(crate) hosts: u32,
-    pub(crate) longest: u32,
+struct Bounds {
+    hosts: u32,
+    longest: u32,
 }
 
 impl Bounds {
@@ -125,29 +126,32 @@ fn take<K: Keeper>(
     }
 }
 
-/// Plays lines over a world, and writes down what each event did, up to the first event that the world refuses.
+/// Plays a schedule over a world, and writes down what each event did, up to the first event that the world refuses.
 pub(crate) fn play<K: Keeper>(
     alloc: Global,
     world: &mut World<K>,
-    seer: &mut Seer,
-    bounds: Bounds,
-    lines: &Lines,
-) -> Result<(), NoMemory>
-    requires hosts { bounds.hosts ≡ length world.old.clients }
-    requires longest { bounds.longest ≡ world.old.skew.window }
+    script: &Script,
+) -> Result<Record, NoMemory>
+    requires hosts { script.now.head.hosts ≡ length world.old.clients }
+    requires longest { script.now.head.longest ≡ world.old.skew.window }
 {
+    let bounds = Bounds {
+        hosts: script.head.hosts,
+        longest: script.head.longest,
+    };
+    let mut seer = Seer::new(alloc, bounds.hosts)?;
     let mut delivered = Delivered::new(alloc);
     let mut cursor = Cursor { line: 0, events: 0 };
     for turn in 0..MOST_EVENTS {
         let least = delivered.next(world.packets().len() as usize);
-        let Some(event) = cursor.next(lines, bounds.hosts, least) else {
-            return Ok(());
+        let Some(event) = cursor.next(&script.lines, bounds.hosts, least) else {
+            break;
         };
-        match take(world, seer, &mut delivered, bounds, &event) {
+        match take(world, &mut seer, &mut delivered, bounds, &event) {
             Stepped::Done => {}
             Stepped::Memory => return Err(NoMemory::Memory),
-            _ => return Ok(()),
+            _ => break,
         }
     }
-    Ok(())
+    Ok(seer.into_record())
 }
