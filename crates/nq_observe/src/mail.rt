@@ -2,6 +2,7 @@
 
 use crate::decoding::{Read, read_packet};
 use crate::memory::Memory;
+use crate::seeing::Known;
 use nq_base::{Event, Party};
 use nq_datagrams::Awaited;
 use nq_link::net::Packets;
@@ -110,7 +111,7 @@ impl Mail {
     pub(crate) fn first_sending(
         &self,
         moments: &[Moment],
-        starts: &[usize],
+        known: &[Known],
         reply: usize,
     ) -> Option<usize> {
         let answer = self.packets.get(reply)?;
@@ -120,7 +121,7 @@ impl Mail {
         };
         let request = self.packets.get(number as usize)?;
         let asked = self.asked(number)?;
-        let began = began(starts, request.from);
+        let began = began(known, request.from);
         for (place, earlier) in self.packets.iter().enumerate() {
             if earlier.from == request.from
                 && earlier.sent >= began
@@ -147,12 +148,12 @@ fn note_arrival(memory: &mut Memory, sent: &mut Sent, place: usize) {
 }
 
 /// The event in which a host started last; 0 where there is none.
-fn began(starts: &[usize], party: Party) -> usize {
+fn began(known: &[Known], party: Party) -> usize {
     let Party::Client(host) = party else {
         return 0;
     };
-    match starts.get(host.0 as usize) {
-        Some(start) => *start,
+    match known.get(host.0 as usize) {
+        Some(known) => known.started,
         None => 0,
     }
 }

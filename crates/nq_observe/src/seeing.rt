@@ -20,17 +20,24 @@ pub(crate) struct Seer {
     mail: Mail,
     entries: Vec<Noted>,
     spans: Spans,
-    /// For each host, in which event it started last.
-    starts: Vec<usize>,
-    /// For each host, how many blocks with delayed writes it has.
-    delays: Vec<usize>,
+    known: Vec<Known>,
+}
+
+/// What is known of a host: in which event it started last, and how many blocks with delayed writes it has.
+#[derive(Clone, Copy)]
+pub(crate) struct Known {
+    pub(crate) started: usize,
+    delayed: usize,
 }
 
 impl Seer {
     /// Nothing was seen.
     pub(crate) fn new(alloc: Global, hosts: u32) -> Result<Seer, NoMemory> {
-        let starts = vec![in alloc; 0usize; hosts as usize]?;
-        let delays = vec![in alloc; 0usize; hosts as usize]?;
+        let nothing = Known {
+            started: 0,
+            delayed: 0,
+        };
+        let known = vec![in alloc; nothing; hosts as usize]?;
         Ok(Seer {
             memory: Memory::new(alloc),
             hosts,
@@ -38,8 +45,7 @@ impl Seer {
             mail: Mail::new(alloc),
             entries: Vec::new(alloc),
             spans: Spans::new(alloc),
-            starts,
-            delays,
+            known,
         })
     }
 
@@ -57,8 +63,7 @@ impl Seer {
             mail,
             entries,
             spans,
-            starts: _starts,
-            delays: _delays,
+            known: _known,
         } = self;
         let (spans, changes) = spans.into_parts();
         Record {
@@ -85,7 +90,7 @@ impl Seer {
         let counts = self.spans.see(&mut self.memory, world, hosts, place);
         self.date_leases(before.spans, event, place);
         let (clock, blocks) = state_of(world, hosts, &party);
-        let delays = delayed(&mut self.delays, &party, blocks);
+        let delays = delayed(&mut self.known, &party, blocks);
         let after = self.marks();
         let moment = moment(&party, act_of(event), clock, before, after, counts, delays);
         self.memory.push(&mut self.moments, moment);
@@ -108,8 +113,8 @@ impl Seer {
                 self.mail.arrive(&mut self.memory, *number as usize, place);
             }
             Event::Restart(host) => {
-                if let Some(start) = self.starts.get_mut(host.0 as usize) {
-                    *start = place;
+                if let Some(known) = self.known.get_mut(host.0 as usize) {
+                    known.started = place;
                 }
             }
             _ => {}
@@ -130,7 +135,7 @@ impl Seer {
             return place;
         };
         let reply = *number as usize;
-        match self.mail.first_sending(&self.moments, &self.starts, reply) {
+        match self.mail.first_sending(&self.moments, &self.known, reply) {
             Some(first) => first,
             None => place,
         }
@@ -196,23 +201,23 @@ fn state_of<K: Keeper>(world: &World<K>, hosts: u32, party: &Party) -> (Ticks, u
 }
 
 /// How many blocks with delayed writes a host has, if that is another number than before.
-fn delayed(delays: &mut Vec<usize>, party: &Party, blocks: usize) -> Option<usize> {
+fn delayed(known: &mut Vec<Known>, party: &Party, blocks: usize) -> Option<usize> {
     let Party::Client(host) = *party else {
         return None;
     };
-    match delays.get_mut(host.0 as usize) {
+    match known.get_mut(host.0 as usize) {
         Some(before) => changed(before, blocks),
         None => None,
     }
 }
 
-/// Writes a number over one that was there before; the new one, if it is another.
-fn changed(before: &mut usize, now: usize) -> Option<usize> {
-    if *before == now {
+/// Notes how many blocks with delayed writes a host has; the number, if it is another than before.
+fn changed(before: &mut Known, blocks: usize) -> Option<usize> {
+    if before.delayed == blocks {
         None
     } else {
-        *before = now;
-        Some(now)
+        before.delayed = blocks;
+        Some(blocks)
     }
 }
 
