@@ -4,7 +4,7 @@ ghost use Rattle.std.specs.Prelude.{◌≤◌, length};
 
 use crate::mail::Mail;
 use crate::memory::Memory;
-use crate::spans::{Counts, Spans};
+use crate::spans::Spans;
 use nq_base::{Event, Journal, NoMemory, Party, Ticks};
 use nq_keeper::Keeper;
 use nq_record::{Act, Moment, Noted, Record, entry_words};
@@ -81,28 +81,39 @@ impl Seer {
         requires { hosts ≤ length world.now.clients }
     {
         let place = self.moments.len();
-        let before = self.marks();
+        let older = self.spans.spans.len();
         let party = self.mail.actor(event);
+        let mut moment = self.begun(event, &party);
         self.arrive(event, place);
         self.mail
             .see(&mut self.memory, world.packets(), event, &party, place);
         see_entries(&mut self.memory, &mut self.entries, world.journal());
-        let counts = self.spans.see(&mut self.memory, world, hosts, place);
-        self.date_leases(before.spans, event, place);
-        let (clock, blocks) = state_of(world, hosts, &party);
-        let delays = delayed(&mut self.known, &party, blocks);
-        let after = self.marks();
-        let moment = moment(&party, act_of(event), clock, before, after, counts, delays);
+        self.spans
+            .see(&mut self.memory, world, hosts, place, &mut moment);
+        self.date_leases(older, event, place);
+        see_party(&mut self.known, world, hosts, &mut moment);
+        moment.sent = (self.mail.packets.len() as u64).saturating_sub(moment.packets);
+        moment.made = self.entries.len().saturating_sub(moment.entries);
+        moment.changed = self.spans.changes.len().saturating_sub(moment.changes);
         self.memory.push(&mut self.moments, moment);
     }
 
-    /// How much is written down.
-    fn marks(&self) -> Marks {
-        Marks {
-            packets: self.mail.packets.len(),
+    /// An event in which a party acts, of which nothing was seen yet.
+    fn begun(&self, event: &Event, party: &Party) -> Moment {
+        Moment {
+            party: *party,
+            act: act_of(event),
+            clock: Ticks(0),
+            packets: self.mail.packets.len() as u64,
+            sent: 0,
             entries: self.entries.len(),
-            spans: self.spans.spans.len(),
+            made: 0,
             changes: self.spans.changes.len(),
+            changed: 0,
+            rows: 0,
+            leases: 0,
+            dirty: 0,
+            delays: None,
         }
     }
 
@@ -142,42 +153,6 @@ impl Seer {
     }
 }
 
-/// How much is written down.
-#[derive(Drop)]
-struct Marks {
-    packets: usize,
-    entries: usize,
-    spans: usize,
-    changes: usize,
-}
-
-/// An event in which a party acts, before and behind which so much is written down.
-fn moment(
-    party: &Party,
-    act: Act,
-    clock: Ticks,
-    before: Marks,
-    after: Marks,
-    counts: Counts,
-    delays: Option<usize>,
-) -> Moment {
-    Moment {
-        party: *party,
-        act,
-        clock,
-        packets: before.packets as u64,
-        sent: after.packets.saturating_sub(before.packets) as u64,
-        entries: before.entries,
-        made: after.entries.saturating_sub(before.entries),
-        changes: before.changes,
-        changed: after.changes.saturating_sub(before.changes),
-        rows: counts.rows,
-        leases: counts.leases,
-        dirty: counts.dirty,
-        delays,
-    }
-}
-
 /// Writes down the entries that were made.
 fn see_entries(memory: &mut Memory, entries: &mut Vec<Noted>, journal: &Journal) {
     for place in entries.len()..journal.len() {
@@ -188,26 +163,23 @@ fn see_entries(memory: &mut Memory, entries: &mut Vec<Noted>, journal: &Journal)
     }
 }
 
-/// What the clock of a party shows, and how many blocks with delayed writes it has.
-fn state_of<K: Keeper>(world: &World<K>, hosts: u32, party: &Party) -> (Ticks, usize)
+/// Notes what the clock of the party shows that acts, and how many blocks with delayed writes it has.
+fn see_party<K: Keeper>(
+    known: &mut Vec<Known>,
+    world: &World<K>,
+    hosts: u32,
+    moment: &mut Moment,
+)
     requires { hosts ≤ length world.now.clients }
 {
-    match *party {
+    match moment.party {
         Party::Client(host) if host.0 < hosts => {
-            (world.client(host).time(), world.dirty(host).pending())
+            moment.clock = world.client(host).time();
+            if let Some(known) = known.get_mut(host.0 as usize) {
+                moment.delays = changed(known, world.dirty(host).pending());
+            }
         }
-        _ => (world.server_time(), 0),
-    }
-}
-
-/// How many blocks with delayed writes a host has, if that is another number than before.
-fn delayed(known: &mut Vec<Known>, party: &Party, blocks: usize) -> Option<usize> {
-    let Party::Client(host) = *party else {
-        return None;
-    };
-    match known.get_mut(host.0 as usize) {
-        Some(before) => changed(before, blocks),
-        None => None,
+        _ => moment.clock = world.server_time(),
     }
 }
 

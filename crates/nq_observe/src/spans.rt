@@ -5,7 +5,7 @@ ghost use Rattle.std.specs.Prelude.{◌<◌, ◌≤◌, length};
 use crate::memory::Memory;
 use nq_base::{FileId, Host, Party};
 use nq_keeper::Keeper;
-use nq_record::{Change, Kind, Span};
+use nq_record::{Change, Kind, Moment, Span};
 use nq_world::World;
 use std::alloc::Global;
 
@@ -18,14 +18,6 @@ pub(crate) struct Spans {
     open: Vec<usize>,
     /// The highest file of which there was a row.
     files: u32,
-}
-
-/// How much there is of what lasts.
-#[derive(Drop)]
-pub(crate) struct Counts {
-    pub(crate) rows: usize,
-    pub(crate) leases: usize,
-    pub(crate) dirty: usize,
 }
 
 impl Spans {
@@ -68,23 +60,18 @@ impl Spans {
         world: &World<K>,
         hosts: u32,
         place: usize,
-    ) -> Counts
+        moment: &mut Moment,
+    )
         requires { hosts ≤ length world.now.clients }
     {
-        let rows = self.see_server(memory, world, place);
-        let mut leases = 0usize;
-        let mut dirty = 0usize;
+        moment.rows = self.see_server(memory, world, place);
         for host in 0..hosts {
             let held = self.see_host(memory, world, host, place);
-            leases = leases.saturating_add(held);
-            dirty = dirty.saturating_add(world.dirty(Host(host)).pending());
+            moment.leases = moment.leases.saturating_add(held);
+            let pending = world.dirty(Host(host)).pending();
+            moment.dirty = moment.dirty.saturating_add(pending);
         }
         self.end(memory, place);
-        Counts {
-            rows,
-            leases,
-            dirty,
-        }
     }
 
     /// Notes the rows of the server, and whether it recovers. How many rows there are.
