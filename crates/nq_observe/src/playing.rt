@@ -7,7 +7,7 @@ use crate::seeing::Seer;
 use nq_base::{Event, Host, NoMemory};
 use nq_keeper::Keeper;
 use nq_record::Record;
-use nq_replay::play::Delivered;
+use nq_replay::play::{Delivered, note};
 use nq_script::{Line, Lines, Script};
 use nq_world::{MOST_EVENTS, Stepped, World};
 use std::alloc::Global;
@@ -92,10 +92,9 @@ fn tick_of(ticks: u64, hosts: u32, rounds: u32) -> Option<Event> {
     }
 }
 
-/// Gives an event to a world, and writes down what it did.
-fn take<K: Keeper>(
+/// Gives an event to a world.
+fn step<K: Keeper>(
     world: &mut World<K>,
-    seer: &mut Seer,
     delivered: &mut Delivered,
     bounds: Bounds,
     event: &Event,
@@ -111,19 +110,7 @@ fn take<K: Keeper>(
     let Ok(()) = delivered.reach(world.packets().len() as usize) else {
         return Stepped::Memory;
     };
-    match world.step(event) {
-        Stepped::Done => {}
-        other => return other,
-    }
-    if let Event::Deliver(packet) = event {
-        delivered.mark(*packet as usize);
-    }
-    seer.see(world, bounds.hosts, event);
-    if seer.is_short() {
-        Stepped::Memory
-    } else {
-        Stepped::Done
-    }
+    world.step(event)
 }
 
 /// Plays a schedule over a world, and writes down what each event did, up to the first event that the world refuses.
@@ -147,11 +134,14 @@ pub(crate) fn play<K: Keeper>(
         let Some(event) = cursor.next(&script.lines, bounds.hosts, least) else {
             break;
         };
-        match take(world, &mut seer, &mut delivered, bounds, &event) {
-            Stepped::Done => {}
+        match step(world, &mut delivered, bounds, &event) {
+            Stepped::Done => {
+                note(&mut delivered, &event);
+                seer.see(world, bounds.hosts, &event);
+            }
             Stepped::Memory => return Err(NoMemory::Memory),
             _ => break,
         }
     }
-    Ok(seer.into_record())
+    seer.into_record()
 }

@@ -11,7 +11,7 @@ use nq_record::{Act, Moment, Noted, Record, entry_words};
 use nq_world::World;
 use std::alloc::Global;
 
-/// Writes down what each event did, until memory is wanting.
+/// Writes down what each event did. Once memory was wanting, what was seen is lost.
 #[derive(Drop)]
 pub(crate) struct Seer {
     memory: Memory,
@@ -49,13 +49,15 @@ impl Seer {
         })
     }
 
-    /// Whether memory was wanting.
-    pub(crate) fn is_short(&self) -> bool {
-        self.memory.is_short
-    }
-
     /// What was seen.
-    pub(crate) fn into_record(self) -> Record {
+    ///
+    /// # Errors
+    ///
+    /// Only want of memory, while an event was seen.
+    pub(crate) fn into_record(self) -> Result<Record, NoMemory> {
+        if self.memory.is_short {
+            return Err(NoMemory::Memory);
+        }
         let Seer {
             memory: _memory,
             hosts,
@@ -66,14 +68,14 @@ impl Seer {
             known: _known,
         } = self;
         let (spans, changes) = spans.into_parts();
-        Record {
+        Ok(Record {
             hosts,
             moments,
             packets: mail.into_packets(),
             entries,
             spans,
             changes,
-        }
+        })
     }
 
     /// Writes down what an event did that a world took in just now.
