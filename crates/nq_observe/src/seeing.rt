@@ -93,7 +93,7 @@ impl Seer {
         self.spans
             .see(&mut self.memory, world, hosts, place, &mut moment);
         self.date_leases(older, event, place);
-        see_party(&mut self.known, world, hosts, &mut moment);
+        moment.delays = self.new_delays(&moment);
         moment.sent = (self.mail.packets.len() as u64).saturating_sub(moment.packets);
         moment.made = self.entries.len().saturating_sub(moment.entries);
         moment.changed = self.spans.changes.len().saturating_sub(moment.changes);
@@ -116,6 +116,18 @@ impl Seer {
             leases: 0,
             dirty: 0,
             delays: None,
+        }
+    }
+
+    /// How many blocks with delayed writes the host has that acts, if that is another number than before.
+    fn new_delays(&mut self, moment: &Moment) -> Option<usize> {
+        let Party::Client(host) = moment.party else {
+            return None;
+        };
+        let blocks = moment.delays?;
+        match self.known.get_mut(host.0 as usize) {
+            Some(before) => changed(before, blocks),
+            None => None,
         }
     }
 
@@ -162,26 +174,6 @@ fn see_entries(memory: &mut Memory, entries: &mut Vec<Noted>, journal: &Journal)
             let words = entry_words(memory.alloc, entry);
             memory.add(entries, words);
         }
-    }
-}
-
-/// Notes what the clock of the party shows that acts, and how many blocks with delayed writes it has.
-fn see_party<K: Keeper>(
-    known: &mut Vec<Known>,
-    world: &World<K>,
-    hosts: u32,
-    moment: &mut Moment,
-)
-    requires { hosts ≤ length world.now.clients }
-{
-    match moment.party {
-        Party::Client(host) if host.0 < hosts => {
-            moment.clock = world.client(host).time();
-            if let Some(known) = known.get_mut(host.0 as usize) {
-                moment.delays = changed(known, world.dirty(host).pending());
-            }
-        }
-        _ => moment.clock = world.server_time(),
     }
 }
 

@@ -1,9 +1,10 @@
 //! What lasts for some time.
 
-ghost use Rattle.std.specs.Prelude.{◌<◌, ◌≤◌, length};
+ghost use Rattle.std.specs.Prelude.{◌≤◌, length};
 
 use crate::memory::Memory;
 use nq_base::{FileId, Host, Party};
+use nq_client::Client;
 use nq_keeper::Keeper;
 use nq_record::{Change, Kind, Moment, Span};
 use nq_world::World;
@@ -64,24 +65,9 @@ impl Spans {
     )
         requires { hosts ≤ length world.now.clients }
     {
-        moment.rows = self.see_server(memory, world, place);
-        for host in 0..hosts {
-            let held = self.see_host(memory, world, host, place);
-            moment.leases = moment.leases.saturating_add(held);
-            let pending = world.dirty(Host(host)).pending();
-            moment.dirty = moment.dirty.saturating_add(pending);
-        }
-        self.end(memory, place);
-    }
-
-    /// Notes the rows of the server, and whether it recovers. How many rows there are.
-    fn see_server<K: Keeper>(
-        &mut self,
-        memory: &mut Memory,
-        world: &World<K>,
-        place: usize,
-    ) -> usize {
         let rows = world.server().table().rows();
+        moment.rows = rows.len();
+        moment.clock = world.server_time();
         for row in rows {
             self.files = self.files.max(row.file.0);
             let kind = Kind::Row {
@@ -94,22 +80,30 @@ impl Spans {
         if !world.serving() {
             self.touch(memory, &Party::Server, &Kind::Recovery, place);
         }
-        rows.len()
+        for host in 0..hosts {
+            let client = world.client(Host(host));
+            self.see_client(memory, client, host, place, moment);
+        }
+        self.end(memory, place);
     }
 
-    /// Notes the leases of a host that run. How many there are.
-    fn see_host<K: Keeper>(
+    /// Notes the leases of a host that run, how many blocks with delayed writes it has, and what its clock shows, if it acts.
+    fn see_client(
         &mut self,
         memory: &mut Memory,
-        world: &World<K>,
+        client: &Client,
         host: u32,
         place: usize,
-    ) -> usize
-        requires { host < length world.now.clients }
-    {
-        let mut count = 0usize;
-        let client = world.client(Host(host));
+        moment: &mut Moment,
+    ) {
+        let party = Party::Client(Host(host));
         let now = client.time();
+        let blocks = client.dirty().pending();
+        moment.dirty = moment.dirty.saturating_add(blocks);
+        if moment.party == party {
+            moment.clock = now;
+            moment.delays = Some(blocks);
+        }
         for file in 1..self.files.saturating_add(1) {
             let held = client.held(FileId(file));
             if held.live(now) {
@@ -118,12 +112,11 @@ impl Spans {
                         file: FileId(file),
                         mode,
                     };
-                    self.touch(memory, &Party::Client(Host(host)), &kind, place);
-                    count = count.saturating_add(1);
+                    self.touch(memory, &party, &kind, place);
+                    moment.leases = moment.leases.saturating_add(1);
                 }
             }
         }
-        count
     }
 
     /// Notes that something is there at a place. Where it was not there before, it begins there.
