@@ -5,7 +5,7 @@ ghost use Rattle.std.specs.Prelude.{◌≤◌, length};
 use crate::mail::Mail;
 use crate::memory::Memory;
 use crate::spans::Spans;
-use nq_base::{Event, Journal, NoMemory, Party, Ticks};
+use nq_base::{Event, Host, Journal, NoMemory, Party, Ticks};
 use nq_keeper::Keeper;
 use nq_record::{Act, Moment, Noted, Record, entry_words};
 use nq_world::World;
@@ -84,15 +84,29 @@ impl Seer {
     {
         let place = self.moments.len();
         let older = self.spans.spans.len();
-        let party = self.mail.actor(event);
-        let mut moment = self.begun(event, &party);
+        let mut moment = self.begun(event);
         self.arrive(event, place);
+        let party = &moment.party;
         self.mail
-            .see(&mut self.memory, world.packets(), event, &party, place);
+            .see(&mut self.memory, world.packets(), event, party, place);
         see_entries(&mut self.memory, &mut self.entries, world.journal());
+        let rows = world.server().table().rows();
         self.spans
-            .see(&mut self.memory, world, hosts, place, &mut moment);
-        self.date_leases(older, event, place);
+            .see_server(&mut self.memory, rows, !world.serving(), place);
+        moment.rows = rows.len();
+        moment.clock = world.server_time();
+        for host in 0..hosts {
+            let client = world.client(Host(host));
+            self.spans
+                .see_client(&mut self.memory, client, host, place, &mut moment);
+        }
+        self.spans.end(&mut self.memory, place);
+        self.note(older, event, moment);
+    }
+
+    /// Notes an event of which all was seen. So many spans are older.
+    fn note(&mut self, older: usize, event: &Event, mut moment: Moment) {
+        self.date_leases(older, event);
         moment.delays = self.new_delays(&moment);
         moment.sent = (self.mail.packets.len() as u64).saturating_sub(moment.packets);
         moment.made = self.entries.len().saturating_sub(moment.entries);
@@ -100,10 +114,10 @@ impl Seer {
         self.memory.push(&mut self.moments, moment);
     }
 
-    /// An event in which a party acts, of which nothing was seen yet.
-    fn begun(&self, event: &Event, party: &Party) -> Moment {
+    /// An event of which nothing was seen yet.
+    fn begun(&self, event: &Event) -> Moment {
         Moment {
-            party: *party,
+            party: self.mail.actor(event),
             act: act_of(event),
             clock: Ticks(0),
             packets: self.mail.packets.len() as u64,
@@ -147,9 +161,9 @@ impl Seer {
     }
 
     /// Lets leases begin where they were first asked for. So many spans are older.
-    fn date_leases(&mut self, older: usize, event: &Event, place: usize) {
+    fn date_leases(&mut self, older: usize, event: &Event) {
         if older < self.spans.spans.len() {
-            let asked = self.asked(event, place);
+            let asked = self.asked(event, self.moments.len());
             self.spans.date_leases(older, asked);
         }
     }

@@ -1,13 +1,9 @@
 //! What lasts for some time.
 
-ghost use Rattle.std.specs.Prelude.{◌≤◌, length};
-
 use crate::memory::Memory;
-use nq_base::{FileId, Host, Party};
+use nq_base::{FileId, Host, Party, Row};
 use nq_client::Client;
-use nq_keeper::Keeper;
 use nq_record::{Change, Kind, Moment, Span};
-use nq_world::World;
 use std::alloc::Global;
 
 /// What lasts, and what of it began or ended, in the order of the events.
@@ -54,20 +50,14 @@ impl Spans {
         }
     }
 
-    /// Notes what there is after the event at a place.
-    pub(crate) fn see<K: Keeper>(
+    /// Notes the rows that the server has after the event at a place, and whether it recovers.
+    pub(crate) fn see_server(
         &mut self,
         memory: &mut Memory,
-        world: &World<K>,
-        hosts: u32,
+        rows: &[Row],
+        recovers: bool,
         place: usize,
-        moment: &mut Moment,
-    )
-        requires { hosts ≤ length world.now.clients }
-    {
-        let rows = world.server().table().rows();
-        moment.rows = rows.len();
-        moment.clock = world.server_time();
+    ) {
         for row in rows {
             self.files = self.files.max(row.file.0);
             let kind = Kind::Row {
@@ -77,18 +67,13 @@ impl Spans {
             };
             self.touch(memory, &Party::Server, &kind, place);
         }
-        if !world.serving() {
+        if recovers {
             self.touch(memory, &Party::Server, &Kind::Recovery, place);
         }
-        for host in 0..hosts {
-            let client = world.client(Host(host));
-            self.see_client(memory, client, host, place, moment);
-        }
-        self.end(memory, place);
     }
 
     /// Notes the leases of a host that run, how many blocks with delayed writes it has, and what its clock shows, if it acts.
-    fn see_client(
+    pub(crate) fn see_client(
         &mut self,
         memory: &mut Memory,
         client: &Client,
@@ -146,7 +131,7 @@ impl Spans {
     }
 
     /// Ends what is no longer there after the event at a place.
-    fn end(&mut self, memory: &mut Memory, place: usize) {
+    pub(crate) fn end(&mut self, memory: &mut Memory, place: usize) {
         let mut open = Vec::new(memory.alloc);
         for index in &self.open {
             match ended(&mut self.spans, *index, place) {
