@@ -101,17 +101,17 @@ impl Seer {
                 .see_client(&mut self.memory, client, host, place, &mut moment);
         }
         self.spans.end(&mut self.memory, place);
-        self.note(older, event, moment);
+        self.count(older, event, &mut moment);
+        self.memory.push(&mut self.moments, moment);
     }
 
-    /// Notes an event of which all was seen. So many spans are older.
-    fn note(&mut self, older: usize, event: &Event, mut moment: Moment) {
+    /// Notes how much an event did of which all was seen. So many spans are older.
+    fn count(&mut self, older: usize, event: &Event, moment: &mut Moment) {
         self.date_leases(older, event);
-        moment.delays = self.new_delays(&moment);
+        moment.delays = self.new_delays(moment);
         moment.sent = (self.mail.packets.len() as u64).saturating_sub(moment.packets);
         moment.made = self.entries.len().saturating_sub(moment.entries);
         moment.changed = self.spans.changes.len().saturating_sub(moment.changes);
-        self.memory.push(&mut self.moments, moment);
     }
 
     /// An event of which nothing was seen yet.
