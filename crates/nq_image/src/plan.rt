@@ -1,4 +1,5 @@
-//! What a store has in memory of its image, what it reads there, and which ranges of bytes a change writes. No disk is in it.
+//! What a store has in memory of its image, what it reads there, and which ranges of bytes a change writes. But for `format` no disk is
+//! in it.
 
 mod block_table;
 mod bodies;

@@ -1,5 +1,5 @@
 //! Laws over every run of the protocol. Each stands on a function with an empty body, whose clause is the law and whose
-//! proof stands in `proofs/`.
+//! proof stands in `proofs/`. Worked schedules with their journals are in `examples`.
 #![tactic(auto)]
 
 pub mod answered;

@@ -1,4 +1,4 @@
-//! What a server keeps, on a disk.
+//! What a server keeps, on a disk; and what holds of every image that a store leaves (`images`).
 #![tactic(auto)]
 
 mod examining;

@@ -1,4 +1,4 @@
-//! The world: one server, its clients, all packets ever sent, and the journal.
+//! The world: one server, its clients, all packets ever sent, and the journal. Each reply is of its request (`replies`).
 #![tactic(auto)]
 
 mod arriving;

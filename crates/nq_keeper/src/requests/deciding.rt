@@ -3,7 +3,7 @@
 ghost use Rattle.std.specs.Prelude.{◌≡◌, ◌<◌, All, IfNone, IfSome, Some, None, true};
 ghost use Rattle.std.specs.Option.{ForSome};
 ghost use Rattle.nq_base.specs.Block.{filled};
-ghost use Rattle.nq_base.specs.declared.Request.{Request as Asks};
+ghost use Rattle.nq_base.specs.declared.Request.{Request as Asked};
 ghost use Rattle.nq_model.specs.Change.{Fits, IsBody, IsChangeWithin};
 ghost use Rattle.nq_model.specs.Decided.{HasText, decided, decided_before, no_effect, change_of, change_with, fresh_decided, is_decided_once, sequence_decided, attach_decided, if_fresh, effect_of, row_with};
 ghost use Rattle.nq_model.specs.Kept.{can_be_kept, host_row};
@@ -136,7 +136,7 @@ fn attach<K: Keeper>(keeper: &mut K, who: Who) -> Result<Decided, KeepFault>
 fn asked_by(request: &Request) -> (Who, Option<Seq>)
     requires { is_decided_once request.now ≡ true }
     ensures who { asker request.now ≡ Some result.0 }
-    ensures attach { IfNone result.1 (request.now ≡ Asks.Attach result.0) }
+    ensures attach { IfNone result.1 (request.now ≡ Asked.Attach result.0) }
     ensures sequence { IfSome result.1 (λ seq. IsOfSequence result.0 seq request.now) }
 {
     match request {

@@ -1,5 +1,5 @@
 use Rattle.nq_stage.proofs.Rebuilt.{each-stands, each-is-delivered}
-use Rattle.nq_stage.proofs.runs.each_stands_for_its_packet.Goals as goal
+use Rattle.nq_stage.proofs.every_run.each_stands_for_its_packet.Goals as goal
 
 pub returns-clause-carries : goal.returns-clause-carries
 returns-clause-carries c = each-stands

@@ -1,5 +1,5 @@
 use Rattle.nq_stage.proofs.Schedules.{inner-runs-are-lawful, headline-holds-outside}
-use Rattle.nq_stage.proofs.runs.inner_runs_are_lawful.Goals as goal
+use Rattle.nq_stage.proofs.every_run.inner_runs_are_lawful.Goals as goal
 
 pub returns-clause-lawful : goal.returns-clause-lawful
 returns-clause-lawful c = inner-runs-are-lawful

@@ -1,5 +1,5 @@
 use Rattle.nq_stage.proofs.Boots.{boots-are-counted, pool-is-of-its-boot, crashes-lose-all, answers-are-of-the-boot}
-use Rattle.nq_stage.proofs.runs.answers_are_of_the_boot.Goals as goal
+use Rattle.nq_stage.proofs.every_run.answers_are_of_the_boot.Goals as goal
 
 pub returns-clause-counted : goal.returns-clause-counted
 returns-clause-counted c = boots-are-counted

@@ -1,4 +1,4 @@
-//! What hosts find.
+//! What hosts find. Each law stands on a function with an empty body, whose clause is the law and whose proof stands in `proofs/`.
 
 ghost use Rattle.nq_names.specs.Met.{FindsAreMet};
 ghost use Rattle.nq_name_server.specs.Lasting.{EachListLasts};
