@@ -3,10 +3,10 @@
 
     terms.py journal FILE          the journal as a term of type List Entry, the newest entry first
     terms.py schedule FILE         the schedule's head (type Head) and its lines (type List Line)
-    terms.py journals NAME FILE..  a module of nq_examples that defines each journal by the name of its file, and NAME,
+    terms.py journals NAME FILE..  a module of nq_laws::examples that defines each journal by the name of its file, and NAME,
                                    the list of them all
     terms.py examples NAME FILE..  the same of schedules, each with the journal beside it in a file of the same name
-    terms.py --check               compares the modules of nq_examples with what is made of the texts of examples/
+    terms.py --check               compares the modules of nq_laws::examples with what is made of the texts of examples/
 
 A text is one of versions 1 and 2. What is not of its grammar ends the script with a message. `--check` ends with status 1 where a
 module differs, and says which.
@@ -20,7 +20,7 @@ import sys
 
 TOP = os.path.normpath(os.path.join(os.path.dirname(os.path.abspath(__file__)), ".."))
 
-# The modules of nq_examples: the file of each, the list of all that it defines, and the texts of which it is made.
+# The modules of nq_laws::examples: the file of each, the list of all that it defines, and the texts of which it is made.
 MODULES = [
     ("Worked", "worked", "*.schedule", range(0)),
     ("MixedOne", "mixed_one", "mixed/run-*.schedule", range(1, 21)),
@@ -249,7 +249,7 @@ def imports(body):
         if any(word == kind or word.startswith(kind + ".") for word in words):
             lines.append(f"use Rattle.nq_base.specs.declared.{kind}.{{{kind}}}")
     if "Example" in words:
-        lines.append("use Rattle.nq_examples.specs.Example.{Example}")
+        lines.append("use Rattle.nq_laws.specs.Example.{Example}")
         constructors = [word for word in ("one", "times", "round", "flow") if word in words]
         if constructors:
             lines.append(f"use Rattle.nq_model.specs.Lines.{{{', '.join(constructors)}}}")
@@ -314,11 +314,11 @@ def texts_of(pattern, numbers):
 
 
 def check():
-    """Says which modules of nq_examples are not what is made of the texts now, and how many."""
+    """Says which modules of nq_laws::examples are not what is made of the texts now, and how many."""
     differing = 0
     for file, list_name, pattern, numbers in MODULES:
         kind = "journals" if pattern.endswith(".journal") else "examples"
-        with open(os.path.join(TOP, "crates/nq_examples/specs", file + ".antt"), encoding="utf-8") as there:
+        with open(os.path.join(TOP, "crates/nq_laws/specs", file + ".antt"), encoding="utf-8") as there:
             if there.read() != module(kind, list_name, texts_of(pattern, numbers)):
                 differing += 1
                 print(f"{file}.antt is not made of examples/{pattern}")
@@ -327,7 +327,7 @@ def check():
 
 def main():
     asked = argparse.ArgumentParser(description=__doc__, formatter_class=argparse.RawDescriptionHelpFormatter, usage="terms.py ..")
-    asked.add_argument("--check", action="store_true", help="compare the modules of nq_examples with the texts of examples/")
+    asked.add_argument("--check", action="store_true", help="compare the modules of nq_laws::examples with the texts of examples/")
     asked.add_argument("words", nargs="*", help="what is made, and of which files")
     said = asked.parse_args()
     words = said.words

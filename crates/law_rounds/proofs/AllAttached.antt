@@ -5,7 +5,7 @@ use Rattle.nq_model.specs.Client.{Client}
 use Rattle.nq_model.specs.Lines.{Play}
 use Rattle.nq_model.specs.Profile.{patience, inc_end}
 use Rattle.nq_model.specs.Stepped.{most_events}
-use Rattle.law_bounds.proofs.WorldNumbers.{drawn-up-to}
+use Rattle.walk_steps.proofs.WorldNumbers.{drawn-up-to}
 use Rattle.nq_model.specs.World.{Head, World, run}
 use Rattle.walk_steps.proofs.Worlds.{run-holds}
 use Rattle.law_rounds.specs.AttachedSoon.{IsAttached, AttachedSoon}

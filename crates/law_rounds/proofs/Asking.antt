@@ -20,8 +20,8 @@ use Rattle.nq_model.specs.Stepped.{most_events, most_sent}
 use Rattle.nq_model.specs.World.{Head, run}
 use Rattle.nq_model.specs.Bounds.{KeepsBounds}
 use Rattle.nq_model.specs.RepliesAreOwed.{has_reply, is_out_of_bounds, owes, CanBe}
-use Rattle.law_bounds.proofs.WorldNumbers.{drawn-up-to}
-use Rattle.law_bounds.proofs.LeaseIntervals.{run-runs}
+use Rattle.walk_steps.proofs.WorldNumbers.{drawn-up-to}
+use Rattle.walk_steps.proofs.LeaseIntervals.{run-runs}
 use Rattle.law_rounds.proofs.Owing.{replies-are-owed}
 use Rattle.law_rounds.proofs.Attaching.{attach-answered}
 use Rattle.walk_steps.proofs.ClientFacts.{fits_job, Alone}
@@ -31,7 +31,7 @@ use Rattle.walk_steps.proofs.Worlds.{run-holds}
 use Rattle.walk_steps.proofs.Rows.{number-same}
 use Rattle.law_rounds.proofs.Fair.{counts-same}
 use Rattle.law_rounds.proofs.Lines.{Lined, run-lined}
-use Rattle.law_bounds.proofs.LowValues.{stays-within}
+use Rattle.walk_steps.proofs.LowValues.{stays-within}
 use Rattle.law_rounds.proofs.Revisions.{revisions-up-to}
 use Rattle.law_rounds.proofs.ServerAnswers.{answers-it}
 

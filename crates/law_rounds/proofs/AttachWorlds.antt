@@ -18,7 +18,7 @@ use Rattle.nq_model.specs.Profile.{patience, inc_end}
 use Rattle.nq_model.specs.Server.{ServerStep, to_host}
 use Rattle.nq_model.specs.ServerStep.{receive}
 use Rattle.nq_model.specs.World.{Head, World, from_host, after_server, after_client, at_client, after_hearing, sending_host, deliver, deliver_to, deliver_to_client, step, run}
-use Rattle.law_bounds.proofs.LeaseIntervals.{run-runs}
+use Rattle.walk_steps.proofs.LeaseIntervals.{run-runs}
 use Rattle.walk_steps.proofs.ClientFacts.{Alone}
 use Rattle.walk_steps.proofs.ClientMoves.{some-same}
 use Rattle.walk_steps.proofs.Members.{filter-in}

@@ -22,8 +22,8 @@ use Rattle.nq_model.specs.Table.{Table, empty_table, after_draw, find_row, is_ro
 use Rattle.nq_model.specs.World.{Head, World, from_host, after_server, after_client, sending_host, first_kept, start, run}
 use Rattle.nq_model.specs.RowsStandApart.{HasOneRowEach, StandApart}
 use Rattle.nq_model.specs.ServerAlone.{Coming, datagram, step_for, server_after, first_boot}
-use Rattle.law_bounds.proofs.NoticeCounts.{HostedBelow}
-use Rattle.law_bounds.proofs.ServerAlone.{rows-stand-apart}
+use Rattle.walk_steps.proofs.NoticeCounts.{HostedBelow}
+use Rattle.walk_steps.proofs.ServerAlone.{rows-stand-apart}
 use Rattle.walk_steps.proofs.Members.{in-map}
 use Rattle.walk_steps.proofs.Packets.{In, in-append, in-get}
 use Rattle.walk_steps.proofs.ServerSays.{IsSaid, said_reply, said_error, said_notice, AllSaid}

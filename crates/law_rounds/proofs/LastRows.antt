@@ -18,7 +18,7 @@ use Rattle.nq_model.specs.Table.{Table, caches, is_writing, find_row}
 use Rattle.nq_model.specs.World.{Head, after_client, after_server, sending_host, start, run}
 use Rattle.nq_model.specs.Bounds.{KeepsBounds}
 use Rattle.law_rounds.proofs.RowEnds.{rows-end-soon, recoveries-end-soon}
-use Rattle.law_bounds.proofs.LeaseIntervals.{run-runs}
+use Rattle.walk_steps.proofs.LeaseIntervals.{run-runs}
 use Rattle.walk_steps.proofs.WorldClocks.{run-clocked}
 use Rattle.walk_steps.proofs.CoverFacts.{IsTakeable}
 use Rattle.walk_steps.proofs.Clocks.{runs-below}

@@ -14,8 +14,8 @@ use Rattle.nq_model.specs.ServerStep.{receive, tick, crash, boot, row_of_attach}
 use Rattle.nq_model.specs.Skew.{IsWithinSkew}
 use Rattle.nq_model.specs.World.{Head, World, after_client, after_server, sending_host, start, run}
 use Rattle.nq_model.specs.Bounds.{KeepsBounds}
-use Rattle.law_bounds.proofs.LeaseIntervals.{run-runs}
-use Rattle.law_bounds.proofs.WorldSequences.{run-draws}
+use Rattle.walk_steps.proofs.LeaseIntervals.{run-runs}
+use Rattle.walk_steps.proofs.WorldSequences.{run-draws}
 use Rattle.walk_steps.proofs.ClientMoves.{some-same, none-some}
 use Rattle.walk_steps.proofs.KnownWorlds.{first-line, first-there}
 use Rattle.walk_steps.proofs.TickLines.{tick-line}

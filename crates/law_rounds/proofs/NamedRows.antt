@@ -21,8 +21,8 @@ use Rattle.nq_model.specs.World.{Head, World, from_host, after_server, after_cli
 use Rattle.nq_model.specs.Bounds.{KeepsBounds}
 use Rattle.nq_model.specs.RowsStandApart.{HasOneRowEach}
 use Rattle.nq_model.specs.Skew.{IsWithinSkew}
-use Rattle.law_bounds.proofs.LeaseIntervals.{run-runs}
-use Rattle.law_bounds.proofs.NoticeCounts.{HostedBelow}
+use Rattle.walk_steps.proofs.LeaseIntervals.{run-runs}
+use Rattle.walk_steps.proofs.NoticeCounts.{HostedBelow}
 use Rattle.walk_steps.proofs.ClientCases.{core_of}
 use Rattle.walk_steps.proofs.ClientMoves.{some-same, none-some}
 use Rattle.walk_steps.proofs.ClientWalk.{call-keeps, tick-keeps}

@@ -22,7 +22,7 @@ use Rattle.nq_model.specs.Profile.{most_hosts, xid_end}
 use Rattle.nq_model.specs.Server.{notices}
 use Rattle.nq_model.specs.Table.{find_row}
 use Rattle.nq_model.specs.RowsStandApart.{HasOneRowEach}
-use Rattle.law_bounds.proofs.NoticeCounts.{HostedBelow, fewer-than-hosts}
+use Rattle.walk_steps.proofs.NoticeCounts.{HostedBelow, fewer-than-hosts}
 use Rattle.walk_steps.proofs.ClientFacts.{Alone}
 use Rattle.walk_steps.proofs.ClientMoves.{none-some}
 use Rattle.walk_steps.proofs.Packets.{in-get}

@@ -23,8 +23,8 @@ use Rattle.nq_model.specs.ServerStep.{receive, tick, attaches, tells_later, serv
 use Rattle.nq_model.specs.Table.{Table, is_writing, find_row}
 use Rattle.nq_model.specs.World.{Head, World, after_client, after_server, sending_host, step, run}
 use Rattle.law_runs.proofs.ChainWorlds.{chain-fits}
-use Rattle.law_bounds.proofs.LeaseIntervals.{run-runs}
-use Rattle.law_bounds.proofs.WorldSequences.{run-draws}
+use Rattle.walk_steps.proofs.LeaseIntervals.{run-runs}
+use Rattle.walk_steps.proofs.WorldSequences.{run-draws}
 use Rattle.law_rounds.specs.CalmRoundsAreLawful.{IsLawful}
 use Rattle.law_rounds.proofs.Attaching.{hear-stays}
 use Rattle.walk_steps.proofs.ClientFacts.{IsTicket}

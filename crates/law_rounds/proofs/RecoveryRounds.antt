@@ -12,7 +12,7 @@ use Rattle.nq_model.specs.ServerStep.{tick, at_time, opens, ends_writing}
 use Rattle.nq_model.specs.Table.{Table}
 use Rattle.nq_model.specs.World.{Head, World, after_client, after_server, at_client, sending_host, step, run}
 use Rattle.law_rounds.proofs.RowEnds.{recoveries-end-soon}
-use Rattle.law_bounds.proofs.LeaseIntervals.{run-runs}
+use Rattle.walk_steps.proofs.LeaseIntervals.{run-runs}
 use Rattle.law_rounds.specs.DeliveryEnds.{calmed}
 use Rattle.law_rounds.specs.CalmRoundsAreLawful.{IsLawful}
 use Rattle.law_rounds.specs.QuietDeliveries.{recovers}

@@ -19,7 +19,7 @@ use Rattle.nq_model.specs.Table.{Table, empty_table, is_row_of, is_writing, row_
 use Rattle.nq_model.specs.World.{Head, World, after_server, after_client, sending_host, first_kept, start, run}
 use Rattle.nq_model.specs.Bounds.{KeepsBounds}
 use Rattle.nq_model.specs.Skew.{IsWithinSkew}
-use Rattle.law_bounds.proofs.LeaseIntervals.{run-runs}
+use Rattle.walk_steps.proofs.LeaseIntervals.{run-runs}
 use Rattle.walk_steps.proofs.Members.{in-filtered, in-map, find-in}
 use Rattle.walk_steps.proofs.Packets.{In}
 use Rattle.walk_steps.proofs.Steps.{Changes, nothing, by_client, by_server, ServerActs, received, ticks, crashes, step-changes, run-goes}

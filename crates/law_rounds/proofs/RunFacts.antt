@@ -24,7 +24,7 @@ use Rattle.nq_model.specs.Stepped.{most_sends}
 use Rattle.nq_model.specs.Table.{is_writing, find_row}
 use Rattle.nq_model.specs.World.{Head, World, from_host, sending_host, run}
 use Rattle.nq_model.specs.Bounds.{KeepsBounds}
-use Rattle.law_bounds.proofs.WorldSends.{events-send-few}
+use Rattle.walk_steps.proofs.WorldSends.{events-send-few}
 use Rattle.walk_steps.proofs.ClientMoves.{some-same, none-some}
 use Rattle.walk_steps.proofs.StepCases.{heard-cases}
 use Rattle.walk_steps.proofs.Packets.{In, in-get, told-same, Asked}

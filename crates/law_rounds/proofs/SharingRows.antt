@@ -22,7 +22,7 @@ use Rattle.nq_model.specs.Server.{Server, Phase, standing_in, serving, recoverin
 use Rattle.nq_model.specs.ServerStep.{access_of, to_read, attaches, vacates, vacated_rows, tells_later, serves, leases, receive}
 use Rattle.nq_model.specs.Table.{Table, caches, is_writing, same_tag, find_row, is_row_of, drop_host, drop_rows_of, drop_row, put_row, with_rows, after_draw}
 use Rattle.nq_model.specs.World.{World, from_host, after_server, after_client, after_hearing, sending_host, deliver, deliver_to, deliver_to_client, run}
-use Rattle.law_bounds.proofs.LeaseIntervals.{run-runs}
+use Rattle.walk_steps.proofs.LeaseIntervals.{run-runs}
 use Rattle.walk_steps.proofs.ClientMoves.{some-same, none-some}
 use Rattle.walk_steps.proofs.Runs.{none-served}
 use Rattle.walk_steps.proofs.ServerTables.{NoneRecovering}

@@ -12,7 +12,7 @@ use Rattle.nq_base.specs.declared.Who.{Who}
 use Rattle.walk_steps.proofs.ClientCases.{Core, core_of, Closed, Both}
 use Rattle.walk_steps.proofs.ClientMoves.{some-same, none-some}
 use Rattle.walk_steps.proofs.ClientWalk.{Replying, reply-keeps, notice-keeps, call-keeps, tick-keeps}
-use Rattle.walk_calls.proofs.ServerTells.{Tells, later, decided, Moves, same_lines, attaches_one, decides_one, Decides, Attaches, ServerTells}
+use Rattle.walk_files.proofs.ServerTells.{Tells, later, decided, Moves, same_lines, attaches_one, decides_one, Decides, Attaches, ServerTells}
 use Rattle.nq_model.specs.Client.{Client, ClientStep, begun, Ticket, lease_on}
 use Rattle.nq_model.specs.ClientStep.{client_call, client_tick, at_time, restart, starts, fresh_client}
 use Rattle.nq_model.specs.Decide.{verdict_reply}

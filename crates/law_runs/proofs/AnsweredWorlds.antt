@@ -6,9 +6,9 @@ use Rattle.nq_base.specs.declared.Request.{Request}
 use Rattle.nq_base.specs.declared.Row.{Row}
 use Rattle.walk_steps.proofs.ClientMoves.{none-some}
 use Rattle.law_runs.proofs.Answered.{Answered, AnsweredOf, call-answers, tick-answers, restart-answers, hear-answers, other-answers, server-answers}
-use Rattle.walk_calls.proofs.ServerTells.{none-quiet, one-quiet, ServerTells, same_lines, hears-tells}
+use Rattle.walk_files.proofs.ServerTells.{none-quiet, one-quiet, ServerTells, same_lines, hears-tells}
 use Rattle.walk_steps.proofs.Runs.{Runs}
-use Rattle.law_bounds.proofs.LeaseIntervals.{run-runs}
+use Rattle.walk_steps.proofs.LeaseIntervals.{run-runs}
 use Rattle.nq_model.specs.Bounds.{KeepsBounds}
 use Rattle.nq_model.specs.Client.{Client, ClientStep}
 use Rattle.nq_model.specs.ClientStep.{client_call, client_tick, restart, attached_client, fresh_client}
@@ -19,7 +19,7 @@ use Rattle.nq_model.specs.ServerStep.{receive, tick, crash, boot, opens, ends_wr
 use Rattle.nq_model.specs.Skew.{IsWithinSkew}
 use Rattle.nq_model.specs.Table.{with_rows}
 use Rattle.nq_model.specs.World.{Head, World, after_server, after_client, sending_host, start, run}
-use Rattle.law_bounds.proofs.WorldSequences.{Draws, run-draws}
+use Rattle.walk_steps.proofs.WorldSequences.{Draws, run-draws}
 use Rattle.walk_steps.proofs.RunCases.{Keeps, run-keeps, OfClients, clients-after}
 use Rattle.walk_steps.proofs.KnownWorlds.{first-there, first-line}
 use Rattle.walk_steps.proofs.Packets.{In, in-get}

@@ -25,10 +25,10 @@ use Rattle.law_runs.proofs.RunContents.{run-fits}
 use Rattle.nq_model.specs.RevisionsHaveOneContent.{first_length, IsOfRevision}
 use Rattle.nq_model.specs.Contents.{content_at}
 use Rattle.nq_model.specs.Told.{HasValue, IsDoneAs}
-use Rattle.walk_calls.proofs.FactPushes.{dirty-clear}
-use Rattle.walk_calls.proofs.JournalMoves.{store-covers}
-use Rattle.walk_calls.proofs.PushLists.{is-at, at-is}
-use Rattle.walk_calls.proofs.WritesFit.{CoversNumber, IsClear, IsDirty, IsDecidedAs, PushStands, waits, stored, LiesWithin, in_list, under_way, WritesFit}
+use Rattle.walk_files.proofs.FactPushes.{dirty-clear}
+use Rattle.walk_files.proofs.JournalMoves.{store-covers}
+use Rattle.walk_files.proofs.PushLists.{is-at, at-is}
+use Rattle.walk_files.proofs.WritesFit.{CoversNumber, IsClear, IsDirty, IsDecidedAs, PushStands, waits, stored, LiesWithin, in_list, under_way, WritesFit}
 use Rattle.nq_model.specs.Bounds.{KeepsBounds}
 use Rattle.walk_files.proofs.EarlierStores.{Earlier, push-behind}
 use Rattle.walk_files.proofs.Entries.{stored-covered}

@@ -21,7 +21,7 @@ use Rattle.walk_files.proofs.ChainFacts.{line_for, ChainFits, PushFits, PushesFi
 use Rattle.nq_model.specs.Chained.{has_done_write, KnowsFile}
 use Rattle.walk_steps.proofs.ClientMoves.{some-same, none-some}
 use Rattle.walk_steps.proofs.Runs.{Runs, none-served}
-use Rattle.law_bounds.proofs.LeaseIntervals.{run-runs, tick-sends, crash-sends}
+use Rattle.walk_steps.proofs.LeaseIntervals.{run-runs, tick-sends, crash-sends}
 use Rattle.walk_steps.proofs.ServerEffects.{standing-serving}
 use Rattle.nq_model.specs.Bounds.{KeepsBounds}
 use Rattle.nq_model.specs.Client.{Client, ClientStep, revision_of, revision_or_zero}
@@ -35,7 +35,7 @@ use Rattle.nq_model.specs.Skew.{IsWithinSkew}
 use Rattle.nq_model.specs.Table.{find_row}
 use Rattle.nq_model.specs.World.{Head, World, after_server, after_client, at_client, after_hearing, sending_host, deliver_to_client, deliver_to, deliver, start, run}
 use Rattle.walk_steps.proofs.Sequences.{Drew, DrewIf, call-draws, tick-draws, restart-draws, hear-draws, asked-before-server}
-use Rattle.law_bounds.proofs.WorldSequences.{run-draws}
+use Rattle.walk_steps.proofs.WorldSequences.{run-draws}
 use Rattle.walk_steps.proofs.RunCases.{During, client_at, Keeps, run-keeps, OfClients, clients-after}
 use Rattle.walk_steps.proofs.ClientSteps.{KnowsOf}
 use Rattle.walk_steps.proofs.KnownWorlds.{takeable, first-there, first-line}

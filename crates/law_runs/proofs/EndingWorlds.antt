@@ -11,7 +11,7 @@ use Rattle.walk_files.proofs.LateEndings.{late-end, long-wait, all-over}
 use Rattle.walk_files.proofs.LogRuns.{Alone as ServerAlone, LogRuns, IsShortGrant, runs-start, runs-receive, runs-tick, runs-crash}
 use Rattle.walk_files.proofs.UntimedSteps.{call-untimed, tick-untimed, hear-untimed, restart-untimed}
 use Rattle.walk_steps.proofs.Runs.{Served}
-use Rattle.law_bounds.proofs.LeaseIntervals.{run-runs}
+use Rattle.walk_steps.proofs.LeaseIntervals.{run-runs}
 use Rattle.walk_steps.proofs.ServerLives.{HasServed}
 use Rattle.nq_model.specs.Bounds.{KeepsBounds}
 use Rattle.nq_model.specs.Client.{ClientStep}

@@ -17,7 +17,7 @@ use Rattle.walk_files.proofs.HoldingSteps.{Between}
 use Rattle.walk_files.proofs.LogRuns.{Alone as ServerAlone, LogRuns, runs-start, runs-receive, runs-tick, runs-crash}
 use Rattle.walk_files.proofs.ServerPlain.{receive-plain, tick-plain, crash-plain}
 use Rattle.walk_steps.proofs.Runs.{Runs, Served}
-use Rattle.law_bounds.proofs.LeaseIntervals.{run-runs, hearing}
+use Rattle.walk_steps.proofs.LeaseIntervals.{run-runs, hearing}
 use Rattle.walk_steps.proofs.ServerHears.{hears-effect}
 use Rattle.nq_model.specs.Bounds.{KeepsBounds}
 use Rattle.nq_model.specs.Client.{Client, ClientStep, begun}

@@ -2,7 +2,7 @@
 use Rattle.std.proofs.Common.{◌⊎◌, ℕ, Bool, true, false, List, [], ◌∷◌, refl, sym, subst, inl, inr}
 use Rattle.nq_base.specs.declared.Entry.{Entry}
 use Rattle.nq_base.specs.declared.Entry.TheVariants.{W}
-use Rattle.walk_calls.proofs.JournalMoves.{accounts, covers-write}
+use Rattle.walk_files.proofs.JournalMoves.{accounts, covers-write}
 use Rattle.law_runs.proofs.WorldWrites.{WritesAt, Writes, writes-fit}
 use Rattle.law_runs.proofs.RunningWrites.{Runs, IsOfRunning, writes-run}
 use Rattle.nq_base.specs.declared.Who.{Who}
@@ -12,7 +12,7 @@ use Rattle.nq_model.proofs.Telling.{not_told}
 use Rattle.nq_model.specs.Fate.{IsDelayed, Restarts}
 use Rattle.nq_model.specs.FateTest.{restarts}
 use Rattle.nq_model.specs.Tests.{Tells}
-use Rattle.walk_calls.proofs.WritesFit.{CoversNumber, LiesWithin, in_list, under_way}
+use Rattle.walk_files.proofs.WritesFit.{CoversNumber, LiesWithin, in_list, under_way}
 use Rattle.nq_model.specs.WritesAreAccounted.{AccountedInEveryRun, Encloses, UnderWayEncloses, StillHas, IsDelayedBy, WaitingAreUnsavedInEveryRun, IsAtItsClient, HasFate, EachHasItsFateInEveryRun}
 use Rattle.nq_model.specs.Client.{Client}
 use Rattle.nq_model.specs.Journal.{Exists, AtEachPlace, Covers, IsStored, IsLost}

@@ -9,7 +9,7 @@ use Rattle.nq_base.specs.declared.Said.TheVariants.{Ok, OkValue, OkBy, Lost, Bus
 use Rattle.nq_base.specs.declared.Told.{Told}
 use Rattle.nq_base.specs.declared.Told.TheVariants.{Create, Lookup, Attr, Read, Fetch, Write, WriteSync, Sync, Resize, Remove}
 use Rattle.nq_base.specs.declared.Who.{Who}
-use Rattle.walk_calls.proofs.Placed.{call-later, call-told}
+use Rattle.walk_files.proofs.Placed.{call-later, call-told}
 use Rattle.nq_model.proofs.Lists.{exists-map, each-map, exists-right}
 use Rattle.nq_model.specs.Journal.{Exists, Throughout, Somewhere, IsOpen, SpeaksOf, call_of, IsWriteBy, IsStored}
 use Rattle.nq_model.specs.Reported.{Names, loss_told}

@@ -3,11 +3,11 @@ use Rattle.std.proofs.Common.{ℕ, List}
 use Rattle.nq_base.specs.declared.Event.{Event}
 use Rattle.law_runs.proofs.ChainWorlds.{chain-fits, pushes-fit}
 use Rattle.law_runs.proofs.WorldWrites.{writes-fit}
-use Rattle.law_bounds.proofs.LeaseIntervals.{run-runs, kept-in-every-run}
+use Rattle.walk_steps.proofs.LeaseIntervals.{run-runs, kept-in-every-run}
 use Rattle.nq_model.specs.Bounds.{KeepsBounds}
 use Rattle.nq_model.specs.Skew.{IsWithinSkew}
 use Rattle.nq_model.specs.World.{Head, run}
-use Rattle.law_bounds.proofs.OneRequests.{one-open-in-every-run}
+use Rattle.walk_steps.proofs.OneRequests.{one-open-in-every-run}
 use Rattle.walk_steps.proofs.Worlds.{run-holds}
 use Rattle.walk_files.proofs.Holders.{KnownOf}
 use Rattle.law_runs.proofs.UndisturbedRuns.{Still, run-still}

@@ -20,7 +20,7 @@ use Rattle.nq_model.specs.Kept.{host_row}
 use Rattle.nq_model.specs.Message.{call, reply, sequence_of}
 use Rattle.nq_model.specs.Server.{to_host}
 use Rattle.nq_model.specs.World.{World, from_host, run}
-use Rattle.law_bounds.proofs.WorldSequences.{Draws, run-draws}
+use Rattle.walk_steps.proofs.WorldSequences.{Draws, run-draws}
 use Rattle.walk_steps.proofs.Members.{find-in}
 use Rattle.walk_steps.proofs.Packets.{Asked, Told, in-get}
 use Rattle.walk_steps.proofs.Worlds.{Holds, run-holds}

@@ -8,7 +8,7 @@ use Rattle.nq_base.specs.declared.Said.TheVariants.{OkValue, OkBy}
 use Rattle.nq_base.specs.declared.Told.{Told}
 use Rattle.nq_base.specs.declared.Told.TheVariants.{Read, Fetch}
 use Rattle.nq_base.specs.declared.Who.{Who}
-use Rattle.walk_calls.proofs.Placed.{ordered, of-their-call}
+use Rattle.walk_files.proofs.Placed.{ordered, of-their-call}
 use Rattle.law_runs.proofs.RunCalls.{calls-known}
 use Rattle.nq_model.specs.Bounds.{KeepsBounds}
 use Rattle.walk_files.proofs.ReadFacts.{IsBacked, reads_nothing, counted_read, IsGood}

@@ -10,11 +10,11 @@ use Rattle.nq_base.specs.declared.Loss.{Loss}
 use Rattle.nq_base.specs.declared.Reply.{Reply}
 use Rattle.nq_base.specs.declared.Said.{Said}
 use Rattle.nq_base.specs.declared.Who.{Who}
-use Rattle.walk_calls.proofs.CallsFit.{entry_who, entry_call}
+use Rattle.walk_files.proofs.CallsFit.{entry_who, entry_call}
 use Rattle.walk_steps.proofs.StepCases.{call-cases, unless-cached-cases, tick-cases, heard-cases}
 use Rattle.walk_steps.proofs.ClientFacts.{Alone}
 use Rattle.walk_steps.proofs.ClientMoves.{some-same, none-some}
-use Rattle.walk_calls.proofs.ServerTells.{Tells}
+use Rattle.walk_files.proofs.ServerTells.{Tells}
 use Rattle.nq_model.specs.Client.{Client, ClientStep, for_call, Ticket, UnderWay, begun, losses_of}
 use Rattle.nq_model.specs.ClientStep.{begins_call, is_called, sends_unless_cached, says_busy, losses_for, changed_file, client_call, at_time, sends_again, client_tick, fresh_client, starts, next_incarnation, restart}
 use Rattle.nq_base.specs.Calls.{told}

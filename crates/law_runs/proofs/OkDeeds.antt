@@ -19,7 +19,7 @@ use Rattle.nq_model.specs.Ordered.{Writes, Resizes}
 use Rattle.nq_model.specs.Synchronized.{IsPutKept, IsSettledResize, IsKept}
 use Rattle.nq_model.specs.World.{run}
 use Rattle.nq_model.specs.OksHaveTheirDeeds.{IsWriteOfCall, IsReadOfCall, IsResizeOfCall, HasDeed, HasDeedAt, OksHaveTheirDeeds, OksHaveTheirDeedsInEveryRun}
-use Rattle.walk_calls.proofs.Placed.{IsCachedBy, Placed, call-told}
+use Rattle.walk_files.proofs.Placed.{IsCachedBy, Placed, call-told}
 use Rattle.walk_steps.proofs.ClientMoves.{some-same}
 use Rattle.walk_files.proofs.Places.{IsPlaced, throughout-at, throughout-of}
 use Rattle.walk_steps.proofs.Members.{in-exists, exists-in}

@@ -10,7 +10,7 @@ use Rattle.nq_base.specs.declared.Push.{Push}
 use Rattle.nq_base.specs.declared.Request.{Request}
 use Rattle.nq_base.specs.declared.Verdict.{Verdict}
 use Rattle.nq_base.specs.declared.Who.{Who}
-use Rattle.walk_calls.proofs.CallsFit.{entry_who}
+use Rattle.walk_files.proofs.CallsFit.{entry_who}
 use Rattle.walk_steps.proofs.SettleCases.{IsRead}
 use Rattle.walk_steps.proofs.ClientMoves.{none-some}
 use Rattle.nq_model.specs.Client.{Client, ClientStep, for_call, Ticket, UnderWay, losses_of, is_clean_in}

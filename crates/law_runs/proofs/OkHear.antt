@@ -8,7 +8,7 @@ use Rattle.nq_base.specs.declared.HostRow.{HostRow}
 use Rattle.nq_base.specs.declared.Loss.{Loss}
 use Rattle.nq_base.specs.declared.Push.{Push}
 use Rattle.nq_base.specs.declared.Who.{Who}
-use Rattle.walk_calls.proofs.CallsFit.{entry_who}
+use Rattle.walk_files.proofs.CallsFit.{entry_who}
 use Rattle.walk_steps.proofs.ClientMoves.{some-same, none-some}
 use Rattle.nq_model.proofs.ByFile.{of-added}
 use Rattle.nq_model.specs.Client.{Client, ClientStep, Ticket, UnderWay, losses_of, is_push_of, other_dirty, file_of_loss, add_losses}

@@ -7,8 +7,8 @@ use Rattle.nq_base.specs.declared.Entry.TheVariants.{W, L, A}
 use Rattle.nq_base.specs.declared.Push.{Push}
 use Rattle.nq_base.specs.declared.Request.{Request}
 use Rattle.nq_base.specs.declared.Who.{Who}
-use Rattle.walk_calls.proofs.Placed.{call-later}
-use Rattle.walk_calls.proofs.CallsFit.{entry_who}
+use Rattle.walk_files.proofs.Placed.{call-later}
+use Rattle.walk_files.proofs.CallsFit.{entry_who}
 use Rattle.walk_steps.proofs.ClientMoves.{some-same, none-some}
 use Rattle.nq_model.proofs.Lists.{each-map}
 use Rattle.nq_model.specs.Client.{UnderWay, is_push_of, is_push_at, first_dirty, drop_dirty, dirty_at}

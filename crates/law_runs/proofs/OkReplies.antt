@@ -22,7 +22,7 @@ use Rattle.walk_steps.proofs.SettleCases.{IsRead}
 use Rattle.walk_steps.proofs.StepCases.{evicted-cases}
 use Rattle.walk_steps.proofs.ClientFacts.{fits_job}
 use Rattle.walk_steps.proofs.ClientMoves.{some-same, none-some, keeps-or-cancels}
-use Rattle.walk_calls.proofs.ServerTells.{Tells, later, decided}
+use Rattle.walk_files.proofs.ServerTells.{Tells, later, decided}
 use Rattle.nq_model.specs.Client.{Client, ClientStep, for_call, Ticket, UnderWay, Notice, begun, notice_on}
 use Rattle.nq_base.specs.Calls.{told}
 use Rattle.nq_model.specs.Decide.{verdict_reply}

@@ -5,10 +5,10 @@ use Rattle.nq_base.specs.declared.Entry.{Entry}
 use Rattle.nq_base.specs.declared.Event.{Event}
 use Rattle.nq_base.specs.declared.Party.{Party}
 use Rattle.nq_base.specs.declared.Who.{Who}
-use Rattle.walk_calls.proofs.CallsFit.{entry_who, entry_call}
+use Rattle.walk_files.proofs.CallsFit.{entry_who, entry_call}
 use Rattle.walk_steps.proofs.ClientMoves.{none-some}
 use Rattle.law_runs.proofs.AnsweredWorlds.{run-answered}
-use Rattle.law_bounds.proofs.LeaseIntervals.{run-runs}
+use Rattle.walk_steps.proofs.LeaseIntervals.{run-runs}
 use Rattle.nq_model.specs.Bounds.{KeepsBounds, InEveryRun}
 use Rattle.nq_model.specs.Client.{Client, ClientStep, UnderWay}
 use Rattle.nq_model.specs.ClientStep.{client_call, client_tick, restart, starts as starts_client, attached_client, fresh_client}

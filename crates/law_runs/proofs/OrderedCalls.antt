@@ -1,6 +1,6 @@
 -- In every run the calls and what they make stand in order.
 use Rattle.nq_model.specs.CallsAreOrdered.{OrderedInEveryRun, ReadsAreOfTheirCallInEveryRun}
-use Rattle.walk_calls.proofs.Placed.{ordered, of-their-call}
+use Rattle.walk_files.proofs.Placed.{ordered, of-their-call}
 use Rattle.law_runs.proofs.RunCalls.{calls-known}
 use Rattle.nq_model.specs.World.{run}
 

@@ -12,14 +12,14 @@ use Rattle.nq_base.specs.declared.Reply.{Reply}
 use Rattle.nq_base.specs.declared.Request.{Request}
 use Rattle.nq_base.specs.declared.Want.{Want}
 use Rattle.nq_base.specs.declared.Who.{Who}
-use Rattle.walk_calls.proofs.Entries.{IsOpenAsTold}
+use Rattle.walk_files.proofs.CallsEntries.{IsOpenAsTold}
 use Rattle.law_runs.proofs.RunCalls.{calls-known}
 use Rattle.walk_steps.proofs.SendCases.{least-passes}
 use Rattle.walk_steps.proofs.ClientFacts.{push_in}
 use Rattle.walk_steps.proofs.ClientMoves.{none-some, some-same}
 use Rattle.walk_files.proofs.ServerDelays.{Never, receive-never, tick-never, crash-never}
-use Rattle.walk_calls.proofs.PushLists.{at-is}
-use Rattle.walk_calls.proofs.WritesFit.{in_list, under_way, IsRising}
+use Rattle.walk_files.proofs.PushLists.{at-is}
+use Rattle.walk_files.proofs.WritesFit.{in_list, under_way, IsRising}
 use Rattle.nq_model.specs.Bounds.{KeepsBounds}
 use Rattle.law_runs.proofs.CachedReads.{cached-stands, none-waits, NoneEncloses, find-none}
 use Rattle.law_runs.proofs.HeldRuns.{kept-held}

@@ -15,8 +15,8 @@ use Rattle.nq_model.specs.RevisionsHaveOneContent.{first_length}
 use Rattle.nq_model.specs.Contents.{content_at}
 use Rattle.law_runs.proofs.AnsweredWorlds.{received-tells, tick-tells, crash-tells}
 use Rattle.law_runs.proofs.WorldWrites.{no-attach}
-use Rattle.walk_calls.proofs.ServerTells.{Moves}
-use Rattle.walk_calls.proofs.WritesFit.{IsOpenPush, WritesFit, JournalFits}
+use Rattle.walk_files.proofs.ServerTells.{Moves}
+use Rattle.walk_files.proofs.WritesFit.{IsOpenPush, WritesFit, JournalFits}
 use Rattle.nq_model.specs.Bounds.{KeepsBounds}
 use Rattle.walk_files.proofs.EarlierServer.{Around, earlier-server}
 use Rattle.walk_files.proofs.EarlierStores.{Earlier, Goes, goes_on, begins, earlier-own, earlier-other}
@@ -37,9 +37,9 @@ use Rattle.nq_model.specs.ServerStep.{attaches, vacates, tells_later, serves, le
 use Rattle.nq_model.specs.Skew.{IsWithinSkew}
 use Rattle.nq_model.specs.World.{Head, World, from_host, after_server, after_client, sending_host, start, run}
 use Rattle.walk_steps.proofs.OpenAt.{OneOpenAt}
-use Rattle.law_bounds.proofs.OpenRequests.{run-opens}
+use Rattle.walk_steps.proofs.OpenRequests.{run-opens}
 use Rattle.walk_steps.proofs.Sequences.{asked-before-server}
-use Rattle.law_bounds.proofs.WorldSequences.{run-draws}
+use Rattle.walk_steps.proofs.WorldSequences.{run-draws}
 use Rattle.walk_steps.proofs.RunCases.{During, clients-after}
 use Rattle.walk_steps.proofs.Packets.{In, in-get, Asked, call-same}
 use Rattle.walk_steps.proofs.ServerSays.{AllSaid}

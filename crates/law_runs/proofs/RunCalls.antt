@@ -11,16 +11,16 @@ use Rattle.nq_base.specs.declared.Party.{Party}
 use Rattle.nq_base.specs.declared.Reply.{Reply}
 use Rattle.nq_base.specs.declared.Request.{Request}
 use Rattle.nq_base.specs.declared.Row.{Row}
-use Rattle.walk_calls.proofs.CallFacts.{JournalFits, journal-more}
-use Rattle.walk_calls.proofs.CallsFit.{CallsFitInEveryRun}
-use Rattle.walk_calls.proofs.CallWorlds.{IsRefused, CallsKnown, client-known}
-use Rattle.walk_calls.proofs.ClientEvents.{CallsOf, called-does, ticked-does, heard-does, restarted-does}
-use Rattle.walk_calls.proofs.ClientMoves.{IsBelow}
-use Rattle.walk_calls.proofs.ServerCalls.{IsStill, line_same, ServerDoes, server-known}
-use Rattle.walk_calls.proofs.ServerDecides.{received-does}
+use Rattle.walk_files.proofs.CallFacts.{JournalFits, journal-more}
+use Rattle.walk_files.proofs.CallsFit.{CallsFitInEveryRun}
+use Rattle.walk_files.proofs.CallWorlds.{IsRefused, CallsKnown, client-known}
+use Rattle.walk_files.proofs.ClientEvents.{CallsOf, called-does, ticked-does, heard-does, restarted-does}
+use Rattle.walk_files.proofs.ClientMoves.{IsBelow}
+use Rattle.walk_files.proofs.ServerCalls.{IsStill, line_same, ServerDoes, server-known}
+use Rattle.walk_files.proofs.ServerDecides.{received-does}
 use Rattle.walk_steps.proofs.ClientMoves.{some-same, none-some}
 use Rattle.walk_steps.proofs.Runs.{Runs, none-served}
-use Rattle.law_bounds.proofs.LeaseIntervals.{run-runs}
+use Rattle.walk_steps.proofs.LeaseIntervals.{run-runs}
 use Rattle.nq_model.specs.Bounds.{KeepsBounds}
 use Rattle.nq_model.specs.Client.{Client, ClientStep}
 use Rattle.nq_model.specs.ClientStep.{client_call, client_tick, restart, next_incarnation, fresh_client, attached_client}
@@ -33,13 +33,13 @@ use Rattle.nq_model.specs.Skew.{IsWithinSkew}
 use Rattle.nq_model.specs.Table.{find_row, with_rows}
 use Rattle.nq_model.specs.World.{Head, World, after_server, after_client, sending_host, first_row, start, run}
 use Rattle.walk_steps.proofs.OpenAt.{Opens}
-use Rattle.law_bounds.proofs.OpenRequests.{run-opens}
+use Rattle.walk_steps.proofs.OpenRequests.{run-opens}
 use Rattle.walk_steps.proofs.Sequences.{DrewIf, call-draws, tick-draws, restart-draws, hear-draws}
-use Rattle.law_bounds.proofs.WorldSequences.{run-draws}
+use Rattle.walk_steps.proofs.WorldSequences.{run-draws}
 use Rattle.walk_steps.proofs.RunCases.{Keeps, run-keeps}
 use Rattle.walk_steps.proofs.Packets.{In, in-get, Asked, Told}
 use Rattle.walk_steps.proofs.Worlds.{run-holds, to-server, to-told, received-said, tick-said, crash-said, first-client}
-use Rattle.law_bounds.proofs.KeptTags.{own-keys}
+use Rattle.walk_steps.proofs.KeptTags.{own-keys}
 use Rattle.walk_steps.proofs.ServerFacts.{IncsFit, fence-lines}
 use Rattle.walk_steps.proofs.RowChanges.{HasUniqueKeys, unique-filtered, found-any, found-kept}
 use Rattle.walk_steps.proofs.ServerCases.{server-ticks}

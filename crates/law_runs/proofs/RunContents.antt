@@ -21,7 +21,7 @@ use Rattle.walk_files.proofs.ServerTimes.{Standing, ticks, crashes}
 use Rattle.law_runs.proofs.WorldFacts.{ClientFits, begun-mid, fits-follows, history_now, Fits, client-fits, server-fits}
 use Rattle.nq_model.specs.RevisionsHaveOneContent.{length_of, first_length}
 use Rattle.walk_steps.proofs.Runs.{Runs}
-use Rattle.law_bounds.proofs.LeaseIntervals.{run-runs}
+use Rattle.walk_steps.proofs.LeaseIntervals.{run-runs}
 use Rattle.walk_steps.proofs.NoCrash.{bounds-before}
 use Rattle.nq_model.specs.Bounds.{KeepsBounds}
 use Rattle.nq_model.specs.Client.{Client, ClientStep, attaching, Ticket, begun}
@@ -33,7 +33,7 @@ use Rattle.nq_model.specs.Profile.{most_hosts}
 use Rattle.nq_model.specs.ServerStep.{receive, tick, crash, boot}
 use Rattle.nq_model.specs.Skew.{IsWithinSkew}
 use Rattle.nq_model.specs.World.{Head, World, after_server, after_client, at_client, after_hearing, sending_host, deliver_to_client, deliver_to, deliver, step, first_files, first_row, start, run}
-use Rattle.law_bounds.proofs.WorldSequences.{Draws, run-draws}
+use Rattle.walk_steps.proofs.WorldSequences.{Draws, run-draws}
 use Rattle.walk_steps.proofs.Clocks.{within-before}
 use Rattle.walk_steps.proofs.Packets.{In, in-get, Asked, Told, call-same, Mail}
 use Rattle.walk_steps.proofs.Worlds.{Holds, first-client, to-server, to-told, received-said, tick-said, crash-said, run-holds, set-there}

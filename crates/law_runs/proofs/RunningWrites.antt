@@ -8,7 +8,7 @@ use Rattle.nq_base.specs.declared.Event.{Event}
 use Rattle.nq_base.specs.declared.Who.{Who}
 use Rattle.law_runs.proofs.AnsweredWorlds.{received-tells, tick-tells, crash-tells}
 use Rattle.law_runs.proofs.WorldWrites.{hear-same, replies-known, writes-fit}
-use Rattle.law_bounds.proofs.LeaseIntervals.{run-runs}
+use Rattle.walk_steps.proofs.LeaseIntervals.{run-runs}
 use Rattle.nq_model.proofs.Lists.{exists-left, exists-right}
 use Rattle.nq_model.specs.Client.{Client, ClientStep, begun}
 use Rattle.nq_model.specs.ClientStep.{client_call, client_tick, restart, starts, fresh_client, next_incarnation}
@@ -20,9 +20,9 @@ use Rattle.nq_model.specs.Server.{Server, ServerStep}
 use Rattle.nq_model.specs.Skew.{IsWithinSkew}
 use Rattle.nq_model.specs.World.{Head, World, after_server, after_client, start, run}
 use Rattle.nq_model.specs.Bounds.{KeepsBounds}
-use Rattle.walk_calls.proofs.ClientFates.{IsOwn, Mid}
-use Rattle.walk_calls.proofs.ServerTells.{IsQuiet, Effects, without, goes_through, pushes, Moves, same_lines, attaches_one, decides_one, ServerTells}
-use Rattle.walk_calls.proofs.StepFates.{mid-begins, mid-hears, mid-call-step, mid-tick-step}
+use Rattle.walk_files.proofs.ClientFates.{IsOwn, Mid}
+use Rattle.walk_files.proofs.ServerTells.{IsQuiet, Effects, without, goes_through, pushes, Moves, same_lines, attaches_one, decides_one, ServerTells}
+use Rattle.walk_files.proofs.StepFates.{mid-begins, mid-hears, mid-call-step, mid-tick-step}
 use Rattle.walk_steps.proofs.ClientMoves.{some-same, none-some}
 use Rattle.walk_steps.proofs.WorldClocks.{call-still, tick-still}
 use Rattle.walk_steps.proofs.Packets.{In, Told, in-get}

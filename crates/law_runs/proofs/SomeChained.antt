@@ -14,7 +14,7 @@ use Rattle.nq_base.specs.declared.Who.{Who}
 use Rattle.nq_model.specs.Chained.{has_done_write}
 use Rattle.law_runs.specs.ChainsMet.{ChainsAreMet}
 use Rattle.walk_steps.proofs.NoCrash.{no-crash-within}
-use Rattle.law_bounds.proofs.SomeLease.{two-hosts}
+use Rattle.walk_steps.proofs.SomeLease.{two-hosts}
 use Rattle.nq_model.specs.Bounds.{BootsWithin}
 use Rattle.nq_model.proofs.SkewTest.{skew-test-is-sound}
 use Rattle.nq_model.specs.Client.{Client, Lease, Ticket, for_call, lease_on}

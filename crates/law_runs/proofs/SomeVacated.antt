@@ -11,7 +11,7 @@ use Rattle.nq_base.specs.declared.Request.{Request}
 use Rattle.nq_base.specs.declared.Tag.{Tag}
 use Rattle.nq_base.specs.declared.Who.{Who}
 use Rattle.walk_steps.proofs.NoCrash.{no-crash-within}
-use Rattle.law_bounds.proofs.SomeLease.{two-hosts}
+use Rattle.walk_steps.proofs.SomeLease.{two-hosts}
 use Rattle.nq_model.specs.Bounds.{BootsWithin}
 use Rattle.walk_steps.proofs.Tests.{some-is}
 use Rattle.law_runs.specs.TagsMet.{IsPastSometime}

@@ -6,7 +6,7 @@ use Rattle.nq_base.specs.declared.Push.{Push}
 use Rattle.nq_base.specs.declared.Who.{Who}
 use Rattle.law_runs.proofs.RunCalls.{calls-fit}
 use Rattle.law_runs.proofs.WorldWrites.{writes-fit}
-use Rattle.walk_calls.proofs.WritesFit as fits
+use Rattle.walk_files.proofs.WritesFit as fits
 use Rattle.nq_model.specs.Journal.{Exists, Throughout, Covers}
 use Rattle.nq_model.specs.World.{run}
 use Rattle.law_runs.proofs.ReportedRuns.{losses-fit}

@@ -15,7 +15,7 @@ use Rattle.walk_steps.proofs.Mail.{sent-host}
 use Rattle.law_runs.proofs.GrantRows.{IsBacked, all-backed}
 use Rattle.walk_steps.proofs.KnownWorlds.{takeable}
 use Rattle.walk_steps.proofs.Runs.{Runs, none-served}
-use Rattle.law_bounds.proofs.LeaseIntervals.{run-runs, hearing, tick-sends, crash-sends}
+use Rattle.walk_steps.proofs.LeaseIntervals.{run-runs, hearing, tick-sends, crash-sends}
 use Rattle.walk_steps.proofs.NoCrash.{bounds-before}
 use Rattle.walk_steps.proofs.Packets.{In, in-append, in-get, Told, Asked, not-both}
 use Rattle.law_runs.proofs.RowNumbers.{row-numbered}

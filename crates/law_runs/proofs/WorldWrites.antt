@@ -14,14 +14,14 @@ use Rattle.nq_base.specs.declared.Who.{Who}
 use Rattle.walk_steps.proofs.ClientFacts.{push_in}
 use Rattle.walk_steps.proofs.ClientMoves.{some-same, none-some, attached-with-ticket}
 use Rattle.law_runs.proofs.AnsweredWorlds.{AllAnswered, run-answered, server-step, received-tells, tick-tells, crash-tells}
-use Rattle.walk_calls.proofs.ClientFates.{IsOwn, Mid}
-use Rattle.walk_calls.proofs.FactMoves.{IsOfOther, behind-more, facts-others, facts-packets, facts-sends, journal-more, journal-quiets, journal-quiet}
-use Rattle.walk_calls.proofs.FactServer.{Before, server-facts}
-use Rattle.walk_calls.proofs.JournalMoves.{covers-before}
-use Rattle.walk_calls.proofs.ServerTells.{Effects, without, goes_through, pushes, Decides, Moves, same_lines, attaches_one, decides_one, ServerTells}
-use Rattle.walk_calls.proofs.StepFates.{Replies, mid-begins, mid-hears, mid-call-step, mid-tick-step}
-use Rattle.walk_calls.proofs.WritesFit.{JournalFits, HaveWrites, IsOpenPush, Facts, CoversNumber, IsClear, WritesFit}
-use Rattle.law_bounds.proofs.LeaseIntervals.{run-runs}
+use Rattle.walk_files.proofs.ClientFates.{IsOwn, Mid}
+use Rattle.walk_files.proofs.FactMoves.{IsOfOther, behind-more, facts-others, facts-packets, facts-sends, journal-more, journal-quiets, journal-quiet}
+use Rattle.walk_files.proofs.FactServer.{Before, server-facts}
+use Rattle.walk_files.proofs.JournalMoves.{covers-before}
+use Rattle.walk_files.proofs.ServerTells.{Effects, without, goes_through, pushes, Decides, Moves, same_lines, attaches_one, decides_one, ServerTells}
+use Rattle.walk_files.proofs.StepFates.{Replies, mid-begins, mid-hears, mid-call-step, mid-tick-step}
+use Rattle.walk_files.proofs.WritesFit.{JournalFits, HaveWrites, IsOpenPush, Facts, CoversNumber, IsClear, WritesFit}
+use Rattle.walk_steps.proofs.LeaseIntervals.{run-runs}
 use Rattle.nq_model.specs.Bounds.{KeepsBounds}
 use Rattle.nq_model.specs.Client.{Client, ClientStep, attaching, pushing, Ticket, begun}
 use Rattle.nq_model.specs.ClientStep.{client_call, client_tick, restart, starts, next_incarnation, attached_client, fresh_client}
@@ -32,8 +32,8 @@ use Rattle.nq_model.specs.Server.{ServerStep}
 use Rattle.nq_model.specs.Skew.{IsWithinSkew}
 use Rattle.nq_model.specs.World.{Head, World, from_host, after_server, after_client, start, run}
 use Rattle.walk_steps.proofs.OpenAt.{OneOpenAt}
-use Rattle.law_bounds.proofs.OpenRequests.{run-opens}
-use Rattle.law_bounds.proofs.WorldSequences.{run-draws}
+use Rattle.walk_steps.proofs.OpenRequests.{run-opens}
+use Rattle.walk_steps.proofs.WorldSequences.{run-draws}
 use Rattle.walk_steps.proofs.Sequences.{asked-before-server}
 use Rattle.walk_steps.proofs.RunCases.{client_at, Keeps, run-keeps, OfClients, clients-after}
 use Rattle.walk_steps.proofs.HostLine.{IsSettled}

@@ -6,21 +6,23 @@ use Rattle.std.specs.Option.{option_or}
 use Rattle.std.proofs.lemmas.Bool.{and_parts, and_from, cases_Bool, eqb-true, eq-eqb}
 use Rattle.std.proofs.lemmas.Option.{slice_get_cases}
 use Rattle.nq_base.specs.declared.Entry.{Entry}
-use Rattle.nq_base.specs.declared.Entry.TheVariants.{C, W, S, L, A}
-use Rattle.nq_base.specs.declared.Said.TheVariants.{OkBy}
+use Rattle.nq_base.specs.declared.Entry.TheVariants.{C, W, S, L, Z, A}
+use Rattle.nq_base.specs.declared.Said.TheVariants.{OkBy, Busy as SaidBusy}
 use Rattle.nq_base.specs.declared.Told.{Told}
 use Rattle.nq_base.specs.declared.Who.{Who}
 use Rattle.nq_check.specs.declared.links.Kind.{Kind}
-use Rattle.nq_check.specs.declared.links.Kind.TheVariants.{Calls, Covers, Own}
+use Rattle.nq_check.specs.declared.links.Kind.TheVariants.{Calls, Covers, Cuts, Own}
 use Rattle.nq_check.specs.declared.sought.Sought.{Sought}
-use Rattle.nq_check.specs.declared.sought.Sought.TheVariants.{Call, Answer, AnswerBy, AnswerWith, Store, Loss, Lost}
-use Rattle.nq_check.specs.Links.{IsFree, is_link, own_spot}
+use Rattle.nq_check.specs.declared.sought.Sought.TheVariants.{Call, Answer, AnswerBy, AnswerWith, Busy, Resize, Cut, Cover, Store, Loss, Covered, Lost}
+use Rattle.nq_check.specs.Links.{IsFree, block_spot, is_link, own_spot}
 use Rattle.nq_check.specs.Marks.{Spot, same_spot, spot}
 use Rattle.nq_check.specs.Sought.{kind_sought, passes, spot_sought}
 use Rattle.nq_check.proofs.Places.{taken_here}
-use Rattle.nq_model.specs.Journal.{call_of, told_by}
-use Rattle.nq_model.specs.JournalTest.{is_answer, is_answer_by, is_call, is_within, loss_covers, store_covers}
+use Rattle.nq_model.specs.Journal.{call_of, cuts, told_by}
+use Rattle.nq_model.specs.JournalTest.{covers, is_answer, is_answer_by, is_call, is_within, loss_covers, store_covers}
 use Rattle.nq_model.specs.LegalTest.{gives_value, is_answer_with}
+use Rattle.nq_model.specs.OrderedTest.{is_resize_by}
+use Rattle.nq_model.specs.ReportedTest.{is_busy_answer}
 use Rattle.nq_model.specs.Table.{same_who}
 
 -- a fact of a journal up to a place holds up to a later one, where each entry between them keeps it
@@ -141,13 +143,43 @@ lost_linked : (loss entry : Entry) → loss_covers loss entry ≡ true → is_li
 lost_linked (L who file block first last) entry h = covered_linked who file block first last entry h
 lost_linked other entry h = absurd (cc)
 
+busy_linked : (who : Who) (q : ℕ) (entry : Entry) → is_busy_answer who q entry ≡ true → is_link Calls (spot who q 0) entry ≡ true
+busy_linked who q (A by n SaidBusy) h = link_call by who n q h
+busy_linked who q other h = absurd (cc)
+
+resize_linked : (who : Who) (q : ℕ) (entry : Entry) → is_resize_by who q entry ≡ true → is_link Calls (spot who q 0) entry ≡ true
+resize_linked who q (Z by n file from to) h = link_call by who n q h
+resize_linked who q other h = absurd (cc)
+
+-- a Z that cuts a block has the key of its file
+cut_linked : (file block : ℕ) (entry : Entry) → cuts entry file block ≡ true → is_link Cuts (block_spot file 0) entry ≡ true
+cut_linked file block (Z who q on from to) h =
+    let p = and_parts (nat_eq on file) (nat_le to block) h in
+    and_from (nat_eq on file) (nat_eq 0 0) p.0 refl
+cut_linked file block other h = absurd (cc)
+
+cover_linked : (write entry : Entry) → covers entry write ≡ true → is_link Covers (own_spot write) entry ≡ true
+cover_linked write (S who file block first last now) h = within_linked who file block first last write h
+cover_linked write (L who file block first last) h = within_linked who file block first last write h
+cover_linked write other h = absurd (cc)
+
+by_cover_linked : (cover entry : Entry) → covers cover entry ≡ true → is_link Own (own_spot cover) entry ≡ true
+by_cover_linked (S who file block first last now) entry h = covered_linked who file block first last entry h
+by_cover_linked (L who file block first last) entry h = covered_linked who file block first last entry h
+by_cover_linked other entry h = absurd (cc)
+
 pub sought_linked : (sought : Sought) (entry : Entry) → passes sought entry ≡ true → is_link (kind_sought sought) (spot_sought sought) entry ≡ true
 sought_linked (Call who q) entry h = called_linked who.now q entry h
 sought_linked (Answer who q) entry h = answered_linked who.now q entry h
 sought_linked (AnswerBy who q packet) entry h = by_linked who.now q packet entry h
 sought_linked (AnswerWith who q value) entry h = with_linked who.now q value entry h
+sought_linked (Busy who q) entry h = busy_linked who.now q entry h
+sought_linked (Resize who q) entry h = resize_linked who.now q entry h
+sought_linked (Cut file block) entry h = cut_linked file.now block.now entry h
+sought_linked (Cover write) entry h = cover_linked write.now entry h
 sought_linked (Store write) entry h = store_linked write.now entry h
 sought_linked (Loss write) entry h = loss_linked write.now entry h
+sought_linked (Covered cover) entry h = by_cover_linked cover.now entry h
 sought_linked (Lost loss) entry h = lost_linked loss.now entry h
 
 -- the same, where key and kind are known by what they are equal to

@@ -1,14 +1,14 @@
 -- The value that stands for a read, by the last write that does and the last cut.
 use Rattle.std.proofs.Common.{◌≡◌, ◌<◌, ◌≤◌, ℕ, zero, suc, ◌+◌, ◌-◌, List, [], ◌∷◌, length, take, drop, reverse, Some, Bool, true, false, ◌&&◌, ◌||◌, inl, inr, refl, sym, ◌∙◌, ap, subst, arith}
-use Rattle.std.specs.Prelude.{if◌then◌else◌, nat_eq, nat_le}
+use Rattle.std.specs.Prelude.{if◌then◌else◌, nat_eq}
 use Rattle.std.specs.List.{slice_get}
-use Rattle.std.proofs.lemmas.Bool.{and_parts, and_from, cases_Bool, cases_lt}
+use Rattle.std.proofs.lemmas.Bool.{and_parts, cases_Bool, cases_lt}
 use Rattle.std.proofs.lemmas.Option.{slice_get_cases}
 use Rattle.nq_base.specs.declared.Entry.{Entry}
-use Rattle.nq_base.specs.declared.Entry.TheVariants.{W, Z}
+use Rattle.nq_base.specs.declared.Entry.TheVariants.{W}
 use Rattle.nq_base.specs.declared.Who.{Who}
 use Rattle.nq_check.specs.declared.links.Kind.{Kind}
-use Rattle.nq_check.specs.declared.links.Kind.TheVariants.{Writes, Cuts}
+use Rattle.nq_check.specs.declared.links.Kind.TheVariants.{Writes}
 use Rattle.nq_check.specs.Links.{IsFree, block_spot, is_link}
 use Rattle.nq_check.specs.Marks.{Spot}
 use Rattle.nq_check.specs.Tables.{HasBetween, NoneBetween}
@@ -73,16 +73,6 @@ pub stands_linked : (key : Spot) (whole before : List Entry) (who : Who) (file b
     → stands whole before who file block entry ≡ true → is_link Writes key entry ≡ true
 stands_linked key whole before who file block e entry h =
     subst (λ k. is_link Writes k entry ≡ true) (sym e) (stands_linked_at whole before who file block entry h)
-
--- a Z that cuts a block has the key of its file
-cuts_linked_at : (file block : ℕ) (entry : Entry) → cuts entry file block ≡ true → is_link Cuts (block_spot file 0) entry ≡ true
-cuts_linked_at file block (Z who q on from to) h =
-    let p = and_parts (nat_eq on file) (nat_le to block) h in
-    and_from (nat_eq on file) (nat_eq 0 0) p.0 refl
-cuts_linked_at file block other h = absurd (cc)
-
-pub cuts_linked : (key : Spot) (file block : ℕ) → key ≡ block_spot file 0 → (entry : Entry) → cuts entry file block ≡ true → is_link Cuts key entry ≡ true
-cuts_linked key file block e entry h = subst (λ k. is_link Cuts k entry ≡ true) (sym e) (cuts_linked_at file block entry h)
 
 -- ---- values
 

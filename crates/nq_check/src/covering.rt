@@ -1,13 +1,12 @@
 //! A fast pass over the entries that account for the delayed writes which they cover.
 
-ghost use Rattle.std.specs.Prelude.{◌≡◌, true, reverse, slice_get, Some, IfOk, IfSome, IsTrue, OnOk, ◌-◌};
+ghost use Rattle.std.specs.Prelude.{◌≡◌, reverse, IfOk, IsTrue, OnOk, ◌-◌};
 ghost use Rattle.nq_check.specs.Covered.{Accounts, IsAnew, IsRaised, is_outside};
 ghost use Rattle.nq_check.specs.Fronts.{KeepsBelow};
 ghost use Rattle.nq_check.specs.declared.rules.Rule.{Rule};
-ghost use Rattle.nq_model.specs.JournalTest.{covers, exists};
 
 use crate::links::{Heads, Key, head_at, own_key, set_head};
-use crate::rules::entries::covers;
+use crate::sought::{Sought, is_there};
 use nq_base::{Entry, NoMemory, Number, Who};
 use std::alloc::Global;
 use std::collections::HashMap;
@@ -26,23 +25,6 @@ pub(crate) fn places_of_writes(alloc: Global, whole: &[Entry]) -> Result<Heads, 
         }
     }
     Ok(places)
-}
-
-/// The entry at a place; None where the place is not below the length.
-pub(crate) fn entry_at(whole: &[Entry], place: usize) -> Option<&Entry>
-    ensures { IfSome result (λ entry. slice_get whole.now place ≡ Some entry.now) }
-{
-    whole.get(place)
-}
-
-/// Whether the write at a place is one that an entry covers.
-pub(crate) fn covers_at(whole: &[Entry], place: usize, entry: &Entry) -> bool
-    ensures { IsTrue result → exists (covers entry.now) (reverse whole.now) ≡ true }
-{
-    match entry_at(whole, place) {
-        Some(write) => covers(entry, write),
-        None => false,
-    }
 }
 
 /// How far the writes of each block are covered.
@@ -66,10 +48,10 @@ fn below_highest(number: Number) -> usize
 fn raise(marks: &mut Heads, at: Key, number: usize) -> Result<(), NoMemory>
     ensures { OnOk result (IsRaised at number marks.old.entries marks.new.entries) }
 {
-    if head_at(marks, at) < number {
-        set_head(marks, at, number)?;
+    if head_at(marks, at) >= number {
+        return Ok(());
     }
-    Ok(())
+    set_head(marks, at, number)
 }
 
 /// Whether numbers are above all that are covered on a block, or below them.
@@ -119,7 +101,7 @@ fn accounts(
             last,
         } => {
             let place = head_at(places, number_key(who, *last));
-            if !covers_at(whole, place, entry) {
+            if !is_there(whole, place, Sought::Covered(entry)) {
                 return Ok(false);
             }
             covers_anew(reach, own_key(who, *file, *block), *first, *last)
@@ -129,6 +111,18 @@ fn accounts(
 }
 
 /// How far each entry does so, one after another.
+fn account_all(whole: &[Entry], places: &Heads, reach: &mut Reach) -> Result<usize, NoMemory>
+    ensures { IfOk result (KeepsBelow Rule.Accounted whole.now) }
+{
+    for (place, entry) in whole.iter().enumerate() {
+        if !accounts(whole, places, reach, entry)? {
+            return Ok(place);
+        }
+    }
+    Ok(whole.len())
+}
+
+/// A place below which each entry accounts for what it covers.
 pub(crate) fn accounted_front(
     alloc: Global,
     places: &Heads,
@@ -140,10 +134,5 @@ pub(crate) fn accounted_front(
         highest: HashMap::new(alloc),
         lowest: HashMap::new(alloc),
     };
-    for (place, entry) in whole.iter().enumerate() {
-        if !accounts(whole, places, &mut reach, entry)? {
-            return Ok(place);
-        }
-    }
-    Ok(whole.len())
+    account_all(whole, places, &mut reach)
 }

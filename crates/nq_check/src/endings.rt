@@ -145,10 +145,7 @@ fn ends_in_silence(
     requires linked { AreLinked whole.now tables.now lease.now.place }
     ensures { IsTrue result → HasEndBetween whole.now last lease.now.place lease.now.who.now lease.now.file }
 {
-    if silent <= last {
-        return false;
-    }
-    if silent > lease.place {
+    if silent <= last || silent > lease.place {
         return false;
     }
     let end = silent - 1;
@@ -186,16 +183,7 @@ fn ends_by_opening(
 {
     let opened = ends.opened;
     let since = ends.boot;
-    if opened <= last {
-        return false;
-    }
-    if opened > lease.place {
-        return false;
-    }
-    if since == 0 {
-        return false;
-    }
-    if since >= opened {
+    if opened <= last || opened > lease.place || since == 0 || since >= opened {
         return false;
     }
     let end = opened - 1;
@@ -266,7 +254,9 @@ fn take_end(ends: &mut Ends, place: usize, entry: &Entry) -> Result<(), NoMemory
     requires { place < 18446744073709551615 }
 {
     match entry {
-        Entry::F { who, file, .. } => set_head(&mut ends.silent, file_key(who, *file), place + 1)?,
+        Entry::F { who, file, .. } => {
+            return set_head(&mut ends.silent, file_key(who, *file), place + 1);
+        }
         Entry::X { .. } => ends.booted = place + 1,
         Entry::O { .. } => {
             ends.opened = place + 1;

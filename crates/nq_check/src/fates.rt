@@ -5,9 +5,10 @@ ghost use Rattle.std.specs.Prelude.{IfOk};
 ghost use Rattle.nq_check.specs.Fronts.{KeepsBelow};
 ghost use Rattle.nq_check.specs.declared.rules.Rule.{Rule};
 
-use crate::covering::{accounted_front, covers_at, number_key, places_of_writes};
+use crate::covering::{accounted_front, number_key, places_of_writes};
 use crate::links::{Heads, head_at};
 use crate::rules::entries::covers;
+use crate::sought::{Sought, is_there};
 use crate::tables::Tables;
 use nq_base::{Entry, NoMemory, Number};
 use std::alloc::Global;
@@ -63,7 +64,7 @@ fn last_covered(
     match entry {
         Entry::S { who, last, .. } | Entry::L { who, last, .. } => {
             let numbered = head_at(places, number_key(who, *last));
-            if numbered < whole.len() && covers_at(whole, numbered, entry) {
+            if numbered < whole.len() && is_there(whole, numbered, Sought::Covered(entry)) {
                 return numbered + 1;
             }
             place_in(&tables.leases.own.earlier, place)
@@ -102,20 +103,16 @@ fn settle(
     }
 }
 
-/// What became of the delayed writes of a journal, whose losses are named at these places.
-pub(crate) fn find_fates(
+/// For each delayed write the place of an S or L that covers it.
+fn find_covered(
     alloc: Global,
     tables: &Tables,
-    named: Heads,
+    places: &Heads,
     whole: &[Entry],
-) -> Result<Fates, NoMemory>
-    ensures { IfOk result (λ fates. KeepsBelow Rule.Accounted whole.now fates.accounted) }
-{
-    let places = places_of_writes(alloc, whole)?;
-    let accounted = accounted_front(alloc, &places, whole)?;
+) -> Result<Vec<usize>, NoMemory> {
     let mut covered = Vec::new(alloc);
     for (place, entry) in whole.iter().enumerate() {
-        let from = last_covered(tables, &places, whole, place, entry);
+        let from = last_covered(tables, places, whole, place, entry);
         match entry {
             Entry::S { first, .. } | Entry::L { first, .. } => settle(
                 &mut covered,
@@ -130,6 +127,21 @@ pub(crate) fn find_fates(
         }
         covered.push(NOWHERE)?;
     }
+    Ok(covered)
+}
+
+/// What became of the delayed writes of a journal, whose losses are named at these places.
+pub(crate) fn find_fates(
+    alloc: Global,
+    tables: &Tables,
+    named: Heads,
+    whole: &[Entry],
+) -> Result<Fates, NoMemory>
+    ensures { IfOk result (λ fates. KeepsBelow Rule.Accounted whole.now fates.accounted) }
+{
+    let places = places_of_writes(alloc, whole)?;
+    let accounted = accounted_front(alloc, &places, whole)?;
+    let covered = find_covered(alloc, tables, &places, whole)?;
     Ok(Fates {
         covered,
         named,

@@ -121,11 +121,19 @@ pub fn check(alloc: Global, journal: &Journal) -> Judged
     ensures { IsVerdict result (verdict (reverse journal.now.entries)) }
 {
     let whole = journal.entries();
-    let Ok(tables) = make_tables(alloc, whole) else {
-        return Judged::Memory;
-    };
-    match find_fronts(alloc, &tables, whole) {
-        Ok(fronts) => judge(&tables, &fronts, whole),
+    match make_tables(alloc, whole) {
+        Ok(tables) => judge_linked(alloc, &tables, whole),
+        Err(NoMemory) => Judged::Memory,
+    }
+}
+
+/// Judges entries that are linked, the oldest first.
+fn judge_linked(alloc: Global, tables: &Tables, whole: &[Entry]) -> Judged
+    requires { AreTables whole.now tables.now }
+    ensures { IsVerdict result (verdict (reverse whole.now)) }
+{
+    match find_fronts(alloc, tables, whole) {
+        Ok(fronts) => judge(tables, &fronts, whole),
         Err(NoMemory) => Judged::Memory,
     }
 }

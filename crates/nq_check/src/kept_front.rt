@@ -1,6 +1,6 @@
 //! A fast pass over the answers that are kept.
 
-ghost use Rattle.std.specs.Prelude.{◌≡◌, IfOk, IsTrue, Some, reverse, take, true};
+ghost use Rattle.std.specs.Prelude.{◌≡◌, [], IfOk, IsTrue, Some, reverse, take, true};
 ghost use Rattle.std.specs.List.{slice_get};
 ghost use Rattle.nq_check.specs.Fronts.{KeepsBelow};
 ghost use Rattle.nq_check.specs.Kept.{is_kept, is_kept_at};
@@ -57,27 +57,6 @@ fn is_seen_kept(
     }
 }
 
-/// Whether what the A at a place says, which says ok, is kept.
-fn is_ok_kept(
-    tables: &Tables,
-    fates: &Fates,
-    trail: &Trail,
-    whole: &[Entry],
-    place: usize,
-    entry: &Entry,
-    asked: &Asked,
-) -> bool
-    requires ready { IsReady whole.now place tables.now trail.now.delays }
-    requires there { slice_get whole.now place ≡ Some entry.now }
-    requires answer { is_answer asked.now.who.now asked.now.q entry.now ≡ true }
-    ensures { result ≡ is_kept (reverse whole.now) (reverse (take place whole.now)) asked.now.who.now asked.now.q asked.now.call }
-{
-    if is_seen_kept(tables, fates, trail, whole, place, entry, asked) {
-        return true;
-    }
-    is_kept(whole, &whole[..place], asked.who, asked.q, &asked.call)
-}
-
 /// Whether an A that says ok is kept, where links show what its call asks.
 fn is_kept_at(
     tables: &Tables,
@@ -102,10 +81,33 @@ fn is_kept_at(
                 q: *q,
                 call: call_along(&tables.calls, whole, who, *q),
             };
-            is_ok_kept(tables, fates, trail, whole, place, entry, &asked)
+            is_seen_kept(tables, fates, trail, whole, place, entry, &asked)
+                || is_kept(whole, &whole[..place], who, *q, &asked.call)
         }
         _ => true,
     }
+}
+
+/// How far the answers of a journal are kept, one after another, behind a trail that has nothing yet.
+fn keep_all(
+    trail: &mut Trail,
+    tables: &Tables,
+    fates: &Fates,
+    whole: &[Entry],
+    ordered: usize,
+) -> Result<usize, NoMemory>
+    requires tables { AreTables whole.now tables.now }
+    requires ordered { KeepsBelow Rule.Ordered whole.now ordered }
+    requires none { (trail.old.delays.heads.entries ≡ []) × (trail.old.delays.earlier.items ≡ []) }
+    ensures { IfOk result (KeepsBelow Rule.Synchronized whole.now) }
+{
+    for (place, entry) in whole.iter().enumerate() {
+        if place >= ordered || !is_kept_at(tables, fates, trail, whole, place, entry) {
+            return Ok(place);
+        }
+        take_in(trail, tables, whole, place, entry)?;
+    }
+    Ok(whole.len())
 }
 
 /// How far the answers of a journal are kept, one after another, among its entries that stand in order.
@@ -121,11 +123,5 @@ pub(crate) fn kept_front(
     ensures { IfOk result (KeepsBelow Rule.Synchronized whole.now) }
 {
     let mut trail = no_trail(alloc);
-    for (place, entry) in whole.iter().enumerate() {
-        if place >= ordered || !is_kept_at(tables, fates, &trail, whole, place, entry) {
-            return Ok(place);
-        }
-        take_in(&mut trail, tables, whole, place, entry)?;
-    }
-    Ok(whole.len())
+    keep_all(&mut trail, tables, fates, whole, ordered)
 }

@@ -1,12 +1,12 @@
 //! Which reads, and which answers to them, are legal, as links show it.
 
-ghost use Rattle.std.specs.Prelude.{◌≡◌, ◌+◌, ◌-◌, ◌<◌, ◌≤◌, ◌||◌, IsTrue, Some, if◌then◌else◌, length, not, reverse, take, true, false};
+ghost use Rattle.std.specs.Prelude.{◌≡◌, ◌+◌, ◌-◌, ◌<◌, ◌≤◌, ◌||◌, Some, if◌then◌else◌, length, not, reverse, take, true};
 ghost use Rattle.std.specs.List.{slice_get};
 ghost use Rattle.nq_check.specs.Fronts.{KeepsBelow};
-ghost use Rattle.nq_check.specs.Tables.{AreTables, HasBetween, NoneBetween};
+ghost use Rattle.nq_check.specs.Tables.{AreTables, NoneBetween};
 ghost use Rattle.nq_check.specs.Legal.{is_legal_answer, is_legal_at};
 ghost use Rattle.nq_check.specs.declared.rules.Rule.{Rule};
-ghost use Rattle.nq_model.specs.Journal.{call_of, cuts};
+ghost use Rattle.nq_model.specs.Journal.{call_of};
 ghost use Rattle.nq_model.specs.JournalTest.{is_counted, is_lost, is_stored};
 ghost use Rattle.nq_model.specs.LegalTest.{is_counted_by, is_counted_with, is_legal_read, is_reading};
 ghost use Rattle.nq_model.specs.StandsTest.{standing_value, stands};
@@ -14,11 +14,8 @@ ghost use Rattle.nq_model.specs.StandsTest.{standing_value, stands};
 use crate::fates::{Fates, fate_at};
 use crate::links::{Kind, block_key, call_key};
 use crate::rules::calls::is_reading;
-use crate::rules::entries::{
-    cuts, is_read_by, is_through, is_write_by, is_write_on, value_written,
-};
-use crate::settled::{is_lost_at, is_stored_at};
-use crate::sought::{Sought, back_from, call_along, is_before, is_somewhere};
+use crate::rules::entries::{is_read_by, is_through, is_write_by, is_write_on, value_written};
+use crate::sought::{Sought, back_from, call_along, is_before, is_between, is_somewhere, is_there};
 use crate::tables::Tables;
 use nq_base::{BlockNo, Entry, FileId, Said, Who};
 
@@ -63,10 +60,10 @@ fn is_stored(tables: &Tables, fates: &Fates, whole: &[Entry], at: usize, write: 
     ensures { result ≡ is_stored (reverse whole.now) write.now }
 {
     let fate = fate_at(fates, at);
-    if is_stored_at(whole, fate, write) {
+    if is_there(whole, fate, Sought::Store(write)) {
         return true;
     }
-    if fates.accounted >= whole.len() && is_lost_at(whole, fate, write) {
+    if fates.accounted >= whole.len() && is_there(whole, fate, Sought::Loss(write)) {
         return false;
     }
     is_somewhere(&tables.covers, whole, Sought::Store(write))
@@ -85,7 +82,7 @@ fn is_lost(
     requires within { place < length whole.now }
     ensures { result ≡ is_lost (reverse (take place whole.now)) write.now }
 {
-    if is_lost_at(&whole[..place], fate_at(fates, at), write) {
+    if is_there(&whole[..place], fate_at(fates, at), Sought::Loss(write)) {
         return true;
     }
     is_before(&tables.covers, whole, place, Sought::Loss(write))
@@ -149,24 +146,6 @@ fn last_standing(
     0
 }
 
-/// Whether a Z from a place on, and before another, cuts the block of a read.
-fn is_cut_since(tables: &Tables, whole: &[Entry], from: usize, place: usize, read: &Reading) -> bool
-    requires tables { AreTables whole.now tables.now }
-    requires within { place < length whole.now }
-    ensures yes { IsTrue result → HasBetween (λ entry. cuts entry read.now.file read.now.block) whole.now from place }
-    ensures no { result ≡ false → NoneBetween (λ entry. cuts entry read.now.file read.now.block) whole.now from place }
-{
-    let key = block_key(read.file, BlockNo(0));
-    let mut at = back_from(&tables.cuts, Kind::Cuts, key, whole, whole.len(), place);
-    while at > from {
-        if cuts(&whole[at - 1], read.file, read.block) {
-            return true;
-        }
-        at = back_from(&tables.cuts, Kind::Cuts, key, whole, whole.len(), at - 1);
-    }
-    false
-}
-
 /// The value of the last write before a read that stands for it, or 0 where there is none.
 fn standing_value(
     tables: &Tables,
@@ -181,7 +160,11 @@ fn standing_value(
     ensures { result ≡ standing_value (reverse whole.now) (reverse (take place whole.now)) read.now.who.now read.now.file read.now.block }
 {
     let at = last_standing(tables, fates, whole, place, read);
-    if is_cut_since(tables, whole, at, place, read) {
+    let cut = Sought::Cut {
+        file: &read.file,
+        block: &read.block,
+    };
+    if is_between(&tables.cuts, whole, at, place, cut) {
         return 0;
     }
     if at == 0 {

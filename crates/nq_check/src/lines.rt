@@ -1,9 +1,9 @@
 //! How far the calls of an incarnation have come, as one look over a journal learns it.
 
-ghost use Rattle.std.specs.Prelude.{◌≡◌, OnOk};
-ghost use Rattle.nq_check.specs.Lines.{IsLined, after_answer_of, after_call, after_call_at, after_read_of, after_resize_of, after_write_of, is_sizing, is_writing, line_at, no_line, sizing_of, writing_of};
+ghost use Rattle.std.specs.Prelude.{◌≡◌};
+ghost use Rattle.nq_check.specs.Lines.{after_answer_of, after_call, after_call_at, after_read_of, after_resize_of, after_write_of, is_sizing, is_writing, line_at, no_line, sizing_of, writing_of};
 
-use nq_base::{BlockNo, FileId, NoMemory, Number, Told, Who};
+use nq_base::{BlockNo, FileId, Number, Told, Who};
 use std::collections::HashMap;
 
 /// A file, a block of it and a value: the write that a call asks.
@@ -104,14 +104,6 @@ pub(crate) fn line_at(lines: &Lines, who: &Who) -> Line
         Some(line) => *line,
         None => no_line(),
     }
-}
-
-/// Sets the line of an incarnation.
-pub(crate) fn set_line(lines: &mut Lines, at: Incarnation, line: Line) -> Result<(), NoMemory>
-    ensures { OnOk result (IsLined at line lines.old.entries lines.new.entries) }
-{
-    lines.insert(at, line)?;
-    Ok(())
 }
 
 /// The line behind a C whose number is the highest.

@@ -226,10 +226,10 @@ pub(crate) fn link_entry(
     let at = key_of(kind, entry);
     let earlier = head_at(&links.heads, at);
     links.earlier.push(earlier)?;
-    if is_member(kind, entry) {
-        set_head(&mut links.heads, at, place + 1)?;
+    if !is_member(kind, entry) {
+        return Ok(());
     }
-    Ok(())
+    set_head(&mut links.heads, at, place + 1)
 }
 
 /// Links the entries of a journal, the oldest first.

@@ -174,29 +174,35 @@ fn names_anew(
     }
 }
 
+/// How far the entries name losses anew, one after another.
+fn name_all(names: &mut Names, tables: &Tables, whole: &[Entry]) -> Result<usize, NoMemory>
+    requires { AreTables whole.now tables.now }
+    ensures { IfOk result (λ front. PassBetween (is_naming whole.now) whole.now 0 front) }
+{
+    for (place, entry) in whole.iter().enumerate() {
+        if !names_anew(names, tables, whole, place, entry)? {
+            return Ok(place);
+        }
+    }
+    Ok(whole.len())
+}
+
 /// The names of the losses of a journal, and a place below which each A `lost` names losses anew.
 pub(crate) fn find_names(
     alloc: Global,
     tables: &Tables,
     whole: &[Entry],
 ) -> Result<Namings, NoMemory>
-    requires tables { AreTables whole.now tables.now }
+    requires { AreTables whole.now tables.now }
     ensures { IfOk result (λ namings. PassBetween (is_naming whole.now) whole.now 0 namings.front) }
 {
     let mut names = Names {
         lost: HashMap::new(alloc),
         named: HashMap::new(alloc),
     };
-    for (place, entry) in whole.iter().enumerate() {
-        if !names_anew(&mut names, tables, whole, place, entry)? {
-            return Ok(Namings {
-                named: names.named,
-                front: place,
-            });
-        }
-    }
+    let front = name_all(&mut names, tables, whole)?;
     Ok(Namings {
         named: names.named,
-        front: whole.len(),
+        front,
     })
 }

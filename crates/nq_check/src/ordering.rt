@@ -10,7 +10,7 @@ ghost use Rattle.nq_check.specs.declared.rules.Rule.TheVariants.{Ordered};
 
 use crate::legal::is_counted;
 use crate::lines::{
-    Line, Lines, after_answer, after_call, after_read, after_resize, after_write, line_at, set_line,
+    Line, Lines, after_answer, after_call, after_read, after_resize, after_write, line_at,
 };
 use crate::rules::ordered::is_busy_next;
 use crate::tables::Tables;
@@ -25,7 +25,7 @@ fn set_next(lines: &mut Lines, who: &Who, next: Option<Line>) -> Result<bool, No
     let Some(line) = next else {
         return Ok(false);
     };
-    set_line(lines, (who.host.0, who.inc.0), line)?;
+    lines.insert((who.host.0, who.inc.0), line)?;
     Ok(true)
 }
 

@@ -8,16 +8,14 @@ ghost use Rattle.nq_check.specs.Named.{is_reported};
 ghost use Rattle.nq_check.specs.Reports.{AreNext, IsReportKey, TakesReport, answers, reports_of};
 ghost use Rattle.nq_check.specs.Tables.{AreTables};
 ghost use Rattle.nq_check.specs.declared.rules.Rule.{Rule};
-ghost use Rattle.nq_model.specs.JournalTest.{exists};
-ghost use Rattle.nq_model.specs.ReportedTest.{is_busy_answer, names};
+ghost use Rattle.nq_model.specs.ReportedTest.{names};
 
-use crate::covering::entry_at;
 use crate::links::{Heads, Key, file_key, head_at, set_head};
 use crate::namings::loss_key;
 use crate::rules::calls::speaks_of;
-use crate::rules::entries::{is_answer, is_busy_answer};
+use crate::rules::entries::is_answer;
 use crate::rules::named::are_names_of;
-use crate::sought::call_along;
+use crate::sought::{Sought, call_along, is_there};
 use crate::tables::Tables;
 use nq_base::{Entry, Loss, NoMemory, Said, Told, Who};
 use std::alloc::Global;
@@ -37,17 +35,6 @@ pub(crate) fn reports_of(who: &Who, told: &Told) -> Option<Key>
     }
 }
 
-/// Whether the entry behind a place answers a call `busy`.
-fn is_busy_behind(whole: &[Entry], place: usize, who: &Who, q: u64) -> bool
-    requires { place < length whole.now }
-    ensures { IsTrue result → exists (is_busy_answer who.now q) (reverse whole.now) ≡ true }
-{
-    match entry_at(whole, place + 1) {
-        Some(next) => is_busy_answer(next, who, q),
-        None => false,
-    }
-}
-
 /// The incarnation and file whose losses the entry at a place may have to report.
 fn may_report(whole: &[Entry], place: usize, entry: &Entry) -> Option<Key>
     requires { place < length whole.now }
@@ -55,7 +42,7 @@ fn may_report(whole: &[Entry], place: usize, entry: &Entry) -> Option<Key>
 {
     match entry {
         Entry::C { who, q, told } => {
-            if is_busy_behind(whole, place, who, *q) {
+            if is_there(whole, place + 1, Sought::Busy { who, q: *q }) {
                 return None;
             }
             reports_of(who, told)
@@ -142,10 +129,7 @@ fn is_reported(
         return true;
     }
     let at = head_at(found.named, loss_key(by, loss.first, loss.last));
-    if at <= place + 1 {
-        return false;
-    }
-    if at > whole.len() {
+    if at <= place + 1 || at > whole.len() {
         return false;
     }
     let answered = at - 1;
@@ -156,13 +140,7 @@ fn is_reported(
     if answered <= call {
         return true;
     }
-    if call <= place {
-        return false;
-    }
-    if answered > call + 1 {
-        return false;
-    }
-    if answered >= found.ordered {
+    if call <= place || answered > call + 1 || answered >= found.ordered {
         return false;
     }
     answers(&whole[call], answer)

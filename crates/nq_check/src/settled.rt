@@ -4,17 +4,16 @@ ghost use Rattle.std.specs.Prelude.{◌≡◌, ◌<◌, ◌≤◌, IsTrue, lengt
 ghost use Rattle.nq_check.specs.Links.{IsLinked};
 ghost use Rattle.nq_check.specs.Tables.{AreTables};
 ghost use Rattle.nq_check.specs.declared.links.Kind.TheVariants.{Delays};
-ghost use Rattle.nq_model.specs.JournalTest.{exists, is_lost, is_stored};
+ghost use Rattle.nq_model.specs.JournalTest.{exists};
 ghost use Rattle.nq_model.specs.ReportedTest.{names};
 ghost use Rattle.nq_model.specs.SynchronizedTest.{are_stored_or_told, is_named_loss, is_stored_or_told};
 
-use crate::covering::entry_at;
 use crate::fates::{Fates, fate_at};
 use crate::links::{Heads, Kind, Links, file_key, head_at};
 use crate::namings::loss_key;
 use crate::reports::names;
-use crate::rules::entries::{loss_covers, store_covers};
-use crate::sought::back_from;
+use crate::rules::entries::loss_covers;
+use crate::sought::{Sought, back_from, entry_at, is_there};
 use crate::tables::Tables;
 use nq_base::{Entry, FileId, Loss, Who};
 
@@ -83,44 +82,6 @@ fn is_named_loss(
     }
 }
 
-/// Whether the entry at a place is an L that covers a write, and an A before the answer names it.
-fn is_told_at(
-    tables: &Tables,
-    fates: &Fates,
-    whole: &[Entry],
-    answered: &[Entry],
-    at: usize,
-    write: &Entry,
-) -> bool
-    requires tables { AreTables whole.now tables.now }
-    ensures { IsTrue result → exists (is_named_loss (reverse whole.now) (reverse answered.now) write.now) (reverse whole.now) ≡ true }
-{
-    match entry_at(whole, at) {
-        Some(entry) => is_named_loss(tables, &fates.named, whole, answered, write, entry),
-        None => false,
-    }
-}
-
-/// Whether the entry at a place of the `stores` is an S that covers a write.
-pub(crate) fn is_stored_at(stores: &[Entry], at: usize, write: &Entry) -> bool
-    ensures { IsTrue result → is_stored (reverse stores.now) write.now ≡ true }
-{
-    match entry_at(stores, at) {
-        Some(entry) => store_covers(entry, write),
-        None => false,
-    }
-}
-
-/// Whether the entry at a place is an L that covers a write.
-pub(crate) fn is_lost_at(entries: &[Entry], at: usize, write: &Entry) -> bool
-    ensures { IsTrue result → is_lost (reverse entries.now) write.now ≡ true }
-{
-    match entry_at(entries, at) {
-        Some(entry) => loss_covers(entry, write),
-        None => false,
-    }
-}
-
 /// Whether an S among the `stores` covers a write, or an L that is told.
 fn is_settled(
     tables: &Tables,
@@ -134,10 +95,13 @@ fn is_settled(
     requires tables { AreTables whole.now tables.now }
     ensures { IsTrue result → is_stored_or_told (reverse whole.now) (reverse stores.now) (reverse answered.now) write.now ≡ true }
 {
-    if is_stored_at(stores, fate, write) {
+    if is_there(stores, fate, Sought::Store(write)) {
         return true;
     }
-    is_told_at(tables, fates, whole, answered, fate, write)
+    match entry_at(whole, fate) {
+        Some(entry) => is_named_loss(tables, &fates.named, whole, answered, write, entry),
+        None => false,
+    }
 }
 
 /// Whether each of the delayed writes that have to be settled is stored, by an S among the `stores`, or told. Those before

@@ -1,6 +1,6 @@
 //! Entries that are looked for along links.
 
-ghost use Rattle.std.specs.Prelude.{◌≡◌, ◌<◌, ◌≤◌, ◌+◌, IsTrue, drop, false, length, reverse, take};
+ghost use Rattle.std.specs.Prelude.{◌≡◌, ◌<◌, ◌≤◌, ◌+◌, IfSome, IsTrue, Some, drop, false, length, reverse, slice_get, take, true};
 ghost use Rattle.nq_check.specs.Links.{IsFree, IsLinked};
 ghost use Rattle.nq_check.specs.Sought.{kind_sought, passes, spot_sought};
 ghost use Rattle.nq_check.specs.Tables.{HasBetween, NoneBetween};
@@ -8,27 +8,61 @@ ghost use Rattle.nq_model.specs.Journal.{call_of};
 ghost use Rattle.nq_model.specs.JournalTest.{exists, loss_covers};
 ghost use Rattle.nq_check.specs.declared.links.Kind.TheVariants.{Calls, Own};
 
-use crate::links::{Key, Kind, Links, call_key, head_at, key_of, own_key_of, same_key};
+use crate::links::{Key, Kind, Links, block_key, call_key, head_at, key_of, own_key_of, same_key};
 use crate::rules::entries::{
-    is_answer, is_answer_by, is_answer_with, is_call, loss_covers, store_covers, told_by,
+    covers, cuts, is_answer, is_answer_by, is_answer_with, is_busy_answer, is_call, is_resize_by,
+    loss_covers, store_covers, told_by,
 };
-use nq_base::{Entry, Told, Who};
+use nq_base::{BlockNo, Entry, FileId, Told, Who};
 
 /// What is looked for along links.
 #[derive(Clone, Copy)]
 pub(crate) enum Sought<'a> {
     /// A C of a call.
-    Call { who: &'a Who, q: u64 },
+    Call {
+        who: &'a Who,
+        q: u64,
+    },
     /// An A of a call.
-    Answer { who: &'a Who, q: u64 },
+    Answer {
+        who: &'a Who,
+        q: u64,
+    },
     /// An A of a call that says `by` a packet.
-    AnswerBy { who: &'a Who, q: u64, packet: u64 },
+    AnswerBy {
+        who: &'a Who,
+        q: u64,
+        packet: u64,
+    },
     /// An A of a call that says ok with a value.
-    AnswerWith { who: &'a Who, q: u64, value: u32 },
+    AnswerWith {
+        who: &'a Who,
+        q: u64,
+        value: u32,
+    },
+    /// An A `busy` of a call.
+    Busy {
+        who: &'a Who,
+        q: u64,
+    },
+    /// A Z of a call.
+    Resize {
+        who: &'a Who,
+        q: u64,
+    },
+    /// A Z that cuts a block.
+    Cut {
+        file: &'a FileId,
+        block: &'a BlockNo,
+    },
+    /// An S or L that covers a write.
+    Cover(&'a Entry),
     /// An S that covers a write.
     Store(&'a Entry),
     /// An L that covers a write.
     Loss(&'a Entry),
+    /// A write that an S or L covers.
+    Covered(&'a Entry),
     /// A write that an L covers.
     Lost(&'a Entry),
 }
@@ -42,8 +76,13 @@ fn passes(sought: Sought, entry: &Entry) -> bool
         Sought::Answer { who, q } => is_answer(entry, who, q),
         Sought::AnswerBy { who, q, packet } => is_answer_by(entry, who, q, packet),
         Sought::AnswerWith { who, q, value } => is_answer_with(entry, who, q, value),
+        Sought::Busy { who, q } => is_busy_answer(entry, who, q),
+        Sought::Resize { who, q } => is_resize_by(entry, who, q),
+        Sought::Cut { file, block } => cuts(entry, *file, *block),
+        Sought::Cover(write) => covers(entry, write),
         Sought::Store(write) => store_covers(entry, write),
         Sought::Loss(write) => loss_covers(entry, write),
+        Sought::Covered(cover) => covers(cover, entry),
         Sought::Lost(loss) => loss_covers(loss, entry),
     }
 }
@@ -53,13 +92,18 @@ fn key_sought(sought: Sought) -> Key
     ensures { result ≡ spot_sought sought.entry }
 {
     match sought {
-        Sought::Call { who, q } => call_key(who, q),
-        Sought::Answer { who, q } => call_key(who, q),
-        Sought::AnswerBy { who, q, .. } => call_key(who, q),
-        Sought::AnswerWith { who, q, .. } => call_key(who, q),
-        Sought::Store(write) => own_key_of(write),
-        Sought::Loss(write) => own_key_of(write),
-        Sought::Lost(loss) => own_key_of(loss),
+        Sought::Call { who, q }
+        | Sought::Answer { who, q }
+        | Sought::AnswerBy { who, q, .. }
+        | Sought::AnswerWith { who, q, .. }
+        | Sought::Busy { who, q }
+        | Sought::Resize { who, q } => call_key(who, q),
+        Sought::Cut { file, .. } => block_key(*file, BlockNo(0)),
+        Sought::Cover(entry)
+        | Sought::Store(entry)
+        | Sought::Loss(entry)
+        | Sought::Covered(entry)
+        | Sought::Lost(entry) => own_key_of(entry),
     }
 }
 
@@ -68,13 +112,15 @@ fn kind_sought(sought: Sought) -> Kind
     ensures { result ≡ kind_sought sought.entry }
 {
     match sought {
-        Sought::Call { .. } => Kind::Calls,
-        Sought::Answer { .. } => Kind::Calls,
-        Sought::AnswerBy { .. } => Kind::Calls,
-        Sought::AnswerWith { .. } => Kind::Calls,
-        Sought::Store(_) => Kind::Covers,
-        Sought::Loss(_) => Kind::Covers,
-        Sought::Lost(_) => Kind::Own,
+        Sought::Call { .. }
+        | Sought::Answer { .. }
+        | Sought::AnswerBy { .. }
+        | Sought::AnswerWith { .. }
+        | Sought::Busy { .. }
+        | Sought::Resize { .. } => Kind::Calls,
+        Sought::Cut { .. } => Kind::Cuts,
+        Sought::Cover(_) | Sought::Store(_) | Sought::Loss(_) => Kind::Covers,
+        Sought::Covered(_) | Sought::Lost(_) => Kind::Own,
     }
 }
 
@@ -161,7 +207,7 @@ pub(crate) fn covers_behind(links: &Links, whole: &[Entry], place: usize, loss: 
 
 #[tactic(auto, using(crate::proofs::Backwards::last_first))]
 /// Whether what is looked for is one of the entries, without links. The first that is ends the search.
-fn is_among(entries: &[Entry], sought: Sought) -> bool
+pub(crate) fn is_among(entries: &[Entry], sought: Sought) -> bool
     ensures { result ≡ exists (passes sought.entry) (reverse entries.now) }
 {
     for entry in entries {
@@ -178,6 +224,23 @@ pub(crate) fn is_near(entries: &[Entry], near: usize, sought: Sought) -> bool
 {
     let (earlier, later) = entries.split_at(near.min(entries.len()));
     is_among(later, sought) || is_among(earlier, sought)
+}
+
+/// The entry at a place; None where the place is not below the length.
+pub(crate) fn entry_at(whole: &[Entry], place: usize) -> Option<&Entry>
+    ensures { IfSome result (λ entry. slice_get whole.now place ≡ Some entry.now) }
+{
+    whole.get(place)
+}
+
+/// Whether the entry at a place, if there is one, is what is looked for.
+pub(crate) fn is_there(entries: &[Entry], at: usize, sought: Sought) -> bool
+    ensures { IsTrue result → exists (passes sought.entry) (reverse entries.now) ≡ true }
+{
+    match entry_at(entries, at) {
+        Some(entry) => passes(sought, entry),
+        None => false,
+    }
 }
 
 /// What a call asks, as its first C tells it.

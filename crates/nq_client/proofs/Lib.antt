@@ -15,4 +15,5 @@ pub mod Requested
 pub mod Settled
 pub mod Spent
 pub mod Ties
+pub mod Unlike
 pub mod Vacated

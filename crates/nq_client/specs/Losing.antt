@@ -1,5 +1,5 @@
 -- What is made ready before delayed writes are lost.
-use Rattle.std.specs.Prelude.{◌≡◌, ◌≤◌, ℕ}
+use Rattle.std.specs.Prelude.{◌≡◌, ◌≤◌, ◌+◌, ℕ}
 use Rattle.nq_client_parts.specs.Lost.{Loses}
 use Rattle.nq_client_parts.specs.declared.losses.Losing.{Losing}
 use Rattle.nq_client.specs.declared.state.State.{State}
@@ -19,5 +19,12 @@ pub record SendsNothing (old new : Step) : Type 0 where
 
 -- the cache stays, and no room for leases is used
 pub record Keeps (old new : Step) : Type 0 where
+  pub leases : old.state.leases.spare ≤ new.state.leases.spare
+  pub cache : new.state.cache ≡ old.state.cache
+
+-- likewise, and it makes so many entries at most
+pub record Uses (entries : ℕ) (old new : Step) : Type 0 where
+  pub spare : old.entries.spare ≤ new.entries.spare + entries
+  pub block : old.state.dirty.spare ≤ new.state.dirty.spare
   pub leases : old.state.leases.spare ≤ new.state.leases.spare
   pub cache : new.state.cache ≡ old.state.cache

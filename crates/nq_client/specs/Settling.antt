@@ -6,7 +6,7 @@ use Rattle.nq_base.specs.declared.Entry.{Entry}
 use Rattle.nq_base.specs.declared.Said.{Said}
 use Rattle.nq_base.specs.declared.Value.{Value}
 use Rattle.nq_client_parts.specs.Calls.{body_of_call}
-use Rattle.nq_model.specs.Client.{Lease, ClientStep, UnderWay, in_state, is_clean, lease_on, lets_read, lets_write, notice_on, noting, used_lease}
+use Rattle.nq_model.specs.Client.{Lease, ClientStep, UnderWay, in_state, is_clean, lease_on, lets_read, lets_write, notice_on, noting}
 use Rattle.nq_model.specs.Settle.{after_read, answers, cached_body, delays, is_full}
 
 -- an answer, as a journal tells it, ends the call under way
@@ -15,18 +15,6 @@ ended t q answer said = record t {
   client = record t.client { call = None };
   entries = Entry.A t.client.who q said ∷ t.entries;
   answer = Some answer;
-}
-
--- a read is answered with a block that the client has: the lease was used
-abbrev pub tells_read : ClientStep → (q file block : ℕ) → (body : List ℕ) → ClientStep
-tells_read t q file block body = record t {
-  client = record t.client { call = None; leases = used_lease file t.client.leases };
-  entries =
-      Entry.A t.client.who q (Said.OkValue (value_of body))
-      ∷ Entry.R t.client.who q file block (value_of body) None
-      ∷ t.entries;
-  answer = Some (Answer.Ok (Value.Body body));
-  cached = true;
 }
 
 -- a read under a lease that lets it, by what the client has

@@ -11,9 +11,9 @@ ghost use Rattle.nq_wire.specs.Request.{HasSpelling};
 ghost use Rattle.nq_client.specs.State.{client_of, under_way};
 
 use crate::state::{State, UnderWay};
-use nq_base::{BlockNo, Call, FileId, Mode, Request, Want};
+use nq_base::{BlockNo, Call, FileId, Mode, Request, Want, Who};
+use nq_client_parts::dirty::Dirty;
 use nq_client_parts::holding::Held;
-use nq_dirty::Dirty;
 
 /// What a client needs to send.
 #[derive(Drop)]
@@ -77,6 +77,19 @@ fn change_need(dirty: &Dirty, file: FileId, may_ask: bool, request: Request) -> 
     } else {
         Some(Need::Push(file))
     }
+}
+
+/// The READ of a call.
+fn read_need(who: Who, call: u64, file: FileId, block: BlockNo, want: Option<Want>) -> Need
+    ensures { result ≡ read_need who call file block want }
+{
+    Need::Ask(Request::Read {
+        who,
+        call,
+        file,
+        block,
+        want,
+    })
 }
 
 impl State {
@@ -145,9 +158,11 @@ impl State {
             Call::Lookup { name } => may_ask.then_some(Need::Ask(Request::Lookup { who, name })),
             Call::Attr { file } => may_ask.then_some(Need::Ask(Request::GetAttr { who, file })),
             Call::Read { file, block } => {
-                may_ask.then_some(self.read(call, file, block, self.read_want(file)))
+                may_ask.then_some(read_need(who, call, file, block, self.read_want(file)))
             }
-            Call::Fetch { file, block } => may_ask.then_some(self.read(call, file, block, None)),
+            Call::Fetch { file, block } => may_ask.then_some(read_need(
+                who, call, file, block, None,
+            )),
             Call::Write { file, block, .. } => {
                 may_ask.then_some(self.write_need(u.through, file, block))
             }
@@ -175,19 +190,6 @@ impl State {
                 change_need(&self.dirty, file, may_ask, request)
             }
         }
-    }
-
-    /// The READ of a call.
-    fn read(&self, call: u64, file: FileId, block: BlockNo, want: Option<Want>) -> Need
-        ensures { result ≡ read_need self.now.who call file block want }
-    {
-        Need::Ask(Request::Read {
-            who: self.who,
-            call,
-            file,
-            block,
-            want,
-        })
     }
 
     /// What the call under way needs, if there is one.

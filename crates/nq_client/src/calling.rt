@@ -7,8 +7,7 @@ ghost use Rattle.nq_base.specs.Calls.{told};
 ghost use Rattle.nq_model.specs.Settle.{names_losses};
 ghost use Rattle.nq_client.specs.Finishing.{HasRooms};
 ghost use Rattle.nq_client.specs.Step.{HasNumbers, HasRoom, step_of};
-ghost use Rattle.nq_client.specs.Losing.{Keeps};
-ghost use Rattle.nq_client.specs.Prepared.{Leaves};
+ghost use Rattle.nq_client.specs.Losing.{Uses};
 ghost use Rattle.nq_client.specs.Calling.{HasRoomToCall};
 ghost use Rattle.nq_client.specs.Tied.{Tied};
 
@@ -95,8 +94,7 @@ impl Step {
         requires room { 1 ≤ self.old.entries.spare }
         requires named { named ≡ losses_of file self.old.state.losses.items }
         ensures step { step_of self.new ≡ names_losses (step_of self.old) q file }
-        ensures left { Leaves 1 self.old self.new }
-        ensures kept { Keeps self.old self.new }
+        ensures left { Uses 1 self.old self.new }
     {
         self.state.losses.forget(file);
         let (losses, spans) = named.told();

@@ -25,8 +25,8 @@ use crate::stepping::{hear, make_call, make_tick, reserve, room_for_call};
 use nq_base::{
     Answer, Block, BlockNo, Call, FileId, Host, Inc, Journal, NoMemory, Spare, Ticks, Who,
 };
+use nq_client_parts::dirty::Dirty;
 use nq_client_parts::holding::Held;
-use nq_dirty::Dirty;
 use nq_wire::Outbox;
 use std::alloc::Global;
 use std::marker::Model;
@@ -289,6 +289,14 @@ impl Client {
             letters: _letters,
             taken: _,
         } = self;
-        step.stop();
+        let Step {
+            state,
+            vacated: _vacated,
+            asks: _,
+            entries: _entries,
+            answer: _answer,
+            cached: _,
+        } = step;
+        state.stop();
     }
 }

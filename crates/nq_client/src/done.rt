@@ -1,17 +1,17 @@
 //! Requests of the call under way that were done.
 
-ghost use Rattle.std.specs.Prelude.{◌≡◌, ◌≤◌, ◌<◌, ◌^◌, None, OnOk, OnErr};
+ghost use Rattle.std.specs.Prelude.{◌≡◌, ◌≤◌, ◌<◌, ◌^◌, None};
 ghost use Rattle.nq_base.specs.declared.Answer.TheVariants.{Ok as ok};
 ghost use Rattle.nq_base.specs.declared.Value.{Value};
 ghost use Rattle.nq_model.specs.Hear.{answers_call, done_for_call, knows_revision, lease_done, read_done};
 ghost use Rattle.nq_client.specs.Done.{brought, changes};
-ghost use Rattle.nq_client.specs.Prepared.{IsPrepared, Leaves};
+ghost use Rattle.nq_client.specs.Prepared.{Comes, IsPrepared, Leaves};
 ghost use Rattle.nq_client_parts.specs.Calls.{file_at_stake};
-ghost use Rattle.nq_client.specs.Step.{HasRoom, step_of};
+ghost use Rattle.nq_client.specs.Step.{step_of};
 
 use crate::step::Step;
 use nq_base::{Block, BlockNo, FileId, Grant, NoMemory, Reply, Request, Rev, Ticks, Value};
-use nq_cache::lets_cache;
+use nq_client_parts::cache::lets_cache;
 
 /// What answers the call under way where its request brings a value alone.
 fn brought(request: &Request, reply: &Reply) -> Option<Value>
@@ -58,9 +58,7 @@ impl Step {
     ) -> Result<(), NoMemory>
         requires prepared { IsPrepared file self.old }
         requires sent { sent < 2 ^ 62 }
-        ensures done { OnOk result (step_of self.new ≡ read_done (step_of self.old) file block body.now grant.now sent packet) }
-        ensures room { OnOk result (HasRoom self.new) }
-        ensures refused { OnErr result (self.new ≡ self.old) }
+        ensures { Comes result (read_done (step_of self.old) file block body.now grant.now sent packet) self.old self.new }
     {
         let answer = body.copied(self.state.alloc)?;
         self.takes_read(file, block, body, grant, sent)?;
@@ -77,9 +75,7 @@ impl Step {
     ) -> Result<(), NoMemory>
         requires prepared { IsPrepared file self.old }
         requires sent { sent < 2 ^ 62 }
-        ensures done { OnOk result (step_of self.new ≡ lease_done (step_of self.old) file grant.now sent) }
-        ensures room { OnOk result (HasRoom self.new) }
-        ensures refused { OnErr result (self.new ≡ self.old) }
+        ensures { Comes result (lease_done (step_of self.old) file grant.now sent) self.old self.new }
     {
         self.takes_optional(file, grant, sent)?;
         if !lets_cache(grant) {
@@ -115,9 +111,7 @@ impl Step {
     ) -> Result<(), NoMemory>
         requires prepared { IsPrepared (file_at_stake request.now) self.old }
         requires sent { sent < 2 ^ 62 }
-        ensures done { OnOk result (step_of self.new ≡ done_for_call (step_of self.old) packet sent request.now reply.now) }
-        ensures room { OnOk result (HasRoom self.new) }
-        ensures refused { OnErr result (self.new ≡ self.old) }
+        ensures { Comes result (done_for_call (step_of self.old) packet sent request.now reply.now) self.old self.new }
     {
         match brought(request, reply) {
             Some(value) => {
@@ -138,24 +132,25 @@ impl Step {
     ) -> Result<(), NoMemory>
         requires prepared { IsPrepared (file_at_stake request.now) self.old }
         requires sent { sent < 2 ^ 62 }
-        ensures done { OnOk result (step_of self.new ≡ changes (step_of self.old) packet sent request.now reply.now) }
-        ensures room { OnOk result (HasRoom self.new) }
-        ensures refused { OnErr result (self.new ≡ self.old) }
+        ensures { Comes result (changes (step_of self.old) packet sent request.now reply.now) self.old self.new }
     {
         match request {
             Request::Resize { file, .. } => match reply {
-                Reply::Resize { rev, .. } => self.resized(*file, *rev),
-                _ => {}
+                Reply::Resize { rev, .. } => {
+                    self.resized(*file, *rev);
+                    Ok(())
+                }
+                _ => Ok(()),
             },
             Request::Read { file, block, .. } => match reply {
                 Reply::Read { body, grant, .. } => {
-                    return self.read_done(*file, *block, body, grant, sent, packet);
+                    self.read_done(*file, *block, body, grant, sent, packet)
                 }
-                _ => {}
+                _ => Ok(()),
             },
             Request::GetLease { file, .. } => match reply {
-                Reply::GetLease { grant, .. } => return self.lease_done(*file, grant, sent),
-                _ => {}
+                Reply::GetLease { grant, .. } => self.lease_done(*file, grant, sent),
+                _ => Ok(()),
             },
             Request::Write {
                 file,
@@ -163,18 +158,10 @@ impl Step {
                 body,
                 ..
             } => match reply {
-                Reply::Write { rev, .. } => return self.write_done(*file, *block, body, *rev),
-                _ => {}
+                Reply::Write { rev, .. } => self.write_done(*file, *block, body, *rev),
+                _ => Ok(()),
             },
-            Request::Null
-            | Request::Attach { .. }
-            | Request::Lookup { .. }
-            | Request::Create { .. }
-            | Request::GetAttr { .. }
-            | Request::Vacated { .. }
-            | Request::Evicted { .. }
-            | Request::Remove { .. } => {}
+            _ => Ok(()),
         }
-        Ok(())
     }
 }

@@ -1,13 +1,12 @@
 //! What a step gives: its datagrams, its entries and its answer.
 
-ghost use Rattle.std.specs.Prelude.{◌≡◌, ◌≤◌, ◌+◌, ◌∷◌, ◌++◌, [], None, Some, All, length, map, option_map, OnOk};
+ghost use Rattle.std.specs.Prelude.{◌≡◌, ◌≤◌, ◌∷◌, [], None, length, option_map, OnOk};
 ghost use Rattle.nq_base.specs.Plain.{plain_answer};
-ghost use Rattle.nq_datagrams.specs.Messages.{FitsMessage};
 ghost use Rattle.nq_model.specs.Message.{call};
 ghost use Rattle.nq_wire.specs.Request.{HasSpelling};
-ghost use Rattle.nq_client.specs.Finishing.{Grows, HasLetters, HasRooms, longest_call, to_server};
+ghost use Rattle.nq_client.specs.Finishing.{Finishes, HasLetters, HasRooms, Posts, longest_call};
 ghost use Rattle.nq_client.specs.Outcome.{IsHeard, or_pending};
-ghost use Rattle.nq_client.specs.Step.{IsBegun, request_message, step_of, vacated_message};
+ghost use Rattle.nq_client.specs.Step.{IsBegun, request_message, vacated_message};
 
 use crate::asked::Asked;
 use crate::heard::Heard;
@@ -48,21 +47,19 @@ impl Letters {
 }
 
 /// Sends a call to the server, in room that is there.
+#[tactic(auto, using(crate::proofs::Fitting::fit_one))]
 fn post(letter: &mut Letter, alloc: Global, xid: u32, request: &Request, out: &mut Outbox)
     requires bytes { longest_call ≤ letter.old }
     requires place { 1 ≤ out.old.spare }
     requires spelled { HasSpelling request.now }
-    ensures first { out.new.first ≡ out.old.first }
-    ensures sent { out.new.datagrams ≡ out.old.datagrams ++ to_server (call xid request.now) ∷ [] }
-    ensures fits { FitsMessage (call xid request.now) }
-    ensures spare { out.old.spare ≤ out.new.spare + 1 }
+    ensures { Posts (call xid request.now ∷ []) out.old out.new }
 {
     let bytes = letter.spell(alloc, xid, request);
     out.push(Party::Server, bytes).unwrap();
 }
 
 /// Sends a vacated message, if there is one.
-#[tactic(auto, using(crate::proofs::Fitting::fit_none, crate::proofs::Fitting::fit_one))]
+#[tactic(auto, using(crate::proofs::Fitting::fit_none))]
 fn post_vacated(
     letter: &mut Letter,
     alloc: Global,
@@ -72,10 +69,7 @@ fn post_vacated(
 )
     requires bytes { longest_call ≤ letter.old }
     requires place { 1 ≤ out.old.spare }
-    ensures first { out.new.first ≡ out.old.first }
-    ensures sent { out.new.datagrams ≡ out.old.datagrams ++ map to_server (vacated_message who vacated) }
-    ensures fit { All FitsMessage (vacated_message who vacated) }
-    ensures spare { out.old.spare ≤ out.new.spare + 1 }
+    ensures { Posts (vacated_message who vacated) out.old out.new }
 {
     match vacated {
         Some(vacated) => {
@@ -91,7 +85,7 @@ fn post_vacated(
 }
 
 /// Sends the request under way, if the step sends it.
-#[tactic(auto, using(crate::proofs::Fitting::fit_none, crate::proofs::Fitting::fit_one))]
+#[tactic(auto, using(crate::proofs::Fitting::fit_none))]
 fn post_request(
     letter: &mut Letter,
     alloc: Global,
@@ -101,9 +95,7 @@ fn post_request(
 )
     requires bytes { longest_call ≤ letter.old }
     requires place { 1 ≤ out.old.spare }
-    ensures first { out.new.first ≡ out.old.first }
-    ensures sent { out.new.datagrams ≡ out.old.datagrams ++ map to_server (request_message asks asked.now) }
-    ensures fit { All FitsMessage (request_message asks asked.now) }
+    ensures { Posts (request_message asks asked.now) out.old out.new }
 {
     match asked {
         Some(asked) if asks => post(letter, alloc, asked.xid(), asked.request(), out),
@@ -119,10 +111,7 @@ impl Step {
         requires letters { HasLetters letters.old }
         requires places { 2 ≤ out.old.spare }
         requires room { length self.old.entries.items ≤ log.old.spare }
-        ensures begun { IsBegun (record self.new { answer = None }) }
-        ensures state { self.new.state ≡ self.old.state }
-        ensures answer { self.new.answer ≡ self.old.answer }
-        ensures grows { Grows (step_of self.old) out.old out.new log.old log.new }
+        ensures { Finishes self.old self.new out.old out.new log.old log.new }
     {
         let alloc = self.state.alloc;
         let vacated = self.vacated.take();

@@ -1,7 +1,9 @@
 //! What a client makes of a notice.
 
 ghost use Rattle.std.specs.Prelude.{◌≡◌, ◌≤◌, None, false, OnErr, OnOk};
-ghost use Rattle.nq_model.specs.Hear.{cancelled, cancels, goes_on, spends};
+ghost use Rattle.nq_model.specs.Hear.{cancelled, cancels, spends};
+ghost use Rattle.nq_model.specs.Send.{send_next};
+ghost use Rattle.nq_model.specs.Settle.{settle};
 ghost use Rattle.nq_model.specs.Table.{same_who};
 ghost use Rattle.nq_client.specs.Finishing.{HasRooms};
 ghost use Rattle.nq_client.specs.Hearing.{is_wanted};
@@ -60,16 +62,16 @@ impl Step {
         }
     }
 
-    /// What comes after a datagram that counted: what needs no packet, and the next request.
-    pub(crate) fn goes_on(&mut self, rooms: &mut Rooms)
+    /// What comes after a datagram that counted, or in a tick: what needs no packet, and the next request.
+    pub(crate) fn goes_on(&mut self, in_tick: bool, rooms: &mut Rooms)
         requires rooms { HasRooms rooms.old }
         requires room { HasRoom self.old }
         requires tied { Tied self.old.state.asked self.old.state.dirty.push }
         requires numbers { HasNumbers 2 self.old.state }
-        ensures { step_of self.new ≡ goes_on (step_of self.old) }
+        ensures { step_of self.new ≡ send_next in_tick (settle (step_of self.old)) }
     {
         self.settle(&mut rooms.kept);
-        self.send_next(false, &mut rooms.sent);
+        self.send_next(in_tick, &mut rooms.sent);
     }
 
     /// Takes a call of the server in, of which a notice alone counts.
@@ -86,7 +88,7 @@ impl Step {
             Request::Evicted { file, tag, .. } => {
                 self.cancels(*file);
                 self.evicted(*file, *tag);
-                self.goes_on(rooms);
+                self.goes_on(false, rooms);
             }
             _ => {}
         }
@@ -120,7 +122,7 @@ impl Step {
             }
             Heard::Reply { reply, .. } => {
                 self.replied(packet, reply)?;
-                self.goes_on(rooms);
+                self.goes_on(false, rooms);
                 Ok(())
             }
         }

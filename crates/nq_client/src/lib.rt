@@ -31,4 +31,4 @@ mod vacating;
 
 pub use client::{Client, StartClient};
 pub use heard::Heard;
-pub use nq_dirty::Dirty;
+pub use nq_client_parts::dirty::Dirty;

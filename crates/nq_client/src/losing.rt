@@ -1,14 +1,15 @@
 //! Delayed writes that are lost.
 
-ghost use Rattle.std.specs.Prelude.{◌≡◌, ◌≤◌, length, option_map, IsTrue, IfOk, OnOk, OnErr};
+ghost use Rattle.std.specs.Prelude.{◌≡◌, ◌≤◌, length, is_some, option_map, if◌then◌else◌, IsTrue, IfOk};
+ghost use Rattle.std.specs.Option.{ForSome};
 ghost use Rattle.nq_model.specs.Client.{is_clean_in, losses_of, notice_on};
-ghost use Rattle.nq_model.specs.Hear.{all_dirty_in, breaks_chain, loses, push_refused, reports, vacates_noticed, without_lease};
+ghost use Rattle.nq_model.specs.Hear.{all_dirty_in, breaks_chain, loses, push_refused, reports, vacates_noticed};
 ghost use Rattle.nq_client.specs.Hearing.{IsSilent};
-ghost use Rattle.nq_client.specs.Losing.{IsReadyFor, Keeps, SendsNothing};
+ghost use Rattle.nq_client.specs.Losing.{IsReadyFor, Keeps, SendsNothing, Uses};
 ghost use Rattle.nq_client_parts.specs.Lost.{waiting};
-ghost use Rattle.nq_client.specs.Prepared.{IsPrepared, Leaves};
+ghost use Rattle.nq_client.specs.Prepared.{Comes, IsPrepared};
 ghost use Rattle.nq_client.specs.State.{under_way};
-ghost use Rattle.nq_client.specs.Step.{HasRoom, step_of};
+ghost use Rattle.nq_client.specs.Step.{step_of};
 
 use crate::state::{State, UnderWay};
 use crate::step::Step;
@@ -43,29 +44,13 @@ impl Step {
         ensures quiet { SendsNothing self.old self.new }
         ensures clean { IsTrue (is_clean_in file self.new.state.dirty.dirty self.new.state.dirty.push) }
         ensures named { result ≡ losses_of file self.new.state.losses.items }
-        ensures left { Leaves (length (all_dirty_in file self.old.state.dirty.dirty self.old.state.dirty.push)) self.old self.new }
-        ensures kept { Keeps self.old self.new }
+        ensures left { Uses (length (all_dirty_in file self.old.state.dirty.dirty self.old.state.dirty.push)) self.old self.new }
     {
         let Losing { found, after, told } = ready;
         self.state.dirty.lose(file);
         self.entries.note_losses(&self.state.who, &found);
         self.state.losses = after;
         told
-    }
-
-    /// A call that waits until a file is clean is answered with its losses.
-    #[tactic(auto, using(crate::proofs::Reported::told, crate::proofs::Reported::untold))]
-    fn reports(&mut self, file: FileId, named: Named)
-        requires room { 1 ≤ self.old.entries.spare }
-        requires named { named ≡ losses_of file self.old.state.losses.items }
-        ensures step { step_of self.new ≡ reports (step_of self.old) file }
-        ensures left { Leaves 1 self.old self.new }
-        ensures kept { Keeps self.old self.new }
-    {
-        match waiting(&self.state.call, file) {
-            Some(q) => self.names_losses(q, file, named),
-            None => {}
-        }
     }
 
     /// What follows the loss of all delayed writes of a file: a notice is answered, and a call that waits is told.
@@ -75,24 +60,13 @@ impl Step {
         requires silent { IsSilent self.old }
         requires clean { IsTrue (is_clean_in file self.old.state.dirty.dirty self.old.state.dirty.push) }
         ensures step { step_of self.new ≡ reports (vacates_noticed (step_of self.old) file (notice_on file self.old.state.notices.items)) file }
-        ensures left { Leaves 1 self.old self.new }
-        ensures kept { Keeps self.old self.new }
+        ensures left { Uses 1 self.old self.new }
     {
         self.vacates_noticed(file);
-        self.reports(file, named);
-    }
-
-    /// No lease is held on a file any more.
-    #[tactic(auto, unfolding(nq_model::specs::Hear::without_lease))]
-    fn drops_lease(&mut self, file: FileId)
-        ensures step { step_of self.new ≡ without_lease (step_of self.old) file }
-        ensures quiet { SendsNothing self.old self.new }
-        ensures losses { self.new.state.losses ≡ self.old.state.losses }
-        ensures dirty { self.new.state.dirty ≡ self.old.state.dirty }
-        ensures entries { self.new.entries ≡ self.old.entries }
-        ensures kept { Keeps self.old self.new }
-    {
-        self.state.leases.remove(file);
+        match waiting(&self.state.call, file) {
+            Some(q) => self.names_losses(q, file, named),
+            None => {}
+        }
     }
 
     /// A push was refused: its file's delayed writes are lost, and no lease is held on it any more; a notice is answered,
@@ -101,30 +75,31 @@ impl Step {
     /// # Errors
     ///
     /// Only want of memory, and then nothing changed.
+    #[tactic(auto, unfolding(nq_model::specs::Hear::without_lease))]
     pub(crate) fn push_refused(&mut self, file: FileId) -> Result<(), NoMemory>
         requires { IsPrepared file self.old }
-        ensures done { OnOk result (step_of self.new ≡ push_refused (step_of self.old) file) }
-        ensures room { OnOk result (HasRoom self.new) }
-        ensures refused { OnErr result (self.new ≡ self.old) }
+        ensures { Comes result (push_refused (step_of self.old) file) self.old self.new }
     {
         let ready = ready_to_lose(&self.state, file)?;
         let named = self.loses(file, ready);
-        self.drops_lease(file);
+        self.state.leases.remove(file);
         self.follows_loss(file, named);
         Ok(())
     }
 
-    /// A grant broke the chain of a lease: the delayed writes of its file are lost; a notice is answered, and a call that
+    /// Where a grant broke the chain of a lease, the delayed writes of its file are lost; a notice is answered, and a call that
     /// waits is told.
-    pub(crate) fn breaks_chain(&mut self, file: FileId, ready: Losing)
+    pub(crate) fn breaks_chain(&mut self, file: FileId, losing: Option<Losing>)
         requires prepared { IsPrepared file self.old }
-        requires ready { IsReadyFor ready file self.old.state }
-        ensures step { step_of self.new ≡ breaks_chain (step_of self.old) file }
+        requires ready { ForSome losing (λ r. IsReadyFor r file self.old.state) }
+        ensures step { step_of self.new ≡ (if is_some losing then breaks_chain (step_of self.old) file else step_of self.old) }
         ensures spare { 3 ≤ self.new.entries.spare }
         ensures block { 1 ≤ self.new.state.dirty.spare }
         ensures kept { Keeps self.old self.new }
     {
-        let named = self.loses(file, ready);
-        self.follows_loss(file, named);
+        if let Some(ready) = losing {
+            let named = self.loses(file, ready);
+            self.follows_loss(file, named);
+        }
     }
 }

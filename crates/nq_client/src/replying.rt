@@ -3,9 +3,9 @@
 ghost use Rattle.std.specs.Prelude.{◌≡◌, ◌<◌, ◌^◌, Some, OnOk, OnErr};
 ghost use Rattle.std.specs.Option.{ForSome};
 ghost use Rattle.nq_model.specs.Client.{pushing};
-ghost use Rattle.nq_model.specs.Hear.{done, done_push, done_renewal, refused, refused_push, replied};
+ghost use Rattle.nq_model.specs.Hear.{done, done_push, done_renewal, refused, replied};
 ghost use Rattle.nq_client_parts.specs.Jobs.{job_of};
-ghost use Rattle.nq_client.specs.Prepared.{IsPrepared};
+ghost use Rattle.nq_client.specs.Prepared.{Comes, IsPrepared};
 ghost use Rattle.nq_client_parts.specs.Calls.{file_at_stake};
 ghost use Rattle.nq_client.specs.Receiving.{answered, at_stake};
 ghost use Rattle.nq_client.specs.Step.{HasRoom, step_of};
@@ -26,9 +26,7 @@ impl Step {
     ) -> Result<(), NoMemory>
         requires prepared { IsPrepared (file_at_stake request.now) self.old }
         requires sent { sent < 2 ^ 62 }
-        ensures done { OnOk result (step_of self.new ≡ done_renewal (step_of self.old) sent request.now reply.now) }
-        ensures room { OnOk result (HasRoom self.new) }
-        ensures refused { OnErr result (self.new ≡ self.old) }
+        ensures { Comes result (done_renewal (step_of self.old) sent request.now reply.now) self.old self.new }
     {
         match request {
             Request::GetLease { file, .. } => match reply {
@@ -43,9 +41,7 @@ impl Step {
     fn done_push(&mut self, request: &Request, reply: &Reply) -> Result<(), NoMemory>
         requires prepared { IsPrepared (file_at_stake request.now) self.old }
         requires tied { TiedFor pushing request.now self.old.state.dirty.push }
-        ensures done { OnOk result (step_of self.new ≡ done_push (step_of self.old) request.now reply.now) }
-        ensures room { OnOk result (HasRoom self.new) }
-        ensures refused { OnErr result (self.new ≡ self.old) }
+        ensures { Comes result (done_push (step_of self.old) request.now reply.now) self.old self.new }
     {
         match request {
             Request::Write {
@@ -61,27 +57,12 @@ impl Step {
         }
     }
 
-    /// A push was refused: the delayed writes of its file are lost.
-    fn refused_push(&mut self, request: &Request) -> Result<(), NoMemory>
-        requires { IsPrepared (file_at_stake request.now) self.old }
-        ensures done { OnOk result (step_of self.new ≡ refused_push (step_of self.old) request.now) }
-        ensures room { OnOk result (HasRoom self.new) }
-        ensures refused { OnErr result (self.new ≡ self.old) }
-    {
-        match request {
-            Request::Write { file, .. } => self.push_refused(*file),
-            _ => Ok(()),
-        }
-    }
-
     /// A request was done, by what it was for.
     #[tactic(auto, unfolding(nq_model::specs::Hear::attached))]
     fn done(&mut self, job: Job, asked: &Asked, packet: u64, reply: &Reply) -> Result<(), NoMemory>
         requires prepared { IsPrepared (file_at_stake asked.now.request) self.old }
         requires tied { TiedFor (job_of job) asked.now.request self.old.state.dirty.push }
-        ensures done { OnOk result (step_of self.new ≡ done (step_of self.old) packet asked.now (job_of job) reply.now) }
-        ensures room { OnOk result (HasRoom self.new) }
-        ensures refused { OnErr result (self.new ≡ self.old) }
+        ensures { Comes result (done (step_of self.old) packet asked.now (job_of job) reply.now) self.old self.new }
     {
         match job {
             Job::Attaching => {
@@ -97,9 +78,7 @@ impl Step {
     /// A request was refused, by what it was for.
     fn refused(&mut self, status: Refusal, job: Job, asked: &Asked) -> Result<(), NoMemory>
         requires prepared { IsPrepared (file_at_stake asked.now.request) self.old }
-        ensures done { OnOk result (step_of self.new ≡ refused (step_of self.old) status asked.now (job_of job)) }
-        ensures room { OnOk result (HasRoom self.new) }
-        ensures refused { OnErr result (self.new ≡ self.old) }
+        ensures { Comes result (refused (step_of self.old) status asked.now (job_of job)) self.old self.new }
     {
         match job {
             Job::Attaching => {}
@@ -115,7 +94,11 @@ impl Step {
                     self.pauses();
                 }
             }
-            Job::Pushing => return self.refused_push(asked.request()),
+            // The delayed writes of the push's file are lost.
+            Job::Pushing => match asked.request() {
+                Request::Write { file, .. } => return self.push_refused(*file),
+                _ => {}
+            },
         }
         Ok(())
     }
@@ -124,22 +107,12 @@ impl Step {
     fn answered(&mut self, asked: &Asked, packet: u64, reply: &Reply) -> Result<(), NoMemory>
         requires prepared { IsPrepared (file_at_stake asked.now.request) self.old }
         requires tied { TiedFor asked.now.job asked.now.request self.old.state.dirty.push }
-        ensures done { OnOk result (step_of self.new ≡ answered (step_of self.old) packet asked.now reply.now) }
-        ensures room { OnOk result (HasRoom self.new) }
-        ensures refused { OnErr result (self.new ≡ self.old) }
+        ensures { Comes result (answered (step_of self.old) packet asked.now reply.now) self.old self.new }
     {
+        let job = asked.job();
         match reply {
-            Reply::Refused { status, .. } => self.refused(*status, asked.job(), asked),
-            Reply::Null
-            | Reply::Attach { .. }
-            | Reply::Lookup { .. }
-            | Reply::Create { .. }
-            | Reply::GetAttr { .. }
-            | Reply::Read { .. }
-            | Reply::Write { .. }
-            | Reply::GetLease { .. }
-            | Reply::Resize { .. }
-            | Reply::Remove { .. } => self.done(asked.job(), asked, packet, reply),
+            Reply::Refused { status, .. } => self.refused(*status, job, asked),
+            _ => self.done(job, asked, packet, reply),
         }
     }
 

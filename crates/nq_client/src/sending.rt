@@ -2,7 +2,7 @@
 
 ghost use Rattle.std.specs.Prelude.{◌≡◌, ◌+◌, ◌<◌, ◌^◌, Some, None, true};
 ghost use Rattle.nq_base.specs.declared.Request.{Request};
-ghost use Rattle.nq_model.specs.Client.{for_call, pushing};
+ghost use Rattle.nq_model.specs.Client.{for_call};
 ghost use Rattle.nq_model.specs.Send.{after_seq, base_in, gives_up, pushes, sends_request, sends_write};
 ghost use Rattle.nq_wire.specs.Request.{HasSpelling};
 ghost use Rattle.nq_client_parts.specs.Jobs.{job_of};
@@ -12,8 +12,8 @@ ghost use Rattle.nq_client.specs.Step.{HasNumbers, step_of};
 use crate::asked::Asked;
 use crate::settling::called_body;
 use crate::step::Step;
-use nq_base::{BlockNo, FileId, Number, Push, PushBase, Request, Seq, Spare};
-use nq_cache::Cache;
+use nq_base::{BlockNo, FileId, Number, PushBase, Request, Seq, Spare};
+use nq_client_parts::cache::Cache;
 use nq_client_parts::{Job, Leases};
 
 /// What a push of a file rests on.
@@ -47,7 +47,7 @@ impl Step {
     }
 
     /// Pushes the first delayed writes of a file, if it has some, with a copy of their block in room that is there.
-    #[tactic(auto, unfolding(nq_model::specs::Send::takes_push))]
+    #[tactic(auto, unfolding(nq_model::specs::Send::after_seq, nq_model::specs::Send::takes_push))]
     pub(crate) fn pushes(&mut self, file: FileId, room: &mut Spare)
         requires block { room.old ≡ true }
         requires idle { self.old.state.asked ≡ None }
@@ -55,27 +55,10 @@ impl Step {
         requires numbers { HasNumbers 1 self.old.state }
         ensures { step_of self.new ≡ pushes (step_of self.old) file }
     {
-        match self.state.dirty.next(file, room) {
-            Some(push) => self.sends_push(push),
-            None => {}
-        }
-    }
-
-    /// Sends delayed writes that are under way.
-    #[tactic(auto, unfolding(nq_model::specs::Send::after_seq))]
-    fn sends_push(&mut self, push: Push)
-        requires idle { self.old.state.asked ≡ None }
-        requires numbers { HasNumbers 1 self.old.state }
-        ensures { step_of self.new ≡ sends_request (after_seq (step_of self.old)) pushing (Request.Write self.old.state.who self.old.state.seq push.file push.block push.first push.last (Some (base_in push.file self.old.state.leases.items self.old.state.cache.revisions)) push.body) }
-    {
+        let Some(push) = self.state.dirty.next(file, room) else {
+            return;
+        };
         let base = base_of(&self.state.leases, &self.state.cache, push.file);
-        let Push {
-            file,
-            block,
-            first,
-            last,
-            body,
-        } = push;
         let seq = self.state.seq;
         self.state.seq = Seq(seq.0 + 1);
         self.sends_request(
@@ -83,12 +66,12 @@ impl Step {
             Request::Write {
                 who: self.state.who,
                 seq,
-                file,
-                block,
-                first,
-                last,
+                file: push.file,
+                block: push.block,
+                first: push.first,
+                last: push.last,
                 push: Some(base),
-                body,
+                body: push.body,
             },
         );
     }

@@ -5,11 +5,10 @@ ghost use Rattle.nq_base.specs.Plain.{plain_answer, plain_said};
 ghost use Rattle.nq_base.specs.declared.Answer.{Answer};
 ghost use Rattle.nq_base.specs.declared.Answer.TheVariants.{Ok as ok};
 ghost use Rattle.nq_base.specs.declared.Value.{Value};
-ghost use Rattle.nq_model.specs.Client.{in_state, lease_on};
+ghost use Rattle.nq_model.specs.Client.{lease_on};
 ghost use Rattle.nq_model.specs.Settle.{body_in, delays, is_full_in, settle, ticket_is_for_call};
-ghost use Rattle.nq_client.specs.Losing.{Keeps};
-ghost use Rattle.nq_client.specs.Prepared.{Leaves};
-ghost use Rattle.nq_client.specs.Settling.{called_body, ended, goes_on_delayed, settles_body, settles_put, settles_read, settles_sync, settles_write, tells_read, with_written, writes};
+ghost use Rattle.nq_client.specs.Losing.{Uses};
+ghost use Rattle.nq_client.specs.Settling.{called_body, ended, goes_on_delayed, settles_body, settles_put, settles_read, settles_sync, settles_write, writes};
 ghost use Rattle.nq_client.specs.State.{under_way};
 ghost use Rattle.nq_client.specs.Step.{HasNumbers, HasRoom, step_of};
 
@@ -49,8 +48,7 @@ impl Step {
     pub(crate) fn ends_call(&mut self, q: u64, answer: Answer, said: Said)
         requires { 1 ≤ self.old.entries.spare }
         ensures step { step_of self.new ≡ ended (step_of self.old) q (plain_answer answer) (plain_said said) }
-        ensures left { Leaves 1 self.old self.new }
-        ensures kept { Keeps self.old self.new }
+        ensures left { Uses 1 self.old self.new }
     {
         self.state.call = None;
         self.entries.note(Entry::A {
@@ -118,7 +116,7 @@ impl Step {
         }
     }
 
-    /// A read under a lease that lets it, by what the client has.
+    /// A read under a lease that lets it: it is answered with the block, if the client has it, and the lease was used.
     #[tactic(auto, unfolding(nq_model::specs::Settle::answers, nq_model::specs::Settle::after_read))]
     fn settle_body(&mut self, q: u64, file: FileId, block: BlockNo, room: &mut Spare)
         requires room { HasRoom self.old }
@@ -126,19 +124,11 @@ impl Step {
         ensures { step_of self.new ≡ settles_body (step_of self.old) q file block (body_in file block self.old.state.dirty.dirty self.old.state.dirty.push self.old.state.cache.clean) }
     {
         let state = &mut self.state;
-        match read_held(&state.dirty, &mut state.cache, file, block, room) {
-            Some(body) => self.tells_read(q, file, block, body),
-            None => {}
-        }
-    }
-
-    /// A read is answered with a block that the client has: the lease was used.
-    fn tells_read(&mut self, q: u64, file: FileId, block: BlockNo, body: Block)
-        requires { 2 ≤ self.old.entries.spare }
-        ensures { step_of self.new ≡ tells_read (step_of self.old) q file block body }
-    {
+        let Some(body) = read_held(&state.dirty, &mut state.cache, file, block, room) else {
+            return;
+        };
         let value = body.value();
-        self.state.leases.mark_used(file);
+        state.leases.mark_used(file);
         self.entries.note(Entry::R {
             who: self.state.who,
             q,
@@ -252,17 +242,10 @@ impl Step {
         requires { 1 ≤ self.old.entries.spare }
         ensures { step_of self.new ≡ goes_on_delayed (step_of self.old) q sync }
     {
-        if sync {
-            self.marks_written();
-        } else {
+        if !sync {
             self.ends_call(q, Answer::Ok(Value::Nothing), Said::Ok);
+            return;
         }
-    }
-
-    /// The write of the call under way was delayed.
-    fn marks_written(&mut self)
-        ensures { step_of self.new ≡ in_state (step_of self.old) (record (step_of self.old).client { call = with_written (step_of self.old).client.call }) }
-    {
         match &mut self.state.call {
             Some(u) => u.written = true,
             None => {}

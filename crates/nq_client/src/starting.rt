@@ -1,14 +1,12 @@
 //! The start of an incarnation.
 
-ghost use Rattle.std.specs.Prelude.{◌≡◌, ◌+◌, ◌<◌, ◌≤◌, ◌^◌, ◌++◌, None, All, map, IfOk, OnOk, OnErr};
+ghost use Rattle.std.specs.Prelude.{◌≡◌, ◌+◌, ◌<◌, ◌≤◌, ◌^◌, None, IfOk, OnOk};
 ghost use Rattle.nq_base.specs.declared.Request.{Request};
-ghost use Rattle.nq_datagrams.specs.Messages.{FitsMessage};
 ghost use Rattle.nq_model.specs.Client.{attaching};
 ghost use Rattle.nq_model.specs.ClientStep.{starts};
 ghost use Rattle.nq_model.specs.Send.{sends_request};
-ghost use Rattle.nq_client.specs.Finishing.{HasLetters, to_server};
-ghost use Rattle.nq_client.specs.State.{client_of};
-ghost use Rattle.nq_client.specs.Step.{IsBegun, step_of};
+ghost use Rattle.nq_client.specs.Finishing.{Begins, HasLetters, IsUnsent};
+ghost use Rattle.nq_client.specs.Step.{step_of};
 
 use crate::finishing::Letters;
 use crate::state::State;
@@ -47,8 +45,7 @@ fn first_step(alloc: Global, who: Who, term: u32, time: Ticks) -> Result<Step, N
 fn reserve(alloc: Global, letters: &mut Letters, out: &mut Outbox) -> Result<(), NoMemory>
     ensures letters { OnOk result (HasLetters letters.new) }
     ensures places { OnOk result (2 ≤ out.new.spare) }
-    ensures first { out.new.first ≡ out.old.first }
-    ensures datagrams { out.new.datagrams ≡ out.old.datagrams }
+    ensures unsent { IsUnsent out.old out.new }
 {
     letters.reserve(alloc)?;
     out.reserve(2)
@@ -64,12 +61,7 @@ pub(crate) fn begin(
     out: &mut Outbox,
 ) -> Result<Step, NoMemory>
     requires { time < 2 ^ 62 }
-    ensures begun { IfOk result IsBegun }
-    ensures client { IfOk result (λ s. client_of s.state ≡ (starts who term time).client) }
-    ensures first { out.new.first ≡ out.old.first }
-    ensures sent { OnOk result (out.new.datagrams ≡ out.old.datagrams ++ map to_server (starts who term time).sends) }
-    ensures fit { OnOk result (All FitsMessage (starts who term time).sends) }
-    ensures refused { OnErr result (out.new.datagrams ≡ out.old.datagrams) }
+    ensures { Begins result (starts who term time) out.old out.new }
 {
     reserve(alloc, letters, out)?;
     let mut log = Journal::new(alloc).unwrap();

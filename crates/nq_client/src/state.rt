@@ -6,9 +6,9 @@ ghost use Rattle.nq_client.specs.State.{client_of};
 
 use crate::asked::Asked;
 use nq_base::{Call, NoMemory, Number, Seq, Ticks, Who};
-use nq_cache::Cache;
+use nq_client_parts::cache::Cache;
+use nq_client_parts::dirty::Dirty;
 use nq_client_parts::{Leases, Notices, Unreported};
-use nq_dirty::Dirty;
 use std::alloc::Global;
 
 /// The call under way.
@@ -102,15 +102,9 @@ impl State {
             cache: _cache,
             alloc: _,
         } = self;
-        cancel(asked);
+        if let Some(asked) = asked {
+            asked.spent();
+        }
         notices.forgotten();
-    }
-}
-
-/// Gives the request under way up.
-fn cancel(asked: Option<Asked>) {
-    match asked {
-        Some(asked) => asked.spent(),
-        None => {}
     }
 }

@@ -6,7 +6,7 @@ ghost use Rattle.nq_client.specs.Step.{IsBegun};
 use crate::state::State;
 use nq_base::Answer;
 use nq_client_parts::Entries;
-use nq_dirty::Vacancy;
+use nq_client_parts::dirty::Vacancy;
 
 /// A vacated message with its number.
 #[derive(Drop)]
@@ -44,18 +44,5 @@ impl Step {
             answer: None,
             cached: false,
         }
-    }
-
-    /// Ends the client.
-    pub(crate) fn stop(self) {
-        let Step {
-            state,
-            vacated: _vacated,
-            asks: _,
-            entries: _entries,
-            answer: _answer,
-            cached: _,
-        } = self;
-        state.stop();
     }
 }

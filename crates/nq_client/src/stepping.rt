@@ -1,9 +1,8 @@
 //! Whole steps of a client: memory is taken first, then the step is made, then its outcome is given.
 
-ghost use Rattle.std.specs.Prelude.{◌≡◌, ◌≤◌, ◌<◌, ◌+◌, ◌^◌, None, option_map, IfOk, OnErr, OnOk};
-ghost use Rattle.nq_base.specs.Plain.{plain_answer};
+ghost use Rattle.std.specs.Prelude.{◌≡◌, ◌≤◌, ◌<◌, ◌+◌, ◌^◌, IfOk, OnOk};
 ghost use Rattle.nq_model.specs.ClientStep.{changed_file, client_call, client_tick, losses_for};
-ghost use Rattle.nq_client.specs.Finishing.{Grows, IsKept, IsSupplied};
+ghost use Rattle.nq_client.specs.Finishing.{Hears, IsKept, IsSupplied, Makes};
 ghost use Rattle.nq_client.specs.Receiving.{HasRoomForFiles, IsHeeded, most_entries, on_heard};
 ghost use Rattle.nq_client.specs.State.{client_of};
 ghost use Rattle.nq_client.specs.Step.{HasNumbers, IsBegun};
@@ -67,10 +66,7 @@ pub(crate) fn make_call(
     requires calls { step.old.state.calls < 2 ^ 62 }
     requires named { named ≡ losses_for (changed_file call) step.old.state.losses.items }
     requires tied { Tied step.old.state.asked step.old.state.dirty.push }
-    ensures begun { IsBegun (record step.new { answer = None }) }
-    ensures client { client_of step.new.state ≡ (client_call (client_of step.old.state) call).client }
-    ensures grows { Grows (client_call (client_of step.old.state) call) out.old out.new log.old log.new }
-    ensures answer { option_map plain_answer step.new.answer ≡ (client_call (client_of step.old.state) call).answer }
+    ensures { Makes (client_call (client_of step.old.state) call) step.new out.old out.new log.old log.new }
 {
     step.call(call, named, &mut letters.rooms);
     step.finish(letters, out, log);
@@ -89,10 +85,7 @@ pub(crate) fn make_tick(
     requires numbers { HasNumbers 2 step.old.state }
     requires early { now < 2 ^ 62 }
     requires tied { Tied step.old.state.asked step.old.state.dirty.push }
-    ensures begun { IsBegun (record step.new { answer = None }) }
-    ensures client { client_of step.new.state ≡ (client_tick (client_of step.old.state) now).client }
-    ensures grows { Grows (client_tick (client_of step.old.state) now) out.old out.new log.old log.new }
-    ensures answer { option_map plain_answer step.new.answer ≡ (client_tick (client_of step.old.state) now).answer }
+    ensures { Makes (client_tick (client_of step.old.state) now) step.new out.old out.new log.old log.new }
 {
     step.tick(now, &mut letters.rooms);
     step.finish(letters, out, log);
@@ -130,11 +123,7 @@ pub(crate) fn hear(
     requires numbers { HasNumbers 3 step.old.state }
     requires tied { Tied step.old.state.asked step.old.state.dirty.push }
     requires heeded { IsHeeded step.old.state.asked heard.now }
-    ensures begun { OnOk result (IsBegun (record step.new { answer = None })) }
-    ensures client { OnOk result (client_of step.new.state ≡ (on_heard (client_of step.old.state) packet heard.now).client) }
-    ensures grows { OnOk result (Grows (on_heard (client_of step.old.state) packet heard.now) out.old out.new log.old log.new) }
-    ensures answer { OnOk result (option_map plain_answer step.new.answer ≡ (on_heard (client_of step.old.state) packet heard.now).answer) }
-    ensures kept { OnErr result (IsKept step.old step.new out.old out.new log.old log.new) }
+    ensures { Hears result (on_heard (client_of step.old.state) packet heard.now) step.old step.new out.old out.new log.old log.new }
 {
     room_for_heard(step, letters, out, log)?;
     step.hears(packet, heard, &mut letters.rooms)?;

@@ -3,13 +3,13 @@
 ghost use Rattle.std.specs.Prelude.{◌≡◌, is_some, IsTrue, OnOk, OnErr, if◌then◌else◌};
 ghost use Rattle.nq_model.specs.Client.{dirty_at, is_push_of, push_passes, put_clean};
 ghost use Rattle.nq_model.specs.Hear.{push_done, write_done};
-ghost use Rattle.nq_client.specs.Prepared.{IsPrepared, Leaves};
+ghost use Rattle.nq_client.specs.Prepared.{Comes, IsPrepared};
 ghost use Rattle.nq_client.specs.Step.{step_of};
 
 use crate::step::Step;
 use nq_base::{Block, BlockNo, FileId, NoMemory, Rev, Value};
-use nq_cache::{Cache, caches_written};
-use nq_dirty::Dirty;
+use nq_client_parts::cache::{Cache, caches_written};
+use nq_client_parts::dirty::Dirty;
 use std::alloc::Global;
 
 /// Caches the block of a push that was stored, unless it is dirty again.
@@ -45,9 +45,7 @@ impl Step {
         rev: Rev,
     ) -> Result<(), NoMemory>
         requires { IsPrepared file self.old }
-        ensures done { OnOk result (step_of self.new ≡ write_done (step_of self.old) file block body.now rev) }
-        ensures left { OnOk result (Leaves 1 self.old self.new) }
-        ensures refused { OnErr result (self.new ≡ self.old) }
+        ensures { Comes result (write_done (step_of self.old) file block body.now rev) self.old self.new }
     {
         let holds = self.state.leases.holds_caching(file);
         let alloc = self.state.alloc;
@@ -72,9 +70,7 @@ impl Step {
     ) -> Result<(), NoMemory>
         requires prepared { IsPrepared file self.old }
         requires push { IsTrue (push_passes (is_push_of file) self.old.state.dirty.push) }
-        ensures done { OnOk result (step_of self.new ≡ push_done (step_of self.old) file block body.now rev) }
-        ensures left { OnOk result (Leaves 0 self.old self.new) }
-        ensures refused { OnErr result (self.new ≡ self.old) }
+        ensures { Comes result (push_done (step_of self.old) file block body.now rev) self.old self.new }
     {
         caches_stored(
             &self.state.dirty,

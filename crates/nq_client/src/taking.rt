@@ -1,10 +1,8 @@
 //! Grants that are taken.
 
-ghost use Rattle.std.specs.Prelude.{◌≡◌, ◌≤◌, ◌<◌, ◌^◌, is_some, IfOk, OnErr, OnOk, if◌then◌else◌};
-ghost use Rattle.std.specs.Option.{ForSome};
-ghost use Rattle.nq_model.specs.Hear.{breaks_chain, takes_optional, then_caches};
-ghost use Rattle.nq_client.specs.Losing.{IsReadyFor, Keeps};
-ghost use Rattle.nq_client.specs.Prepared.{IsPrepared};
+ghost use Rattle.std.specs.Prelude.{◌<◌, ◌^◌, IfOk};
+ghost use Rattle.nq_model.specs.Hear.{takes_optional, then_caches};
+ghost use Rattle.nq_client.specs.Prepared.{Comes, IsPrepared, Takes};
 ghost use Rattle.nq_client.specs.Step.{step_of};
 ghost use Rattle.nq_client.specs.Taking.{IsTaking};
 
@@ -12,8 +10,8 @@ use crate::losing::ready_to_lose;
 use crate::state::State;
 use crate::step::Step;
 use nq_base::{Block, BlockNo, FileId, Grant, NoMemory, Ticks};
-use nq_cache::caches_read;
 use nq_client_parts::Losing;
+use nq_client_parts::cache::caches_read;
 use nq_client_parts::holding::{Held, Taken};
 
 /// A grant that is to be taken, and what this needs, made before anything changes.
@@ -50,21 +48,6 @@ fn ready_to_take(
 }
 
 impl Step {
-    /// The delayed writes of a file are lost where a grant broke the chain of its lease.
-    fn breaks_with(&mut self, file: FileId, losing: Option<Losing>)
-        requires prepared { IsPrepared file self.old }
-        requires ready { ForSome losing (λ r. IsReadyFor r file self.old.state) }
-        ensures step { step_of self.new ≡ (if is_some losing then breaks_chain (step_of self.old) file else step_of self.old) }
-        ensures spare { 3 ≤ self.new.entries.spare }
-        ensures block { 1 ≤ self.new.state.dirty.spare }
-        ensures kept { Keeps self.old self.new }
-    {
-        match losing {
-            Some(ready) => self.breaks_chain(file, ready),
-            None => {}
-        }
-    }
-
     /// Takes a grant, if there is one, whose request was first sent at `sent`. Where it breaks the chain of a lease over delayed
     /// writes, these are lost.
     ///
@@ -79,16 +62,13 @@ impl Step {
     ) -> Result<(), NoMemory>
         requires prepared { IsPrepared file self.old }
         requires sent { sent < 2 ^ 62 }
-        ensures step { OnOk result (step_of self.new ≡ takes_optional (step_of self.old) file grant.now sent) }
-        ensures spare { OnOk result (3 ≤ self.new.entries.spare) }
-        ensures block { OnOk result (1 ≤ self.new.state.dirty.spare) }
-        ensures refused { OnErr result (self.new ≡ self.old) }
+        ensures { Comes result (takes_optional (step_of self.old) file grant.now sent) self.old self.new }
     {
         let Some(given) = grant else {
             return Ok(());
         };
         let Taking { held, losing } = ready_to_take(&self.state, file, given, sent)?;
-        self.breaks_with(file, losing);
+        self.breaks_chain(file, losing);
         self.holds(file, given, sent, held);
         Ok(())
     }
@@ -108,17 +88,14 @@ impl Step {
     ) -> Result<(), NoMemory>
         requires prepared { IsPrepared file self.old }
         requires sent { sent < 2 ^ 62 }
-        ensures step { OnOk result (step_of self.new ≡ then_caches (takes_optional (step_of self.old) file grant.now sent) file block body.now grant.now) }
-        ensures spare { OnOk result (3 ≤ self.new.entries.spare) }
-        ensures block { OnOk result (1 ≤ self.new.state.dirty.spare) }
-        ensures refused { OnErr result (self.new ≡ self.old) }
+        ensures { Takes result (then_caches (takes_optional (step_of self.old) file grant.now sent) file block body.now grant.now) self.old self.new }
     {
         match grant {
             Some(given) => {
                 let Taking { held, losing } = ready_to_take(&self.state, file, given, sent)?;
                 let alloc = self.state.alloc;
                 caches_read(&mut self.state.cache, alloc, file, block, body, grant)?;
-                self.breaks_with(file, losing);
+                self.breaks_chain(file, losing);
                 self.keeps(file, given, sent, held);
                 Ok(())
             }

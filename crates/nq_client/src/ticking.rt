@@ -57,10 +57,7 @@ impl Step {
     {
         match &self.state.asked {
             Some(_) => self.asks = asks_again(&mut self.state.asked, self.state.time),
-            None => {
-                self.settle(&mut rooms.kept);
-                self.send_next(true, &mut rooms.sent);
-            }
+            None => self.goes_on(true, rooms),
         }
     }
 }

@@ -8,8 +8,8 @@ ghost use Rattle.nq_client.specs.Step.{step_of};
 
 use crate::step::{Step, Vacated};
 use nq_base::{FileId, Tag};
+use nq_client_parts::dirty::{Dirty, Vacancy};
 use nq_client_parts::holding::Notice;
-use nq_dirty::{Dirty, Vacancy};
 
 /// The answer to a notice for a clean file.
 fn vacancy(dirty: &Dirty, notice: Notice) -> Vacancy

@@ -10,8 +10,8 @@ use Rattle.nq_base.specs.declared.Request.TheVariants.{Null, Attach, Lookup, Cre
 use Rattle.nq_model.specs.Client.{Client, Ticket, begun}
 use Rattle.nq_model.specs.Hear.{hear, hear_reply, hear_call, inc_of, reply_counts, goes_on, replied}
 use Rattle.nq_model.specs.Message.{Message, call, reply, error, RpcError, rpc_mismatch, program_unavailable, program_mismatch, procedure_unavailable, garbage_arguments, too_long, datagram_of}
-use Rattle.nq_rpc.specs.declared.Outcome.TheVariants as outcome
-use Rattle.nq_rpc.specs.Reading.{message_at}
+use Rattle.nq_xdr.specs.declared.rpc.message.Outcome.TheVariants as outcome
+use Rattle.nq_xdr.specs.RpcReading.{message_at}
 use Rattle.nq_wire.specs.declared.WireFault.{WireFault}
 use Rattle.nq_wire.specs.Procedure.{number_of}
 use Rattle.nq_wire.specs.Reading.{reply_in}

@@ -5,14 +5,14 @@ use Rattle.nq_base.specs.declared.Request.{Request}
 use Rattle.nq_model.specs.Client.{Client, ClientStep, Ticket}
 use Rattle.nq_model.specs.Hear.{hear}
 use Rattle.nq_model.specs.Message.{Message, call, reply, Datagram, too_long, no_message, no_call, other_rpc, other_program, other_version, unknown_procedure, garbage_vacated, garbage, request}
-use Rattle.nq_rpc.specs.declared.CallMessage.{CallMessage}
-use Rattle.nq_rpc.specs.declared.Message.{Message as Said}
-use Rattle.nq_rpc.specs.declared.Message.TheVariants as said
-use Rattle.nq_rpc.specs.declared.Outcome.{Outcome}
-use Rattle.nq_rpc.specs.declared.Outcome.TheVariants as outcome
-use Rattle.nq_rpc.specs.declared.RpcFault.{RpcFault}
-use Rattle.nq_rpc.specs.Fault.{fault_number}
-use Rattle.nq_rpc.specs.Reading.{message_at}
+use Rattle.nq_xdr.specs.declared.rpc.message.CallMessage.{CallMessage}
+use Rattle.nq_xdr.specs.declared.rpc.message.Message.{Message as Said}
+use Rattle.nq_xdr.specs.declared.rpc.message.Message.TheVariants as said
+use Rattle.nq_xdr.specs.declared.rpc.message.Outcome.{Outcome}
+use Rattle.nq_xdr.specs.declared.rpc.message.Outcome.TheVariants as outcome
+use Rattle.nq_xdr.specs.declared.rpc.fault.RpcFault.{RpcFault}
+use Rattle.nq_xdr.specs.RpcFault.{fault_number}
+use Rattle.nq_xdr.specs.RpcReading.{message_at}
 use Rattle.nq_wire.specs.declared.WireFault.{WireFault}
 use Rattle.nq_wire.specs.Procedure.{number_of}
 use Rattle.nq_wire.specs.Reading.{request_in, reply_in}

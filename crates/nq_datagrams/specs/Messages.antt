@@ -3,11 +3,11 @@ use Rattle.std.specs.Prelude.{ℕ, ◌^◌, ◌<◌, List}
 use Rattle.nq_base.specs.declared.Reply.{Reply}
 use Rattle.nq_base.specs.declared.Request.{Request}
 use Rattle.nq_model.specs.Message.{Message, call, reply, error, RpcError, rpc_mismatch, program_unavailable, program_mismatch, procedure_unavailable, garbage_arguments}
-use Rattle.nq_rpc.specs.declared.Message.{Message as Said}
-use Rattle.nq_rpc.specs.declared.Message.TheVariants as said
-use Rattle.nq_rpc.specs.declared.Outcome.{Outcome}
-use Rattle.nq_rpc.specs.declared.Outcome.TheVariants as outcome
-use Rattle.nq_rpc.specs.Message.{spelling, null}
+use Rattle.nq_xdr.specs.declared.rpc.message.Message.{Message as Said}
+use Rattle.nq_xdr.specs.declared.rpc.message.Message.TheVariants as said
+use Rattle.nq_xdr.specs.declared.rpc.message.Outcome.{Outcome}
+use Rattle.nq_xdr.specs.declared.rpc.message.Outcome.TheVariants as outcome
+use Rattle.nq_xdr.specs.Message.{spelling, null}
 use Rattle.nq_wire.specs.Procedure.{number_of}
 use Rattle.nq_wire.specs.Reply.{results, IsReply}
 use Rattle.nq_wire.specs.Request.{procedure_of, arguments, IsRequest, HasSpelling}

@@ -8,9 +8,9 @@ ghost use Rattle.nq_datagrams.specs.Messages.{FitsMessage, bytes_of, program, ve
 
 use crate::numbers::{PROGRAM, VERSION};
 use nq_base::{NoMemory, Request};
-use nq_rpc::{Head, begin_call};
 use nq_wire::{LONGEST_ARGUMENTS, Procedure, encode_request_into};
 use nq_xdr::Writer;
+use nq_xdr::rpc::{Head, begin_call};
 
 /// The most bytes of a call: those of a WRITE that is a push.
 pub const LONGEST_CALL: usize = 40 + LONGEST_ARGUMENTS;

@@ -1,14 +1,14 @@
 //! What a datagram is to a client.
 
 ghost use Rattle.std.specs.Prelude.{◌≡◌, true};
-ghost use Rattle.nq_rpc.specs.Lent.{lent_outcome};
+ghost use Rattle.nq_xdr.specs.Lent.{lent_outcome};
 ghost use Rattle.nq_datagrams.specs.Incoming.{call_in, heard_for, reply_to};
 ghost use Rattle.nq_datagrams.specs.Told.{owned, told_client, told_lent};
 
 use crate::numbers::{EVICTED, PROGRAM, RPC_VERSION, VERSION};
 use nq_base::{Reply, Request, Spare};
-use nq_rpc::{LentCall, LentMessage, LentOutcome, decode_in_place};
 use nq_wire::{LentReply, Procedure, decode_reply_in_place, decode_request};
+use nq_xdr::rpc::{LentCall, LentMessage, LentOutcome, decode_in_place};
 
 /// The request of a client for whose reply it waits.
 #[derive(Clone, Copy)]

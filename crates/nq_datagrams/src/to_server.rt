@@ -1,7 +1,7 @@
 //! What a datagram is to the server.
 
 ghost use Rattle.std.specs.Prelude.{◌≡◌, true, Ok};
-ghost use Rattle.nq_rpc.specs.Lent.{lent_message};
+ghost use Rattle.nq_xdr.specs.Lent.{lent_message};
 ghost use Rattle.nq_datagrams.specs.Incoming.{asked_as, called_as, datagram_in, read_as};
 ghost use Rattle.nq_datagrams.specs.Told.{told};
 
@@ -9,8 +9,8 @@ use crate::numbers::{
     EVICTED, LAST_PROCEDURE, LONGEST_DATAGRAM, PROGRAM, RPC_VERSION, VACATED, VERSION,
 };
 use nq_base::{Request, Spare};
-use nq_rpc::{LentCall, LentMessage, RpcFault, decode_in_place};
 use nq_wire::{WireFault, decode_request};
+use nq_xdr::rpc::{LentCall, LentMessage, RpcFault, decode_in_place};
 
 /// What a datagram is to the server: the classes stand in the order in which they are tried.
 #[derive(Drop)]

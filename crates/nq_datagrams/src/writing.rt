@@ -10,9 +10,9 @@ ghost use Rattle.nq_wire.specs.Request.{HasSpelling};
 use crate::numbers::{RPC_VERSION, VERSION};
 use crate::to_bytes::head_of;
 use nq_base::{Reply, Request};
-use nq_rpc::{Message, NoMemory, Outcome, ReplyMessage, begin_call, begin_reply, encode};
 use nq_wire::{encode_reply_into, encode_request_into};
 use nq_xdr::Writer;
+use nq_xdr::rpc::{Message, NoMemory, Outcome, ReplyMessage, begin_call, begin_reply, encode};
 use std::alloc::Global;
 use std::marker::Model;
 
@@ -104,7 +104,7 @@ pub struct BegunReply {
 impl Model for BegunReply {
     ghost use Rattle.std.specs.Prelude.{◌≡◌, List, ℕ, ◌++◌};
     ghost use Rattle.nq_datagrams.specs.Sent.{Begun};
-    ghost use Rattle.nq_rpc.specs.Message.{spelling, reply_with, null};
+    ghost use Rattle.nq_xdr.specs.Message.{spelling, reply_with, null};
 
     ghost Value = { Begun };
 

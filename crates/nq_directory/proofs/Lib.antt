@@ -1,6 +1,10 @@
-pub mod Called
-pub mod Order
-pub mod Dots
+pub mod Again
 pub mod ByFront
+pub mod Called
+pub mod Dots
+pub mod Entries
 pub mod Halving
+pub mod Heard
+pub mod Order
+pub mod Pages
 pub mod Putting

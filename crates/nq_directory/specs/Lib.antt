@@ -1,3 +1,9 @@
-pub mod Prefix
-pub mod Names
+pub mod Asking
 pub mod Fronts
+pub mod Laws
+pub mod Lent
+pub mod Messages
+pub mod NameCacheNames
+pub mod Names
+pub mod Prefix
+pub mod Reading

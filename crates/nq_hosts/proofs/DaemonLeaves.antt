@@ -2,7 +2,7 @@
 use Rattle.std.proofs.Common.{◌≡◌, ◌⊎◌, ◌<◌, ℕ, zero, suc, [], Option, None, Result, Ok, Err, inl, inr, refl, sym, subst}
 use Rattle.std.specs.Option.{ForSome}
 use Rattle.nq_base.specs.Entries.{EntryList}
-use Rattle.nq_boot.specs.Booting.{LeavesThen}
+use Rattle.nq_keeper.specs.Booting.{LeavesThen}
 use Rattle.nq_hosts.specs.DaemonLeaving.{AreInOrder, IsLeftInGoes, IsLeftInTurns, IsLeftTaking, LeavesRunning, LeavesRuns, LeavesTaking, LeavesTurns}
 use Rattle.nq_hosts.specs.Turning.{Goes, Standing, borne, standing}
 use Rattle.nq_hosts.proofs.Telling.{goes_tells}

@@ -1,7 +1,7 @@
 -- What a stop within the boot and the turns of a server leaves.
 use Rattle.std.proofs.Common.{◌≡◌, ◌⊎◌, ◌<◌, ℕ, zero, suc, Option, Some, None, Result, Ok, Err, inl, inr, refl, sym, subst}
 use Rattle.std.specs.Option.{ForSome}
-use Rattle.nq_boot.specs.Booting.{LeavesThen}
+use Rattle.nq_keeper.specs.Booting.{LeavesThen}
 use Rattle.nq_base.specs.declared.ending.halt.Halt.{Halt}
 use Rattle.nq_hosts.specs.ServerLeaving.{AreInOrder, IsLeftGoing, IsLeftInGoes, IsLeftInTurns, IsLeftStopping, LeavesTaking, LeavesTurns, LeavesRunning, LeavesRuns, ended_of}
 use Rattle.nq_hosts.specs.Serving.{Between, Booted, Goes, GoesOn, NoBoot, between, halt_of}

@@ -5,7 +5,7 @@ use Rattle.nq_base.specs.declared.Call.{Call}
 use Rattle.nq_hosts.specs.Lines.{IsCall, SoFar, StepsOver}
 use Rattle.nq_script.specs.Calls.{SpellsCall}
 use Rattle.nq_script.specs.Faults.{Answers}
-use Rattle.nq_words.specs.Reading.{cut as cut_at}
+use Rattle.nq_script.specs.WordsReading.{cut as cut_at}
 use Rattle.nq_script.specs.Text.{text_of}
 use Rattle.nq_script.specs.declared.faults.ScriptFault.{ScriptFault}
 use Rattle.nq_script.specs.declared.faults.ScriptFault.TheVariants.{Bad, Memory}

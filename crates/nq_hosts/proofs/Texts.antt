@@ -4,7 +4,7 @@ use Rattle.std.proofs.lemmas.Option.{none-some}
 use Rattle.std.specs.List.{AllByRecursion}
 use Rattle.nq_hosts.specs.Lines.{AreCalls, IsCall}
 use Rattle.nq_base.specs.declared.ending.halt.Halt.{Halt}
-use Rattle.nq_words.specs.Reading.{cut}
+use Rattle.nq_script.specs.WordsReading.{cut}
 use Rattle.nq_script.specs.Text.{text_of}
 use Rattle.nq_script.proofs.Cuts.{cut-again, cut-found}
 use Rattle.nq_script.proofs.FileLines.{one-line}

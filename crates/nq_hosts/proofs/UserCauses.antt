@@ -23,7 +23,7 @@ use Rattle.nq_hosts.specs.declared.node.turns.ClientTurn.{ClientTurn}
 use Rattle.nq_hosts.proofs.ClientCounts.{turn_link}
 use Rattle.nq_script.specs.Text.{text_of}
 use Rattle.nq_script.proofs.Cuts.{cut-again}
-use Rattle.nq_words.specs.Reading.{cut as cut_at}
+use Rattle.nq_script.specs.WordsReading.{cut as cut_at}
 use Rattle.nq_hosts.specs.Calling as calling
 use Rattle.nq_hosts.specs.Calling.{FollowsUp, Makes, RunsCall, SendsOut, Waits, refusal_of}
 use Rattle.nq_hosts.specs.Running as running

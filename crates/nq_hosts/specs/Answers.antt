@@ -3,8 +3,8 @@ use Rattle.std.specs.Prelude.{ℕ, List, []}
 use Rattle.std.specs.List.{flat_map}
 use Rattle.nq_base.specs.declared.Entry.{Entry}
 use Rattle.nq_base.specs.declared.Said.{Said}
-use Rattle.nq_words.specs.Forms.{said_words}
-use Rattle.nq_words.specs.Words.{line}
+use Rattle.nq_script.specs.Forms.{said_words}
+use Rattle.nq_script.specs.Words.{line}
 
 -- the line of an answer: its words as in a journal
 unfoldable pub answer_line : Said → List ℕ

@@ -2,7 +2,7 @@
 -- of faults, and `follows` says that a keeper is another one after some of its calls.
 use Rattle.std.specs.Option.{ForSome}
 use Rattle.std.specs.Prelude.{◌≡◌, ◌⊎◌, ⊤, ◌<◌, ℕ, Option, Result, Ok, Err}
-use Rattle.nq_boot.specs.Booting.{last_boot}
+use Rattle.nq_keeper.specs.Booting.{last_boot}
 use Rattle.nq_hosts.specs.Turning.{Standing, TakesTurns, standing}
 use Rattle.nq_base.specs.declared.ending.halt.Halt.{Halt}
 use Rattle.nq_hosts.specs.Serving.{Booted, RanNone}

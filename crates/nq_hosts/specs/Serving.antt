@@ -3,7 +3,7 @@
 use Rattle.std.specs.Fmt.{decimal}
 use Rattle.std.specs.Option.{ForSome}
 use Rattle.std.specs.Prelude.{◌≡◌, ◌⊎◌, ⊤, ◌<◌, ℕ, zero, suc, List, [], ◌++◌, Option, None, Result, Ok, Err, codes}
-use Rattle.nq_boot.specs.Booting.{last_boot}
+use Rattle.nq_keeper.specs.Booting.{last_boot}
 use Rattle.nq_base.specs.declared.ending.ending.Ending.{Ending}
 use Rattle.nq_base.specs.declared.ending.halt.Halt.{Halt}
 use Rattle.nq_io.specs.Faults.{Rose}

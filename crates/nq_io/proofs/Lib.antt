@@ -1,2 +1,4 @@
 pub mod Front
+mod Telling
 pub mod Told
+mod Writing

@@ -1,8 +1,11 @@
 pub mod Calls
 pub mod Faults
+pub mod Known
 pub mod MemSink
 pub mod MemSource
 pub mod Sink
 pub mod Source
+pub mod StdSink
+pub mod StdSource
 pub mod Told
 pub mod Whole

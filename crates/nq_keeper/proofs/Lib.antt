@@ -1,3 +1,4 @@
+pub mod Asking
 pub mod Called
 pub mod Calling
 pub mod CappedRows
@@ -8,3 +9,9 @@ pub mod MadeFiles
 pub mod Naming
 pub mod Places
 pub mod Stored
+pub mod Capping
+pub mod Concluding
+pub mod HeadsChange
+pub mod OnceOnly
+pub mod Sequences
+pub mod SomeRepeats

@@ -1,3 +1,4 @@
+pub mod Asking
 pub mod Bounds
 pub mod Capped
 pub mod InOrder
@@ -5,3 +6,9 @@ pub mod Keeping
 pub mod KeeperLaws
 pub mod Named
 pub mod StoredKeeper
+pub mod Booting
+pub mod RequestsCapped
+pub mod Deciding
+pub mod Reading
+pub mod Recovery
+pub mod Repeats

@@ -2,7 +2,7 @@
 use Rattle.std.proofs.Common.{false, refl, arith}
 use Rattle.std.specs.Prelude.{slice_get, unwrap_or}
 use Rattle.nq_base.specs.declared.Mode.{Mode}
-use Rattle.law_bounds.proofs.SomeLease.{two-hosts, one-read}
+use Rattle.walk_steps.proofs.SomeLease.{two-hosts, one-read}
 use Rattle.nq_laws.specs.CachedReadsMet.{IsReadySometime}
 use Rattle.nq_model.specs.Client.{Client, Lease}
 use Rattle.nq_base.specs.Block.{filled, zeros}

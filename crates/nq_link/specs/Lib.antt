@@ -1,3 +1,6 @@
 pub mod Link
+pub mod Marks
 pub mod MemLink
+pub mod Packets
+pub mod Runs
 pub mod UdpLink

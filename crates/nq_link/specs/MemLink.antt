@@ -6,7 +6,7 @@ use Rattle.nq_io.specs.Faults.{count_up}
 use Rattle.nq_link.specs.Link.{Letters}
 use Rattle.nq_link.specs.declared.link.Came.{Came}
 use Rattle.nq_link.specs.declared.link.Sent.{Sent}
-use Rattle.nq_net.specs.Packets.{Datagram}
+use Rattle.nq_link.specs.Packets.{Datagram}
 
 -- whose link it is, what it sent, for how many more datagrams and bytes it has room, what waits, the calls, and how many of them
 -- were receives

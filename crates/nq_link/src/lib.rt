@@ -1,4 +1,5 @@
 //! Links, over which a party sends datagrams and receives them: the trait `Link`, a link in memory, and one over UDP.
+//! The packets of a world are in `net`.
 //!
 //! A contract knows a link by the datagrams that were sent over it and those that wait, where the link tells them, and by a
 //! count of its faults. An answer `Failed` comes only where that count rose in the call.
@@ -6,6 +7,7 @@
 
 mod link;
 mod mem_link;
+pub mod net;
 mod socket;
 mod udp_link;
 

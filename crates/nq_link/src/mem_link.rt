@@ -7,9 +7,9 @@ ghost use Rattle.nq_io.specs.Faults.{count_up};
 ghost use Rattle.nq_link.specs.Link.{Comes, CountsReceive, CountsSend, Sends};
 ghost use Rattle.nq_link.specs.MemLink.{after_receive, after_send, answer_of, came_of, letters_sent};
 
+use crate::net::Packets;
 use crate::{Came, Link, NoMemory, Party, Sent};
 use nq_io::Calls;
-use nq_net::Packets;
 use std::alloc::Global;
 use std::marker::Model;
 

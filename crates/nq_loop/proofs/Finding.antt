@@ -5,7 +5,7 @@ use Rattle.std.proofs.lemmas.Option.{slice_get_within}
 use Rattle.std.specs.Prelude.{IsTrue}
 use Rattle.nq_base.specs.declared.Event.{Event}
 use Rattle.nq_loop.specs.Matching.{CountsAs, Equals, EqualsFresh, IsLeast, is_fresh, least_with}
-use Rattle.nq_net.specs.Packets.{Datagram}
+use Rattle.nq_link.specs.Packets.{Datagram}
 use Rattle.nq_replay.specs.Delivering.{was_delivered}
 
 -- what was found among the packets below a number

@@ -17,3 +17,16 @@ pub mod Heads
 pub mod Takings
 pub mod Ends
 pub mod Faults
+pub mod HostsCounts
+pub mod LoopsLoops
+pub mod PrintedLoops
+pub mod Room
+pub mod ServedRows
+pub mod SomeLoop
+pub mod SomePrinted
+pub mod SomeServed
+pub mod SomeTurns
+pub mod Steps
+pub mod ToldAnswers
+pub mod HostsTurns
+pub mod Windows

@@ -6,7 +6,7 @@ use Rattle.nq_base.specs.declared.Party.{Party}
 use Rattle.nq_link.specs.Link.{Letters, with_last}
 use Rattle.nq_loop.specs.Sending.{FailsAt, FailsSending, SendsAll, SendsFront, changed_at, place_of, sent_all, sent_one, with_sent}
 use Rattle.nq_loop.specs.declared.turns.Halt.{Halt}
-use Rattle.nq_net.specs.Packets.{Datagram}
+use Rattle.nq_link.specs.Packets.{Datagram}
 use Rattle.nq_hosts.specs.Links.{LinkTold}
 
 -- ---- elements at places

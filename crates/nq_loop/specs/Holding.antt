@@ -17,7 +17,7 @@ use Rattle.nq_loop.specs.declared.turns.LoopTurn.{LoopTurn}
 use Rattle.nq_model.specs.Kept.{Kept}
 use Rattle.nq_model.specs.Stepped.{done, stepped}
 use Rattle.nq_model.specs.World.{Head}
-use Rattle.nq_net.specs.Packets.{Datagram}
+use Rattle.nq_link.specs.Packets.{Datagram}
 use Rattle.nq_hosts.specs.Links.{LinkTold}
 use Rattle.nq_replay.specs.Delivering.{Marks}
 use Rattle.nq_world.specs.Playing.{IsAsBefore, Plays, WorldOver}

@@ -9,3 +9,12 @@ pub mod Printed
 pub mod Turning
 pub mod Whole
 pub mod Looped
+pub mod InTime
+pub mod LoopTurns
+pub mod LoopsAreAnswered
+pub mod Met
+pub mod PrintedLoops
+pub mod PrintedMet
+pub mod ServedRowsAreMet
+pub mod Serving
+pub mod ToldAnswers

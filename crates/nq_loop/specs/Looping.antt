@@ -17,7 +17,7 @@ use Rattle.nq_loop.specs.declared.turns.LoopTurn.{LoopTurn}
 use Rattle.nq_model.specs.Client.{Client}
 use Rattle.nq_model.specs.Stepped.{done, stepped}
 use Rattle.nq_model.specs.World.{Head, World, run}
-use Rattle.nq_net.specs.Packets.{Datagram}
+use Rattle.nq_link.specs.Packets.{Datagram}
 use Rattle.nq_hosts.specs.Clocks.{ClockTold, ReadsOnce}
 use Rattle.nq_hosts.specs.Links.{Hears, Letter, LinkTold, most_bytes}
 use Rattle.nq_replay.specs.Reaching.{IsReached}

@@ -1,7 +1,7 @@
 -- Which packet a datagram is. The events of a run are told with the newest first.
 use Rattle.std.specs.Prelude.{◌≡◌, ◌⊎◌, ℕ, ◌<◌, ◌&&◌, Bool, true, false, not, List, Option, Some, None, slice_get}
 use Rattle.nq_base.specs.declared.Event.{Event}
-use Rattle.nq_net.specs.Packets.{Datagram}
+use Rattle.nq_link.specs.Packets.{Datagram}
 use Rattle.nq_replay.specs.Delivering.{was_delivered}
 
 -- the least number of which this holds

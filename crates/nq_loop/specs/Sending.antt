@@ -4,7 +4,7 @@ use Rattle.nq_base.specs.declared.Party.{Party}
 use Rattle.nq_io.specs.Faults.{Rose}
 use Rattle.nq_link.specs.Link.{Letters, with_last}
 use Rattle.nq_loop.specs.declared.turns.Halt.{Halt}
-use Rattle.nq_net.specs.Packets.{Datagram}
+use Rattle.nq_link.specs.Packets.{Datagram}
 use Rattle.nq_hosts.specs.Links.{LinkTold, link_told}
 
 -- a link as it is told

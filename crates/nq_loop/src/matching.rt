@@ -3,12 +3,12 @@
 ghost use Rattle.std.specs.Prelude.{◌≡◌, ◌↔◌, ◌<◌, ℕ, List, Some, length, slice_get, IfOk, IsTrue};
 ghost use Rattle.nq_base.specs.declared.Event.{Event};
 ghost use Rattle.nq_loop.specs.Matching.{CountsAs, Equals, is_fresh, least_with};
-ghost use Rattle.nq_net.specs.Packets.{Datagram};
+ghost use Rattle.nq_link.specs.Packets.{Datagram};
 ghost use Rattle.nq_replay.specs.Delivering.{Marks};
 
 use crate::state::LoopState;
 use nq_base::{NoMemory, Party};
-use nq_net::{Packet, Packets};
+use nq_link::net::{Packet, Packets};
 use std::alloc::Global;
 
 /// A datagram that came to a party.

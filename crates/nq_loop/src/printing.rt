@@ -39,5 +39,5 @@ pub(crate) fn print_loop<P: Keeper, K: Sink>(
     let Ok(line) = count_text(alloc, calls(entries), answers(entries)) else {
         return Ending::Memory;
     };
-    print_parts(alloc, &text, world.journal(), line.as_bytes(), out)
+    print_parts(alloc, 1, &text, world.journal(), line.as_bytes(), out)
 }

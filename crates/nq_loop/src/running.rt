@@ -23,10 +23,9 @@ use nq_clock::Clock;
 use nq_io::Sink;
 use nq_keeper::Keeper;
 use nq_link::Link;
-use nq_replay::play::begin;
 use nq_replay::{Finished, tell_limit};
 use nq_script::{Head, Schedule};
-use nq_world::{NewFault, World};
+use nq_world::{NewFault, World, begin};
 use std::alloc::Global;
 
 /// Runs a server and so many hosts, 1 to 64, over their links, of which the server's is the first, and over a keeper that keeps nothing yet,

@@ -2,12 +2,12 @@
 
 ghost use Rattle.std.specs.Prelude.{◌≡◌, ◌<◌, ◌≤◌, ◌∷◌, [], ℕ, drop, length, map, slice_get, IfOk, IfSome};
 ghost use Rattle.nq_loop.specs.Sending.{SendsAll, place_of, told_of};
-ghost use Rattle.nq_net.specs.Packets.{Datagram};
+ghost use Rattle.nq_link.specs.Packets.{Datagram};
 
 use crate::turns::Halt;
 use nq_base::Party;
+use nq_link::net::{Packet, Packets};
 use nq_link::{Link, Sent};
-use nq_net::{Packet, Packets};
 use std::alloc::Global;
 
 /// Sends the packets from this number on, in their order, each on its sender's link. The server's link is the first; those of the hosts

@@ -5,16 +5,16 @@ use Rattle.std.specs.Prelude.{slice_get}
 use Rattle.nq_base.specs.declared.Event.{Event}
 use Rattle.nq_base.specs.declared.Party.{Party}
 use Rattle.nq_datagrams.specs.Incoming.{datagram_in}
-use Rattle.nq_listing.specs.declared.DirTag.{DirTag}
-use Rattle.nq_listing.specs.declared.ReadDir.{ReadDir}
-use Rattle.nq_listing.specs.Reading.{read_dir_in, dir_vacated_in}
+use Rattle.nq_directory.specs.declared.listing.messages.DirTag.{DirTag}
+use Rattle.nq_directory.specs.declared.listing.messages.ReadDir.{ReadDir}
+use Rattle.nq_directory.specs.Reading.{read_dir_in, dir_vacated_in}
 use Rattle.nq_model.specs.Client.{Client}
 use Rattle.nq_model.specs.Kept.{host_row}
 use Rattle.nq_model.specs.Message.{Packet}
 use Rattle.nq_model.specs.Server.{Phase, serving, recovering}
 use Rattle.nq_model.specs.World.{Head, World, start, step}
-use Rattle.nq_name_cache.specs.Asking.{Asks, heard, lists_dir}
-use Rattle.nq_name_cache.specs.Names.{Names}
+use Rattle.nq_directory.specs.Asking.{Asks, heard, lists_dir}
+use Rattle.nq_directory.specs.NameCacheNames.{Names}
 use Rattle.nq_name_server.specs.Served.{leaf_behind}
 use Rattle.nq_name_server.specs.Serving.{Serves, ToHost, holds_up, puts_off, reads_dir, vacates}
 use Rattle.nq_name_server.specs.declared.run.event.NameEvent.{NameEvent}

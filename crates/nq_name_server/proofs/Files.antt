@@ -7,7 +7,7 @@ use Rattle.nq_base.specs.declared.FileRow.{FileRow}
 use Rattle.nq_base.specs.declared.Who.{Who}
 use Rattle.nq_directory.specs.declared.FileName.{FileName}
 use Rattle.nq_directory.specs.Prefix.{directory}
-use Rattle.nq_listing.specs.Messages.{most_names}
+use Rattle.nq_directory.specs.Messages.{most_names}
 use Rattle.nq_model.proofs.Finding.{decided, number-other}
 use Rattle.nq_model.specs.Change.{AreApart, IsFileWithin, IsWithinBounds, file_after, row_of, row_of_found}
 use Rattle.nq_model.specs.Kept.{File, Kept, find_file}

@@ -10,8 +10,8 @@ use Rattle.nq_base.specs.declared.Grant.{Grant}
 use Rattle.nq_base.specs.declared.Party.{Party}
 use Rattle.nq_base.specs.declared.Row.{Row}
 use Rattle.nq_base.specs.declared.Who.{Who}
-use Rattle.nq_listing.specs.declared.ReadDir.{ReadDir}
-use Rattle.nq_listing.specs.Messages.{answer_bytes, results}
+use Rattle.nq_directory.specs.declared.listing.messages.ReadDir.{ReadDir}
+use Rattle.nq_directory.specs.Messages.{answer_bytes, results}
 use Rattle.nq_model.proofs.Finding.{find-dropped, find-passes}
 use Rattle.nq_model.specs.Ask.{ask}
 use Rattle.nq_model.specs.Profile.{same_bytes, xid_end}

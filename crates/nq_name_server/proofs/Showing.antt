@@ -6,8 +6,8 @@ use Rattle.nq_base.specs.declared.Event.{Event}
 use Rattle.nq_base.specs.declared.Party.{Party}
 use Rattle.nq_model.specs.World.{World}
 use Rattle.nq_model.specs.Client.{Client}
-use Rattle.nq_name_cache.specs.Asking.{Asks, heard, lists_dir}
-use Rattle.nq_name_cache.specs.Names.{Names}
+use Rattle.nq_directory.specs.Asking.{Asks, heard, lists_dir}
+use Rattle.nq_directory.specs.NameCacheNames.{Names}
 use Rattle.nq_name_server.specs.Sending.{all_sent}
 use Rattle.nq_name_server.specs.Serving.{Serves, ToHost}
 use Rattle.nq_name_server.specs.Outer.{Outside}

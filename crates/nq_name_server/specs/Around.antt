@@ -5,12 +5,12 @@ use Rattle.nq_base.specs.declared.Party.{Party}
 use Rattle.nq_datagrams.specs.Messages.{bytes_of}
 use Rattle.nq_model.specs.Message.{Packet}
 use Rattle.nq_model.specs.World.{World}
-use Rattle.nq_name_cache.specs.Asking.{Asks}
-use Rattle.nq_name_cache.specs.Names.{Names}
+use Rattle.nq_directory.specs.Asking.{Asks}
+use Rattle.nq_directory.specs.NameCacheNames.{Names}
 use Rattle.nq_name_server.specs.Sending.{all_sent}
 use Rattle.nq_name_server.specs.Served.{Served}
 use Rattle.nq_name_server.specs.Serving.{Serves}
-use Rattle.nq_net.specs.Packets.{Datagram}
+use Rattle.nq_link.specs.Packets.{Datagram}
 use Rattle.nq_name_server.specs.Outer.{Outer, Outside}
 use Rattle.nq_name_server.specs.Outside.{beside, sends, sends_all}
 

@@ -10,7 +10,7 @@ use Rattle.nq_model.specs.Client.{Client, Lease}
 use Rattle.nq_model.specs.Kept.{File, find_name}
 use Rattle.nq_model.specs.LeaseInterval.{Claim, HasFitting, claim_of, cover_end}
 use Rattle.nq_model.specs.Server.{Phase, serving, recovering, Server}
-use Rattle.nq_name_cache.specs.Names.{DirList, Names, list_of}
+use Rattle.nq_directory.specs.NameCacheNames.{DirList, Names, list_of}
 use Rattle.nq_name_server.specs.Served.{Served, number_of}
 use Rattle.nq_model.specs.World.{Head}
 use Rattle.nq_name_server.specs.declared.run.event.NameEvent.{NameEvent}

@@ -3,7 +3,7 @@ use Rattle.std.specs.Prelude.{ℕ, List, [], Option, map}
 use Rattle.nq_base.specs.declared.Event.{Event}
 use Rattle.nq_base.specs.declared.Party.{Party}
 use Rattle.nq_model.specs.World.{Head, World, start}
-use Rattle.nq_name_cache.specs.Names.{Names, new_names}
+use Rattle.nq_directory.specs.NameCacheNames.{Names, new_names}
 use Rattle.nq_name_server.specs.Served.{Served, new_served}
 
 -- A packet as it travels: who sent it, whom it is for, its bytes, and the number of the packet of the inner world that it is. A

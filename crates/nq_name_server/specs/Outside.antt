@@ -8,17 +8,17 @@ use Rattle.nq_base.specs.declared.Who.{Who}
 use Rattle.nq_datagrams.specs.Incoming.{datagram_in}
 use Rattle.nq_datagrams.specs.Messages.{bytes_of}
 use Rattle.nq_directory.specs.Prefix.{directory}
-use Rattle.nq_listing.specs.declared.DirTag.{DirTag}
-use Rattle.nq_listing.specs.declared.ReadDir.{ReadDir}
-use Rattle.nq_listing.specs.Reading.{read_dir_in, dir_vacated_in}
+use Rattle.nq_directory.specs.declared.listing.messages.DirTag.{DirTag}
+use Rattle.nq_directory.specs.declared.listing.messages.ReadDir.{ReadDir}
+use Rattle.nq_directory.specs.Reading.{read_dir_in, dir_vacated_in}
 use Rattle.nq_model.specs.Client.{Client, UnderWay}
 use Rattle.nq_model.specs.Kept.{File, Kept, find_file, host_row}
 use Rattle.nq_model.specs.Message.{Datagram, Packet, request}
 use Rattle.nq_model.specs.Server.{Phase, serving, recovering}
 use Rattle.nq_model.specs.World.{Head, World, step}
-use Rattle.nq_name_cache.specs.declared.Found.{Found}
-use Rattle.nq_name_cache.specs.Asking.{Asks, heard, lists_dir}
-use Rattle.nq_name_cache.specs.Names.{Names, before_call, finds, new_names}
+use Rattle.nq_directory.specs.declared.name_cache.found.Found.{Found}
+use Rattle.nq_directory.specs.Asking.{Asks, heard, lists_dir}
+use Rattle.nq_directory.specs.NameCacheNames.{Names, before_call, finds, new_names}
 use Rattle.nq_name_server.specs.Served.{Served, leaf_behind}
 use Rattle.nq_name_server.specs.Serving.{Serves, ToHost, holds_up, puts_off, reads_dir, ticks, vacates}
 use Rattle.nq_name_server.specs.declared.run.event.NameEvent.{NameEvent}

@@ -3,7 +3,7 @@ use Rattle.std.specs.Prelude.{ℕ, Bool, List, [], ◌∷◌, Option, filter, le
 use Rattle.std.specs.List.{position}
 use Rattle.nq_directory.specs.declared.FileName.{FileName}
 use Rattle.nq_directory.specs.Prefix.{directory}
-use Rattle.nq_listing.specs.Messages.{most_names}
+use Rattle.nq_directory.specs.Messages.{most_names}
 use Rattle.nq_model.specs.Kept.{File}
 use Rattle.nq_model.specs.Profile.{same_bytes}
 use Rattle.nq_model.specs.Table.{Table, empty_table}

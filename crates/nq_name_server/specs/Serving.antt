@@ -7,14 +7,14 @@ use Rattle.nq_base.specs.declared.Mode.{Mode}
 use Rattle.nq_base.specs.declared.Question.{Question}
 use Rattle.nq_base.specs.declared.Row.{Row}
 use Rattle.nq_base.specs.declared.Who.{Who}
-use Rattle.nq_listing.specs.declared.DirTag.{DirTag}
-use Rattle.nq_listing.specs.declared.ReadDir.{ReadDir}
-use Rattle.nq_listing.specs.Messages.{page, wait, answer_bytes, dir_evicted_bytes, front_bytes}
+use Rattle.nq_directory.specs.declared.listing.messages.DirTag.{DirTag}
+use Rattle.nq_directory.specs.declared.listing.messages.ReadDir.{ReadDir}
+use Rattle.nq_directory.specs.Messages.{page, wait, answer_bytes, dir_evicted_bytes, front_bytes}
 use Rattle.nq_model.specs.Ask.{ask, conflicts}
 use Rattle.nq_model.specs.Profile.{xid_end}
 use Rattle.nq_model.specs.ServerStep.{end_reading, vacated_rows}
 use Rattle.nq_model.specs.Table.{Table, find_row, drop_row, with_rows}
-use Rattle.nq_rpc.specs.Message.{spelling, reply_with, null}
+use Rattle.nq_xdr.specs.Message.{spelling, reply_with, null}
 use Rattle.nq_name_server.specs.Served.{Served, Leaf, most_directories, number_of}
 
 -- a datagram to a host

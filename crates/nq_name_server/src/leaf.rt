@@ -4,8 +4,8 @@ ghost use Rattle.std.specs.Prelude.{◌≡◌, IfOk};
 ghost use Rattle.nq_name_server.specs.Pages.{ReadsOn, nothing_read};
 
 use nq_base::{FileId, FileRow, NoMemory};
+use nq_directory::listing::MOST_NAMES;
 use nq_directory::{FileName, Prefix, directory_of};
-use nq_listing::MOST_NAMES;
 use std::alloc::Global;
 use std::marker::Model;
 
@@ -22,7 +22,7 @@ pub struct BegunLeaf {
 
 impl Model for BegunLeaf {
     ghost use Rattle.std.specs.Prelude.{◌≤◌, length, vec_capacity};
-    ghost use Rattle.nq_listing.specs.Messages.{most_names};
+    ghost use Rattle.nq_directory.specs.Messages.{most_names};
     ghost use Rattle.nq_name_server.specs.Pages.{ReadLeaf};
 
     ghost Value = { ReadLeaf };

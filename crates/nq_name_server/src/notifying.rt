@@ -2,7 +2,7 @@
 
 ghost use Rattle.std.specs.Prelude.{◌≡◌, ◌<◌, ◌^◌, [], ◌∷◌, ◌++◌, Some, find, is_some, length, IfOk, OnErr, OnOk};
 ghost use Rattle.nq_lease.specs.Telling.{Grows};
-ghost use Rattle.nq_listing.specs.Messages.{dir_evicted_bytes};
+ghost use Rattle.nq_directory.specs.Messages.{dir_evicted_bytes};
 ghost use Rattle.nq_base.specs.declared.Access.{Access};
 ghost use Rattle.nq_model.specs.Ask.{ask, conflicts};
 ghost use Rattle.nq_name_server.specs.Sending.{IsHeld, IsUntouched, all_sent, sent};
@@ -12,9 +12,9 @@ ghost use Rattle.nq_name_server.specs.Serving.{changes_for, holds_up, notice_aft
 use crate::server::NameServer;
 use nq_base::{Access, FileId, Host, NoMemory, Party, Question, Rev, Row, Who};
 use nq_directory::Prefix;
+use nq_directory::listing::{DirTag, dir_evicted_bytes};
 use nq_lease::grant::conflict;
 use nq_lease::is_in_the_way;
-use nq_listing::{DirTag, dir_evicted_bytes};
 use nq_wire::Outbox;
 use std::alloc::Global;
 

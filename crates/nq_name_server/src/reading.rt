@@ -2,7 +2,7 @@
 
 ghost use Rattle.std.specs.Prelude.{◌≡◌, ◌<◌, ◌≤◌, ◌+◌, ◌^◌, List, ℕ, [], ◌∷◌, ◌++◌, Some, length, option_map, if◌then◌else◌, IfOk, IfSome, OnErr, OnOk};
 ghost use Rattle.nq_base.specs.declared.Party.{Party};
-ghost use Rattle.nq_listing.specs.Messages.{most_names};
+ghost use Rattle.nq_directory.specs.Messages.{most_names};
 ghost use Rattle.nq_name_server.specs.Sending.{IsServed, IsUntouched, all_sent};
 ghost use Rattle.nq_model.specs.Ask.{ask};
 ghost use Rattle.nq_model.specs.Table.{drop_row, find_row};
@@ -17,7 +17,7 @@ use nq_base::{
     Access, Asked, FileId, Grant, Mode, NoMemory, Party, Question, Rev, Row, RowKey, Want,
 };
 use nq_directory::FileName;
-use nq_listing::{BegunPage, ReadDir, later_bytes};
+use nq_directory::listing::{BegunPage, ReadDir, later_bytes};
 use nq_wire::Outbox;
 use std::alloc::Global;
 

@@ -7,10 +7,10 @@ ghost use Rattle.nq_name_server.specs.Serving.{ticks, vacates};
 
 use nq_base::{Asked, FileId, NoMemory, Question, Ticks};
 use nq_directory::Prefix;
+use nq_directory::listing::DirTag;
 use nq_lease::Table;
 use nq_lease::evict::vacated;
 use nq_lease::grant::ask;
-use nq_listing::DirTag;
 use std::alloc::Global;
 use std::marker::Model;
 

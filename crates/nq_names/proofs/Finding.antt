@@ -4,8 +4,8 @@ use Rattle.std.specs.Prelude.{IfSome, slice_get}
 use Rattle.nq_model.specs.Client.{Client}
 use Rattle.nq_model.specs.Kept.{Kept, find_name}
 use Rattle.nq_model.specs.World.{Head, World, run}
-use Rattle.nq_name_cache.specs.Names.{Names}
-use Rattle.nq_name_cache.specs.declared.Found.{Found}
+use Rattle.nq_directory.specs.NameCacheNames.{Names}
+use Rattle.nq_directory.specs.declared.name_cache.found.Found.{Found}
 use Rattle.nq_name_server.specs.declared.run.event.NameEvent.{NameEvent}
 use Rattle.nq_name_server.specs.Outside.{found, found_by, outside_run}
 use Rattle.nq_name_server.specs.Theorem.{kept_as}

@@ -11,7 +11,7 @@ use Rattle.nq_client.specs.State.{call_of}
 use Rattle.nq_model.specs.Client.{UnderWay}
 use Rattle.nq_model.specs.Kept.{Kept}
 use Rattle.nq_model.specs.World.{Head, World, run}
-use Rattle.nq_name_cache.specs.Names.{Names}
+use Rattle.nq_directory.specs.NameCacheNames.{Names}
 use Rattle.nq_name_server.specs.Outer.{Outside}
 use Rattle.nq_name_server.specs.Outside.{heard_by, is_change, is_changing}
 use Rattle.nq_world.specs.Moving.{clients_in}

@@ -6,7 +6,7 @@ use Rattle.nq_model.specs.Server.{Phase, serving, recovering, Server, ServerStep
 use Rattle.nq_model.specs.ServerStep.{boot, crash, tick}
 use Rattle.nq_model.specs.Table.{Table, empty_table}
 use Rattle.nq_model.specs.World.{Head, World, after_server, run, step}
-use Rattle.law_bounds.proofs.LeaseIntervals.{run-runs}
+use Rattle.walk_steps.proofs.LeaseIntervals.{run-runs}
 use Rattle.nq_name_server.specs.Served.{Served, new_served}
 use Rattle.nq_name_server.specs.Serving.{ticks}
 use Rattle.nq_name_server.specs.Outer.{of_boot}

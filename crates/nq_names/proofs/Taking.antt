@@ -3,7 +3,7 @@ use Rattle.std.proofs.Common.{◌≡◌, ◌≢◌, ℕ, Bool, true, false, List
 use Rattle.std.specs.Option.{ForSome}
 use Rattle.std.specs.Prelude.{Ok}
 use Rattle.nq_base.specs.declared.Event.{Event}
-use Rattle.nq_listing.specs.declared.ReadDir.{ReadDir}
+use Rattle.nq_directory.specs.declared.listing.messages.ReadDir.{ReadDir}
 use Rattle.nq_model.specs.Kept.{Kept}
 use Rattle.nq_model.specs.Server.{Phase, serving, recovering}
 use Rattle.nq_model.specs.World.{Head, run}

@@ -1,2 +1,3 @@
 pub mod Playing
 pub mod Taking
+pub mod Met

@@ -7,7 +7,7 @@ use Rattle.nq_model.specs.Kept.{Kept}
 use Rattle.nq_model.specs.SkewBroken.{skew_broken}
 use Rattle.nq_model.specs.Stepped.{Stepped as Answer, done, no_packet, out_of_skew, too_many_events, most_events, stepped, tested_room, tested_skew}
 use Rattle.nq_model.specs.World.{Head, World, run, step}
-use Rattle.nq_name_cache.specs.Names.{before_call}
+use Rattle.nq_directory.specs.NameCacheNames.{before_call}
 use Rattle.nq_name_server.specs.Serving.{ticks}
 use Rattle.nq_name_server.specs.declared.run.event.NameEvent.{NameEvent}
 use Rattle.nq_name_server.specs.Outer.{Outside, of_boot}

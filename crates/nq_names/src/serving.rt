@@ -3,7 +3,7 @@
 ghost use Rattle.std.specs.Prelude.{◌≡◌, [], List, Ok, reverse, OnOk, OnErr, IfOk};
 ghost use Rattle.nq_base.specs.declared.Event.{Event};
 ghost use Rattle.nq_datagrams.specs.Incoming.{datagram_in};
-ghost use Rattle.nq_listing.specs.Reading.{dir_vacated_in, read_dir_in};
+ghost use Rattle.nq_directory.specs.Reading.{dir_vacated_in, read_dir_in};
 ghost use Rattle.nq_model.specs.World.{Head, World as Model, run};
 ghost use Rattle.nq_name_server.specs.Serving.{reads_dir};
 ghost use Rattle.nq_names.specs.Taking.{HoldsUp, IsHeldFor, TakesBeside, outside_of, stepped_of};
@@ -13,8 +13,8 @@ ghost use Rattle.nq_world.specs.Playing.{GoesOn, Plays};
 
 use crate::world::NameWorld;
 use nq_base::{Host, NoMemory};
+use nq_directory::listing::{ReadDir, read_read_dir};
 use nq_keeper::{KeepFault, Keeper};
-use nq_listing::{ReadDir, read_read_dir};
 use nq_name_server::{BegunLeaf, DirChange};
 
 impl<K: Keeper> NameWorld<K> {

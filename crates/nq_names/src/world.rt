@@ -4,8 +4,8 @@ ghost use Rattle.std.specs.Prelude.{◌≡◌, ◌≢◌, ◌<◌, [], List, Opt
 ghost use Rattle.nq_base.specs.Plain.{plain};
 ghost use Rattle.nq_model.specs.Kept.{Kept, find_name};
 ghost use Rattle.nq_model.specs.World.{Head};
-ghost use Rattle.nq_name_cache.specs.Names.{new_names};
-ghost use Rattle.nq_name_cache.specs.declared.Found.{Found};
+ghost use Rattle.nq_directory.specs.NameCacheNames.{new_names};
+ghost use Rattle.nq_directory.specs.declared.name_cache.found.Found.{Found};
 ghost use Rattle.nq_name_server.specs.Served.{new_served};
 ghost use Rattle.nq_names.specs.Playing.{CanComeOutside, IsReady, PlaysOutside, StepsOutside};
 ghost use Rattle.nq_name_server.specs.Around.{datagram_of, new_around};
@@ -16,12 +16,12 @@ ghost use Rattle.nq_world.specs.Playing.{CountsFaults, HasSettings, Plays};
 ghost use Rattle.nq_world.specs.declared.NewFault.{NewFault};
 
 use nq_base::{Host, Journal, Name, NoMemory, Party};
+use nq_directory::name_cache::{Found, NameCache};
 use nq_keeper::Keeper;
-use nq_name_cache::{Found, NameCache};
+use nq_link::net::Packets;
 use nq_name_server::NameServer;
 use nq_name_server::around::Around;
 use nq_name_server::run::NameEvent;
-use nq_net::Packets;
 use nq_script::Schedule;
 use nq_world::{NewFault, Stepped, World};
 use std::alloc::Global;

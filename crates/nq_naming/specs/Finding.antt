@@ -5,13 +5,13 @@ use Rattle.std.specs.Prelude.{◌≡◌, ◌≢◌, ℕ, List, [], ◌∷◌, �
 use Rattle.nq_base.specs.declared.Event.{Event}
 use Rattle.nq_model.specs.Kept.{find_name}
 use Rattle.nq_model.specs.World.{Head as Beginning, run}
-use Rattle.nq_name_cache.specs.declared.Found.{Found}
+use Rattle.nq_directory.specs.declared.name_cache.found.Found.{Found}
 use Rattle.nq_name_server.specs.declared.run.event.NameEvent.{NameEvent}
 use Rattle.nq_name_server.specs.Outer.{Outside}
 use Rattle.nq_name_server.specs.Outside.{found, outside_run}
 use Rattle.nq_name_server.specs.Theorem.{kept_as}
 use Rattle.nq_naming.specs.Playing.{Moment, Sought}
-use Rattle.nq_words.specs.Words.{line}
+use Rattle.nq_script.specs.Words.{line}
 
 -- the word of what was found: the id of the file, 0 where no file has the name, or `none` where the host does not know
 abbrev pub found_word : Found → List ℕ

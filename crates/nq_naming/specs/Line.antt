@@ -3,7 +3,7 @@ use Rattle.std.specs.Prelude.{ℕ, ◌-◌, List, [], Option, Some, None, codes,
 use Rattle.std.specs.Str.{bytes_eq}
 use Rattle.nq_base.specs.Steps.{◌>>=◌}
 use Rattle.nq_script.specs.Reading.{after}
-use Rattle.nq_words.specs.Reading.{cut, name_of, number_of}
+use Rattle.nq_script.specs.WordsReading.{cut, name_of, number_of}
 
 -- the host that a word writes, below so many hosts
 abbrev pub host_of : (hosts : ℕ) → (word : List ℕ) → Option ℕ

@@ -12,8 +12,8 @@ use Rattle.nq_naming.specs.declared.script.aside.Aside.{Aside}
 use Rattle.nq_script.proofs.Cuts.{after-found}
 use Rattle.nq_script.proofs.Numbers.{number-found}
 use Rattle.nq_script.specs.Reading.{after}
-use Rattle.nq_words.proofs.Names.{name_found}
-use Rattle.nq_words.specs.Reading.{cut, name_of, number_of}
+use Rattle.nq_script.proofs.Names.{name_found}
+use Rattle.nq_script.specs.WordsReading.{cut, name_of, number_of}
 
 number-low : (hosts : ℕ) (word : List ℕ) (host : ℕ) (test : Bool) → nat_lt 0 hosts ≡ test → hosts ≤ 64
     → (if test then number_of (hosts - 1) word else None) ≡ Some host → host < hosts

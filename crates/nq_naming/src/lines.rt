@@ -5,7 +5,7 @@ ghost use Rattle.nq_replay.specs.Text.{HoldsOfAsides, IsReadyMixed, beside, mixe
 ghost use Rattle.nq_names.specs.Playing.{PlaysOutside};
 ghost use Rattle.nq_model.specs.World.{Head};
 ghost use Rattle.nq_model.specs.Stepped.{most_events};
-ghost use Rattle.nq_replay.specs.Beginning.{NeverFails};
+ghost use Rattle.nq_world.specs.Beginning.{NeverFails};
 ghost use Rattle.nq_replay.specs.Going.{AreForWorld, IsForWorld};
 ghost use Rattle.nq_replay.specs.Playing.{beginning};
 ghost use Rattle.nq_replay.specs.Schedules.{HasReason};

@@ -2,14 +2,14 @@
 
 ghost use Rattle.std.specs.Prelude.{◌≡◌, ◌++◌, OnOk};
 ghost use Rattle.nq_naming.specs.Finding.{find_line, found_word};
-ghost use Rattle.nq_words.specs.Words.{spaced};
+ghost use Rattle.nq_script.specs.Words.{spaced};
 
 use nq_base::{Host, Name, NoMemory};
-use nq_name_cache::Found;
-use nq_words::{push_bytes, push_command, push_numbers, push_word};
+use nq_directory::name_cache::Found;
+use nq_script::words::{push_bytes, push_command, push_numbers, push_word};
 
 /// Appends the line of a find behind so many inner events.
-#[tactic(auto, unfolding(crate::specs::Finding::find_line, nq_words::specs::Words::line, nq_words::specs::Words::joined))]
+#[tactic(auto, unfolding(crate::specs::Finding::find_line, nq_script::specs::Words::line, nq_script::specs::Words::joined))]
 pub(crate) fn push_find(
     text: &mut Vec<u8>,
     host: Host,

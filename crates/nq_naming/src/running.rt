@@ -10,7 +10,6 @@ ghost use Rattle.nq_model.specs.Stepped.{out_of_skew};
 ghost use Rattle.nq_replay.specs.Playing.{beginning};
 ghost use Rattle.nq_replay.specs.declared.play.played.Played.{Played};
 ghost use Rattle.nq_replay.specs.Ending.{IsUnlessFault};
-ghost use Rattle.nq_replay.specs.Beginning.{NeverFails};
 ghost use Rattle.nq_replay.specs.Schedules.{HasReason};
 ghost use Rattle.nq_replay.specs.declared.Bound.{Bound};
 ghost use Rattle.nq_script.specs.Heads.{FitsHead};
@@ -21,6 +20,7 @@ ghost use Rattle.nq_replay.specs.AsidesPlaying.{Ended};
 ghost use Rattle.nq_naming.specs.Playing.{Moment, play};
 ghost use Rattle.nq_naming.specs.Running.{EndsNames, EndsNamesPlayed, FaultyNames, IsTold, PassesNames, RunsNames, StopsNames, TellsText};
 ghost use Rattle.nq_naming.specs.Text.{IsOfHost};
+ghost use Rattle.nq_world.specs.Beginning.{NeverFails};
 ghost use Rattle.nq_world.specs.Playing.{HasSettings};
 
 use crate::lines::play;
@@ -30,11 +30,11 @@ use nq_base::ending::Ending;
 use nq_io::{Sink, Source, Whole, read_all};
 use nq_keeper::{Keeper, ListKeeper};
 use nq_names::NameWorld;
-use nq_replay::asides::{MixedScript, print_parts, read_script};
-use nq_replay::play::{Played, begin_surely};
-use nq_replay::{schedule_text, tell_over, tell_script, tell_stop};
+use nq_replay::asides::{MixedScript, read_script};
+use nq_replay::play::Played;
+use nq_replay::{print_parts, schedule_text, tell_over, tell_script, tell_stop};
 use nq_script::{Head, ScriptFault};
-use nq_world::{MOST_EVENTS, NewFault};
+use nq_world::{MOST_EVENTS, NewFault, begin_surely};
 use std::alloc::Global;
 
 /// Reads a schedule with lists to the end of the input, of at most so many bytes, and runs it: a schedule of version 2 that may have
@@ -179,7 +179,7 @@ fn tell<L: Keeper, K: Sink>(
             let Ok(text) = schedule_text(alloc, head, world.ran()) else {
                 return Ending::Memory;
             };
-            print_parts(alloc, &text, world.journal(), found, out)
+            print_parts(alloc, 2, &text, world.journal(), found, out)
         }
         Played::Stopped { line, answer } => tell_stop(alloc, line, answer, out),
     }

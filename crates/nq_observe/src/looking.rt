@@ -1,7 +1,7 @@
 //! Looking at the run of a schedule.
 
 ghost use Rattle.std.specs.Prelude.{◌≡◌, ◌<◌, ◌^◌, List, Some, length};
-ghost use Rattle.nq_chart.specs.Page.{Extends};
+ghost use Rattle.nq_record.specs.Page.{Extends};
 ghost use Rattle.nq_keeper.specs.StoredKeeper.{empty_kept};
 ghost use Rattle.nq_observe.specs.Looking.{ShowsRun};
 ghost use Rattle.nq_observe.specs.declared.looking.View.{View};
@@ -10,15 +10,13 @@ ghost use Rattle.nq_script.specs.Schedule.{SpellsSchedule};
 ghost use Rattle.nq_script.specs.declared.heads.Head.{Head};
 ghost use Rattle.nq_script.specs.declared.lines.Line.{Line};
 
-use crate::playing::{Bounds, play};
-use crate::seeing::Seer;
+use crate::playing::play;
 use nq_base::{Entry, NoMemory};
-use nq_chart::draw;
 use nq_keeper::{Keeper, ListKeeper};
+use nq_record::chart::draw;
 use nq_record::{Record, picture, tell, why};
-use nq_replay::play::begin;
 use nq_script::{Script, ScriptFault, parse};
-use nq_world::{NewFault, World};
+use nq_world::{NewFault, begin};
 use std::alloc::Global;
 
 /// How a run is shown.
@@ -80,50 +78,16 @@ fn look_over<L: Keeper + Drop>(
         Err(NewFault::Memory(_keeper)) => return Err(NoMemory::Memory),
         Err(NewFault::Failed(_keeper)) => return Err(NoMemory::Memory),
     };
-    let shown = show_run(alloc, &mut world, script, view, page);
+    let seen = play(alloc, &mut world, script);
+    let shown = show(alloc, seen, world.journal().entries(), view, page);
     let _keeper = world.into_keeper();
     shown
-}
-
-/// Plays a schedule over a world, and shows what was seen.
-fn show_run<L: Keeper>(
-    alloc: Global,
-    world: &mut World<L>,
-    script: &Script,
-    view: View,
-    page: &mut Vec<u8>,
-) -> Result<Shown, NoMemory>
-    requires hosts { script.now.head.hosts ≡ length world.old.clients }
-    requires longest { script.now.head.longest ≡ world.old.skew.window }
-    ensures extends { Extends page.old.items page.new.items }
-    ensures shows { ShowsRun result view }
-{
-    let record = observe(alloc, world, script)?;
-    show(alloc, &record, world.journal().entries(), view, page)
-}
-
-/// Plays a schedule over a world; what was seen.
-fn observe<L: Keeper>(
-    alloc: Global,
-    world: &mut World<L>,
-    script: &Script,
-) -> Result<Record, NoMemory>
-    requires hosts { script.now.head.hosts ≡ length world.old.clients }
-    requires longest { script.now.head.longest ≡ world.old.skew.window }
-{
-    let mut seer = Seer::new(alloc, script.head.hosts)?;
-    let bounds = Bounds {
-        hosts: script.head.hosts,
-        longest: script.head.longest,
-    };
-    play(alloc, world, &mut seer, bounds, &script.lines)?;
-    Ok(seer.into_record())
 }
 
 /// Shows what was seen, where the journal has these entries.
 fn show(
     alloc: Global,
-    record: &Record,
+    seen: Result<Record, NoMemory>,
     entries: &[Entry],
     view: View,
     page: &mut Vec<u8>,
@@ -131,15 +95,16 @@ fn show(
     ensures extends { Extends page.old.items page.new.items }
     ensures shows { ShowsRun result view }
 {
+    let record = seen?;
     match view {
         View::Tell => {
-            tell(alloc, record, page)?;
+            tell(alloc, &record, page)?;
             Ok(Shown::All)
         }
-        View::Why { line } => show_why(alloc, record, entries, line, page),
+        View::Why { line } => show_why(alloc, &record, entries, line, page),
         View::Picture { from, to } => {
             let title = String::from_str(alloc, "nqnfs: a run")?;
-            let chart = picture(alloc, record, title, from, to)?;
+            let chart = picture(alloc, &record, title, from, to)?;
             draw(alloc, &chart, page)?;
             Ok(Shown::All)
         }

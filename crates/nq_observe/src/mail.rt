@@ -1,10 +1,11 @@
 //! Packets that were sent.
 
-use crate::decoding::{Read, awaited, read_packet};
+use crate::decoding::{Read, read_packet};
 use crate::memory::Memory;
+use crate::seeing::Known;
 use nq_base::{Event, Party};
 use nq_datagrams::Awaited;
-use nq_net::Packets;
+use nq_link::net::Packets;
 use nq_record::{Act, Moment, Sent};
 use std::alloc::Global;
 
@@ -12,8 +13,8 @@ use std::alloc::Global;
 #[derive(Drop)]
 pub(crate) struct Mail {
     pub(crate) packets: Vec<Sent>,
-    /// Their numbers at their senders.
-    xids: Vec<u32>,
+    /// What each of them asks of the server, if it is a request.
+    asks: Vec<Option<Awaited>>,
 }
 
 impl Mail {
@@ -21,7 +22,7 @@ impl Mail {
     pub(crate) fn new(alloc: Global) -> Mail {
         Mail {
             packets: Vec::new(alloc),
-            xids: Vec::new(alloc),
+            asks: Vec::new(alloc),
         }
     }
 
@@ -29,7 +30,7 @@ impl Mail {
     pub(crate) fn into_packets(self) -> Vec<Sent> {
         let Mail {
             packets,
-            xids: _xids,
+            asks: _asks,
         } = self;
         packets
     }
@@ -66,19 +67,35 @@ impl Mail {
         from: &Party,
         place: usize,
     ) {
-        let taken = taken(memory, all, event);
+        let taken = self.taken(event);
         let first = self.packets.len() as u64;
         for number in first..all.len() {
-            match read_packet(memory.alloc, all, number, &taken) {
+            match read_packet(memory.alloc, all, number, taken) {
                 Ok(read) => self.note(memory, read, from, place),
                 Err(_) => memory.is_short = true,
             }
         }
     }
 
+    /// The request that is delivered, if one is.
+    fn taken(&self, event: &Event) -> Option<Awaited> {
+        match event {
+            Event::Deliver(number) => self.asked(*number),
+            _ => None,
+        }
+    }
+
+    /// What the packet of a number asks of the server, if it is a request.
+    fn asked(&self, number: u64) -> Option<Awaited> {
+        match self.asks.get(number as usize) {
+            Some(asks) => *asks,
+            None => None,
+        }
+    }
+
     /// Notes a packet that a party sends.
     fn note(&mut self, memory: &mut Memory, read: Read, from: &Party, place: usize) {
-        let Read { xid, to, words } = read;
+        let Read { to, asks, words } = read;
         let sent = Sent {
             from: *from,
             to,
@@ -86,7 +103,7 @@ impl Mail {
             arrivals: Vec::new(memory.alloc),
             words,
         };
-        memory.push(&mut self.xids, xid);
+        memory.push(&mut self.asks, asks);
         memory.push(&mut self.packets, sent);
     }
 
@@ -94,7 +111,7 @@ impl Mail {
     pub(crate) fn first_sending(
         &self,
         moments: &[Moment],
-        starts: &[usize],
+        known: &[Known],
         reply: usize,
     ) -> Option<usize> {
         let answer = self.packets.get(reply)?;
@@ -103,17 +120,25 @@ impl Mail {
             return None;
         };
         let request = self.packets.get(number as usize)?;
-        let xid = self.xids.get(number as usize)?;
-        let began = began(starts, request.from);
+        let asked = self.asked(number)?;
+        let began = began(known, request.from);
         for (place, earlier) in self.packets.iter().enumerate() {
             if earlier.from == request.from
                 && earlier.sent >= began
-                && self.xids.get(place) == Some(xid)
+                && self.is_of(place as u64, asked.xid)
             {
                 return Some(earlier.sent);
             }
         }
         None
+    }
+
+    /// Whether the packet of a number is a request that has this number at its sender.
+    fn is_of(&self, number: u64, xid: u32) -> bool {
+        match self.asked(number) {
+            Some(asks) => asks.xid == xid,
+            None => false,
+        }
     }
 }
 
@@ -122,27 +147,13 @@ fn note_arrival(memory: &mut Memory, sent: &mut Sent, place: usize) {
     memory.push(&mut sent.arrivals, place);
 }
 
-/// The request that is delivered, if one is.
-fn taken(memory: &mut Memory, all: &Packets, event: &Event) -> Option<Awaited> {
-    let Event::Deliver(number) = event else {
-        return None;
-    };
-    match awaited(memory.alloc, all, *number) {
-        Ok(taken) => taken,
-        Err(_) => {
-            memory.is_short = true;
-            None
-        }
-    }
-}
-
 /// The event in which a host started last; 0 where there is none.
-fn began(starts: &[usize], party: Party) -> usize {
+fn began(known: &[Known], party: Party) -> usize {
     let Party::Client(host) = party else {
         return 0;
     };
-    match starts.get(host.0 as usize) {
-        Some(start) => *start,
+    match known.get(host.0 as usize) {
+        Some(known) => known.started,
         None => 0,
     }
 }

@@ -6,31 +6,23 @@ ghost use Rattle.nq_world.specs.Playing.{CanCome};
 use crate::seeing::Seer;
 use nq_base::{Event, Host, NoMemory};
 use nq_keeper::Keeper;
-use nq_replay::play::Delivered;
-use nq_script::{Line, Lines};
+use nq_record::Record;
+use nq_replay::play::{Delivered, note};
+use nq_script::{Head, Line, Lines, Script};
 use nq_world::{MOST_EVENTS, Stepped, World};
 use std::alloc::Global;
 
-/// How many hosts there are, and the longest term of a boot, in ticks.
-#[derive(Clone, Copy)]
-pub(crate) struct Bounds {
-    pub(crate) hosts: u32,
-    pub(crate) longest: u32,
-}
-
-impl Bounds {
-    /// Whether an event can come.
-    fn allow(&self, event: &Event) -> bool
-        ensures { IsTrue result → CanCome self.now.hosts self.now.longest event.now }
-    {
-        match event {
-            Event::Call { host, .. } => host.0 < self.hosts,
-            Event::ClientTick(host) => host.0 < self.hosts,
-            Event::Restart(host) => host.0 < self.hosts,
-            Event::Crash { longest } => 5 <= *longest && *longest <= self.longest,
-            Event::Deliver(_) => true,
-            Event::ServerTick => true,
-        }
+/// Whether an event can come in the run of a schedule with this head.
+fn can_come(head: &Head, event: &Event) -> bool
+    ensures { IsTrue result → CanCome head.now.hosts head.now.longest event.now }
+{
+    match event {
+        Event::Call { host, .. } => host.0 < head.hosts,
+        Event::ClientTick(host) => host.0 < head.hosts,
+        Event::Restart(host) => host.0 < head.hosts,
+        Event::Crash { longest } => 5 <= *longest && *longest <= head.longest,
+        Event::Deliver(_) => true,
+        Event::ServerTick => true,
     }
 }
 
@@ -91,63 +83,37 @@ fn tick_of(ticks: u64, hosts: u32, rounds: u32) -> Option<Event> {
     }
 }
 
-/// Gives an event to a world, and writes down what it did.
-fn take<K: Keeper>(
-    world: &mut World<K>,
-    seer: &mut Seer,
-    delivered: &mut Delivered,
-    bounds: Bounds,
-    event: &Event,
-) -> Stepped
-    requires hosts { bounds.hosts ≡ length world.old.clients }
-    requires longest { bounds.longest ≡ world.old.skew.window }
-    ensures clients { length world.new.clients ≡ length world.old.clients }
-    ensures window { world.new.skew.window ≡ world.old.skew.window }
-{
-    if !bounds.allow(event) {
-        return Stepped::NoPacket;
-    }
-    let Ok(()) = delivered.reach(world.packets().len() as usize) else {
-        return Stepped::Memory;
-    };
-    match world.step(event) {
-        Stepped::Done => {}
-        other => return other,
-    }
-    if let Event::Deliver(packet) = event {
-        delivered.mark(*packet as usize);
-    }
-    seer.see(world, bounds.hosts, event);
-    if seer.is_short() {
-        Stepped::Memory
-    } else {
-        Stepped::Done
-    }
-}
-
-/// Plays lines over a world, and writes down what each event did, up to the first event that the world refuses.
+/// Plays a schedule over a world, and writes down what each event did, up to the first event that the world refuses.
 pub(crate) fn play<K: Keeper>(
     alloc: Global,
     world: &mut World<K>,
-    seer: &mut Seer,
-    bounds: Bounds,
-    lines: &Lines,
-) -> Result<(), NoMemory>
-    requires hosts { bounds.hosts ≡ length world.old.clients }
-    requires longest { bounds.longest ≡ world.old.skew.window }
+    script: &Script,
+) -> Result<Record, NoMemory>
+    requires hosts { script.now.head.hosts ≡ length world.old.clients }
+    requires longest { script.now.head.longest ≡ world.old.skew.window }
 {
+    let hosts = script.head.hosts;
+    let mut seer = Seer::new(alloc, hosts)?;
     let mut delivered = Delivered::new(alloc);
     let mut cursor = Cursor { line: 0, events: 0 };
     for turn in 0..MOST_EVENTS {
-        let least = delivered.next(world.packets().len() as usize);
-        let Some(event) = cursor.next(lines, bounds.hosts, least) else {
-            return Ok(());
+        let packets = world.packets().len() as usize;
+        let least = delivered.next(packets);
+        let Some(event) = cursor.next(&script.lines, hosts, least) else {
+            break;
         };
-        match take(world, seer, &mut delivered, bounds, &event) {
-            Stepped::Done => {}
+        if !can_come(&script.head, &event) {
+            break;
+        }
+        delivered.reach(packets)?;
+        match world.step(&event) {
+            Stepped::Done => {
+                note(&mut delivered, &event);
+                seer.see(world, hosts, &event);
+            }
             Stepped::Memory => return Err(NoMemory::Memory),
-            _ => return Ok(()),
+            _ => break,
         }
     }
-    Ok(())
+    seer.into_record()
 }

@@ -4,14 +4,14 @@ ghost use Rattle.std.specs.Prelude.{◌≤◌, length};
 
 use crate::mail::Mail;
 use crate::memory::Memory;
-use crate::spans::{Counts, Spans};
-use nq_base::{Event, Journal, NoMemory, Party, Ticks};
+use crate::spans::Spans;
+use nq_base::{Event, Host, Journal, NoMemory, Party, Ticks};
 use nq_keeper::Keeper;
 use nq_record::{Act, Moment, Noted, Record, entry_words};
 use nq_world::World;
 use std::alloc::Global;
 
-/// Writes down what each event did, until memory is wanting.
+/// Writes down what each event did. Once memory was wanting, what was seen is lost.
 #[derive(Drop)]
 pub(crate) struct Seer {
     memory: Memory,
@@ -20,17 +20,24 @@ pub(crate) struct Seer {
     mail: Mail,
     entries: Vec<Noted>,
     spans: Spans,
-    /// For each host, in which event it started last.
-    starts: Vec<usize>,
-    /// For each host, how many blocks with delayed writes it has.
-    delays: Vec<usize>,
+    known: Vec<Known>,
+}
+
+/// What is known of a host: in which event it started last, and how many blocks with delayed writes it has.
+#[derive(Clone, Copy)]
+pub(crate) struct Known {
+    pub(crate) started: usize,
+    delayed: usize,
 }
 
 impl Seer {
     /// Nothing was seen.
     pub(crate) fn new(alloc: Global, hosts: u32) -> Result<Seer, NoMemory> {
-        let starts = vec![in alloc; 0usize; hosts as usize]?;
-        let delays = vec![in alloc; 0usize; hosts as usize]?;
+        let nothing = Known {
+            started: 0,
+            delayed: 0,
+        };
+        let known = vec![in alloc; nothing; hosts as usize]?;
         Ok(Seer {
             memory: Memory::new(alloc),
             hosts,
@@ -38,18 +45,19 @@ impl Seer {
             mail: Mail::new(alloc),
             entries: Vec::new(alloc),
             spans: Spans::new(alloc),
-            starts,
-            delays,
+            known,
         })
     }
 
-    /// Whether memory was wanting.
-    pub(crate) fn is_short(&self) -> bool {
-        self.memory.is_short
-    }
-
     /// What was seen.
-    pub(crate) fn into_record(self) -> Record {
+    ///
+    /// # Errors
+    ///
+    /// Only want of memory, while an event was seen.
+    pub(crate) fn into_record(self) -> Result<Record, NoMemory> {
+        if self.memory.is_short {
+            return Err(NoMemory::Memory);
+        }
         let Seer {
             memory: _memory,
             hosts,
@@ -57,18 +65,17 @@ impl Seer {
             mail,
             entries,
             spans,
-            starts: _starts,
-            delays: _delays,
+            known: _known,
         } = self;
         let (spans, changes) = spans.into_parts();
-        Record {
+        Ok(Record {
             hosts,
             moments,
             packets: mail.into_packets(),
             entries,
             spans,
             changes,
-        }
+        })
     }
 
     /// Writes down what an event did that a world took in just now.
@@ -76,28 +83,65 @@ impl Seer {
         requires { hosts ≤ length world.now.clients }
     {
         let place = self.moments.len();
-        let before = self.marks();
-        let party = self.mail.actor(event);
+        let older = self.spans.spans.len();
+        let mut moment = self.begun(event);
         self.arrive(event, place);
+        let party = &moment.party;
         self.mail
-            .see(&mut self.memory, world.packets(), event, &party, place);
+            .see(&mut self.memory, world.packets(), event, party, place);
         see_entries(&mut self.memory, &mut self.entries, world.journal());
-        let counts = self.spans.see(&mut self.memory, world, hosts, place);
-        self.date_leases(before.spans, event, place);
-        let (clock, blocks) = state_of(world, hosts, &party);
-        let delays = delayed(&mut self.delays, &party, blocks);
-        let after = self.marks();
-        let moment = moment(&party, act_of(event), clock, before, after, counts, delays);
+        let rows = world.server().table().rows();
+        self.spans
+            .see_server(&mut self.memory, rows, !world.serving(), place);
+        moment.rows = rows.len();
+        moment.clock = world.server_time();
+        for host in 0..hosts {
+            let client = world.client(Host(host));
+            self.spans
+                .see_client(&mut self.memory, client, host, place, &mut moment);
+        }
+        self.spans.end(&mut self.memory, place);
+        self.count(older, event, &mut moment);
         self.memory.push(&mut self.moments, moment);
     }
 
-    /// How much is written down.
-    fn marks(&self) -> Marks {
-        Marks {
-            packets: self.mail.packets.len(),
+    /// Notes how much an event did of which all was seen. So many spans are older.
+    fn count(&mut self, older: usize, event: &Event, moment: &mut Moment) {
+        self.date_leases(older, event);
+        moment.delays = self.new_delays(moment);
+        moment.sent = (self.mail.packets.len() as u64).saturating_sub(moment.packets);
+        moment.made = self.entries.len().saturating_sub(moment.entries);
+        moment.changed = self.spans.changes.len().saturating_sub(moment.changes);
+    }
+
+    /// An event of which nothing was seen yet.
+    fn begun(&self, event: &Event) -> Moment {
+        Moment {
+            party: self.mail.actor(event),
+            act: act_of(event),
+            clock: Ticks(0),
+            packets: self.mail.packets.len() as u64,
+            sent: 0,
             entries: self.entries.len(),
-            spans: self.spans.spans.len(),
+            made: 0,
             changes: self.spans.changes.len(),
+            changed: 0,
+            rows: 0,
+            leases: 0,
+            dirty: 0,
+            delays: None,
+        }
+    }
+
+    /// How many blocks with delayed writes the host has that acts, if that is another number than before.
+    fn new_delays(&mut self, moment: &Moment) -> Option<usize> {
+        let Party::Client(host) = moment.party else {
+            return None;
+        };
+        let blocks = moment.delays?;
+        match self.known.get_mut(host.0 as usize) {
+            Some(before) => changed(before, blocks),
+            None => None,
         }
     }
 
@@ -108,8 +152,8 @@ impl Seer {
                 self.mail.arrive(&mut self.memory, *number as usize, place);
             }
             Event::Restart(host) => {
-                if let Some(start) = self.starts.get_mut(host.0 as usize) {
-                    *start = place;
+                if let Some(known) = self.known.get_mut(host.0 as usize) {
+                    known.started = place;
                 }
             }
             _ => {}
@@ -117,9 +161,9 @@ impl Seer {
     }
 
     /// Lets leases begin where they were first asked for. So many spans are older.
-    fn date_leases(&mut self, older: usize, event: &Event, place: usize) {
+    fn date_leases(&mut self, older: usize, event: &Event) {
         if older < self.spans.spans.len() {
-            let asked = self.asked(event, place);
+            let asked = self.asked(event, self.moments.len());
             self.spans.date_leases(older, asked);
         }
     }
@@ -130,46 +174,10 @@ impl Seer {
             return place;
         };
         let reply = *number as usize;
-        match self.mail.first_sending(&self.moments, &self.starts, reply) {
+        match self.mail.first_sending(&self.moments, &self.known, reply) {
             Some(first) => first,
             None => place,
         }
-    }
-}
-
-/// How much is written down.
-#[derive(Drop)]
-struct Marks {
-    packets: usize,
-    entries: usize,
-    spans: usize,
-    changes: usize,
-}
-
-/// An event in which a party acts, before and behind which so much is written down.
-fn moment(
-    party: &Party,
-    act: Act,
-    clock: Ticks,
-    before: Marks,
-    after: Marks,
-    counts: Counts,
-    delays: Option<usize>,
-) -> Moment {
-    Moment {
-        party: *party,
-        act,
-        clock,
-        packets: before.packets as u64,
-        sent: after.packets.saturating_sub(before.packets) as u64,
-        entries: before.entries,
-        made: after.entries.saturating_sub(before.entries),
-        changes: before.changes,
-        changed: after.changes.saturating_sub(before.changes),
-        rows: counts.rows,
-        leases: counts.leases,
-        dirty: counts.dirty,
-        delays,
     }
 }
 
@@ -183,36 +191,13 @@ fn see_entries(memory: &mut Memory, entries: &mut Vec<Noted>, journal: &Journal)
     }
 }
 
-/// What the clock of a party shows, and how many blocks with delayed writes it has.
-fn state_of<K: Keeper>(world: &World<K>, hosts: u32, party: &Party) -> (Ticks, usize)
-    requires { hosts ≤ length world.now.clients }
-{
-    match *party {
-        Party::Client(host) if host.0 < hosts => {
-            (world.client(host).time(), world.dirty(host).pending())
-        }
-        _ => (world.server_time(), 0),
-    }
-}
-
-/// How many blocks with delayed writes a host has, if that is another number than before.
-fn delayed(delays: &mut Vec<usize>, party: &Party, blocks: usize) -> Option<usize> {
-    let Party::Client(host) = *party else {
-        return None;
-    };
-    match delays.get_mut(host.0 as usize) {
-        Some(before) => changed(before, blocks),
-        None => None,
-    }
-}
-
-/// Writes a number over one that was there before; the new one, if it is another.
-fn changed(before: &mut usize, now: usize) -> Option<usize> {
-    if *before == now {
+/// Notes how many blocks with delayed writes a host has; the number, if it is another than before.
+fn changed(before: &mut Known, blocks: usize) -> Option<usize> {
+    if before.delayed == blocks {
         None
     } else {
-        *before = now;
-        Some(now)
+        before.delayed = blocks;
+        Some(blocks)
     }
 }
 

@@ -1,12 +1,9 @@
 //! What lasts for some time.
 
-ghost use Rattle.std.specs.Prelude.{◌<◌, ◌≤◌, length};
-
 use crate::memory::Memory;
-use nq_base::{FileId, Host, Party};
-use nq_keeper::Keeper;
-use nq_record::{Change, Kind, Span};
-use nq_world::World;
+use nq_base::{FileId, Host, Party, Row};
+use nq_client::Client;
+use nq_record::{Change, Kind, Moment, Span};
 use std::alloc::Global;
 
 /// What lasts, and what of it began or ended, in the order of the events.
@@ -18,14 +15,6 @@ pub(crate) struct Spans {
     open: Vec<usize>,
     /// The highest file of which there was a row.
     files: u32,
-}
-
-/// How much there is of what lasts.
-#[derive(Drop)]
-pub(crate) struct Counts {
-    pub(crate) rows: usize,
-    pub(crate) leases: usize,
-    pub(crate) dirty: usize,
 }
 
 impl Spans {
@@ -61,40 +50,14 @@ impl Spans {
         }
     }
 
-    /// Notes what there is after the event at a place.
-    pub(crate) fn see<K: Keeper>(
+    /// Notes the rows that the server has after the event at a place, and whether it recovers.
+    pub(crate) fn see_server(
         &mut self,
         memory: &mut Memory,
-        world: &World<K>,
-        hosts: u32,
+        rows: &[Row],
+        recovers: bool,
         place: usize,
-    ) -> Counts
-        requires { hosts ≤ length world.now.clients }
-    {
-        let rows = self.see_server(memory, world, place);
-        let mut leases = 0usize;
-        let mut dirty = 0usize;
-        for host in 0..hosts {
-            let held = self.see_host(memory, world, host, place);
-            leases = leases.saturating_add(held);
-            dirty = dirty.saturating_add(world.dirty(Host(host)).pending());
-        }
-        self.end(memory, place);
-        Counts {
-            rows,
-            leases,
-            dirty,
-        }
-    }
-
-    /// Notes the rows of the server, and whether it recovers. How many rows there are.
-    fn see_server<K: Keeper>(
-        &mut self,
-        memory: &mut Memory,
-        world: &World<K>,
-        place: usize,
-    ) -> usize {
-        let rows = world.server().table().rows();
+    ) {
         for row in rows {
             self.files = self.files.max(row.file.0);
             let kind = Kind::Row {
@@ -104,25 +67,28 @@ impl Spans {
             };
             self.touch(memory, &Party::Server, &kind, place);
         }
-        if !world.serving() {
+        if recovers {
             self.touch(memory, &Party::Server, &Kind::Recovery, place);
         }
-        rows.len()
     }
 
-    /// Notes the leases of a host that run. How many there are.
-    fn see_host<K: Keeper>(
+    /// Notes the leases of a host that run, how many blocks with delayed writes it has, and what its clock shows, if it acts.
+    pub(crate) fn see_client(
         &mut self,
         memory: &mut Memory,
-        world: &World<K>,
+        client: &Client,
         host: u32,
         place: usize,
-    ) -> usize
-        requires { host < length world.now.clients }
-    {
-        let mut count = 0usize;
-        let client = world.client(Host(host));
+        moment: &mut Moment,
+    ) {
+        let party = Party::Client(Host(host));
         let now = client.time();
+        let blocks = client.dirty().pending();
+        moment.dirty = moment.dirty.saturating_add(blocks);
+        if moment.party == party {
+            moment.clock = now;
+            moment.delays = Some(blocks);
+        }
         for file in 1..self.files.saturating_add(1) {
             let held = client.held(FileId(file));
             if held.live(now) {
@@ -131,12 +97,11 @@ impl Spans {
                         file: FileId(file),
                         mode,
                     };
-                    self.touch(memory, &Party::Client(Host(host)), &kind, place);
-                    count = count.saturating_add(1);
+                    self.touch(memory, &party, &kind, place);
+                    moment.leases = moment.leases.saturating_add(1);
                 }
             }
         }
-        count
     }
 
     /// Notes that something is there at a place. Where it was not there before, it begins there.
@@ -166,7 +131,7 @@ impl Spans {
     }
 
     /// Ends what is no longer there after the event at a place.
-    fn end(&mut self, memory: &mut Memory, place: usize) {
+    pub(crate) fn end(&mut self, memory: &mut Memory, place: usize) {
         let mut open = Vec::new(memory.alloc);
         for index in &self.open {
             match ended(&mut self.spans, *index, place) {

@@ -8,8 +8,8 @@ use Rattle.nq_base.specs.declared.Refusal.{Refusal}
 use Rattle.nq_base.specs.declared.Reply.{Reply}
 use Rattle.nq_base.specs.declared.Request.{Request}
 use Rattle.nq_base.specs.declared.Want.{Want}
-use Rattle.nq_chart.specs.Page.{Extends}
-use Rattle.nq_chart.specs.declared.Sign.{Sign}
+use Rattle.nq_record.specs.Page.{Extends}
+use Rattle.nq_record.specs.declared.chart.chart.Sign.{Sign}
 
 -- the word of a kind of lease
 abbrev pub mode_word : Mode → List ℕ

@@ -1,6 +1,6 @@
 //! Columns of a fixed width.
 
-use nq_chart::{Page, Part};
+use crate::chart::{Page, Part};
 
 /// Puts a number behind so many blanks that it fills a column, and an end behind it.
 pub(crate) fn put_right(page: &mut Page, number: u64, width: usize, end: &str) {
@@ -14,10 +14,8 @@ pub(crate) fn put_right(page: &mut Page, number: u64, width: usize, end: &str) {
     page.put(&[Part::Number(number), Part::Text(end)]);
 }
 
-/// Puts parts, with so many blanks behind them that they fill a column.
-pub(crate) fn put_left(page: &mut Page, parts: &[Part], width: usize) {
-    let end = page.len().saturating_add(width);
-    page.put(parts);
+/// Puts so many blanks that the page ends there.
+pub(crate) fn put_blanks(page: &mut Page, end: usize) {
     for _ in page.len()..end {
         page.put(&[Part::Text(" ")]);
     }

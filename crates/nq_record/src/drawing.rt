@@ -3,13 +3,13 @@
 ghost use Rattle.std.specs.Prelude.{◌≡◌, ◌+◌, vec_len, IfOk};
 
 use crate::NoMemory;
+use crate::chart::{Bar, Chart, Column, Packet, Part, Side, Tint, text_of};
 use crate::lists::Growing;
 use crate::picture_rows::{Rows, packet_words, rows_of};
 use crate::record::{Record, Sent};
 use crate::spans::{Kind, Span};
-use crate::text::{owned, party_name};
+use crate::text::{owned, party_parts};
 use nq_base::{Host, Mode, Party};
-use nq_chart::{Bar, Chart, Column, Packet, Part, Side, Tint, text_of};
 use std::alloc::Global;
 
 /// How many hosts stand left of the server.
@@ -39,14 +39,9 @@ fn place_of_host(left: u32, host: u32) -> usize {
 /// The side of a party that is turned away from the others; the server has its bars on the right.
 pub(crate) fn outer(hosts: u32, party: Party) -> Side {
     match party {
-        Party::Server => Side::Right,
-        Party::Client(host) => outer_of_host(hosts_left(hosts), host.0),
+        Party::Client(host) if host.0 < hosts_left(hosts) => Side::Left,
+        _ => Side::Right,
     }
-}
-
-/// The side of a host that is turned away from the server, where so many stand left of it.
-fn outer_of_host(left: u32, host: u32) -> Side {
-    if host < left { Side::Left } else { Side::Right }
 }
 
 /// The events from `from` to `to` of a run as a chart, with a column for each host and one for the server. Ticks in which nothing
@@ -65,16 +60,18 @@ pub fn picture(
     ensures { IfOk result (λ chart. vec_len chart.columns ≡ «record».now.hosts + 1) }
 {
     let columns = columns(alloc, record.hosts)?;
-    let shown = rows_of(alloc, record, from, to)?;
-    let packets = packets(alloc, record, &shown)?;
-    let bars = bars(alloc, record, &shown)?;
-    let rows = shown.finish()?;
+    let shown = rows_of(alloc, record, from, to);
+    let packets = packets(alloc, record, &shown);
+    let bars = bars(alloc, record, &shown);
+    if shown.is_short() || packets.is_short || bars.is_short {
+        return Err(NoMemory::Memory);
+    }
     Ok(Chart {
         title,
         columns,
-        rows,
-        packets,
-        bars,
+        rows: shown.into_rows(),
+        packets: packets.into_items(),
+        bars: bars.into_items(),
     })
 }
 
@@ -84,17 +81,16 @@ fn columns(alloc: Global, hosts: u32) -> Result<Vec<Column>, NoMemory>
 {
     let mut columns = Vec::new(alloc);
     let left = hosts_left(hosts);
-    for place in 0..hosts {
+    for place in 0..=hosts {
         columns.push(column(alloc, hosts, &party_at(left, place))?)?;
     }
-    columns.push(column(alloc, hosts, &party_at(left, hosts))?)?;
     Ok(columns)
 }
 
 /// A party.
 fn column(alloc: Global, hosts: u32, party: &Party) -> Result<Column, NoMemory> {
     let bars = outer(hosts, *party);
-    let name = party_name(alloc, *party)?;
+    let name = text_of(alloc, &party_parts(*party))?;
     Ok(Column { name, bars })
 }
 
@@ -110,34 +106,45 @@ fn party_at(left: u32, place: u32) -> Party {
 }
 
 /// The packets that are sent or arrive in the rows that are shown.
-fn packets(alloc: Global, record: &Record, shown: &Rows) -> Result<Vec<Packet>, NoMemory> {
+fn packets(alloc: Global, record: &Record, shown: &Rows) -> Growing<Packet> {
     let mut packets = Growing::new(alloc);
     for (number, sent) in record.packets.iter().enumerate() {
-        let arrivals = arrivals(alloc, sent, shown)?;
-        let row = shown.row_of(sent.sent);
-        let is_lost = sent.arrivals.is_empty() && row.is_some();
-        if is_lost || !arrivals.is_empty() {
-            let text = packet_words(alloc, number as u64, sent, "");
-            packets.add(packet(record.hosts, sent, row, arrivals, text));
+        if is_shown(sent, shown) {
+            packets.add(packet(alloc, record.hosts, number as u64, sent, shown));
         }
     }
-    packets.finish()
+    packets
 }
 
-/// A packet that is told of in a text, if there was memory for it.
+/// Whether a packet arrives in one of the rows that are shown, or is sent in one of them and never arrives.
+fn is_shown(sent: &Sent, shown: &Rows) -> bool {
+    if sent.arrivals.is_empty() {
+        return shown.row_of(sent.sent).is_some();
+    }
+    for moment in &sent.arrivals {
+        if shown.row_of(*moment).is_some() {
+            return true;
+        }
+    }
+    false
+}
+
+/// A packet of this number.
 fn packet(
+    alloc: Global,
     hosts: u32,
+    number: u64,
     sent: &Sent,
-    row: Option<usize>,
-    arrivals: Vec<usize>,
-    text: Result<String, NoMemory>,
+    shown: &Rows,
 ) -> Result<Packet, NoMemory> {
+    let text = packet_words(alloc, number, sent, "")?;
+    let arrivals = arrivals(alloc, sent, shown)?;
     Ok(Packet {
         from: place_of(hosts, sent.from),
         to: place_of(hosts, sent.to),
-        sent: row,
+        sent: shown.row_of(sent.sent),
         arrivals,
-        text: text?,
+        text,
     })
 }
 
@@ -153,7 +160,7 @@ fn arrivals(alloc: Global, sent: &Sent, shown: &Rows) -> Result<Vec<usize>, NoMe
 }
 
 /// The bars of what lasts in the rows that are shown.
-fn bars(alloc: Global, record: &Record, shown: &Rows) -> Result<Vec<Bar>, NoMemory> {
+fn bars(alloc: Global, record: &Record, shown: &Rows) -> Growing<Bar> {
     let mut bars = Growing::new(alloc);
     for span in &record.spans {
         if span.first <= shown.to && span.last >= shown.from {
@@ -164,7 +171,7 @@ fn bars(alloc: Global, record: &Record, shown: &Rows) -> Result<Vec<Bar>, NoMemo
             }
         }
     }
-    bars.finish()
+    bars
 }
 
 /// The bar of something that lasts.

@@ -4,10 +4,10 @@ ghost use Rattle.std.specs.Prelude.{◌≡◌, IfOk};
 ghost use Rattle.nq_record.specs.Words.{sign_of};
 
 use crate::NoMemory;
+use crate::chart::{Sign, filled};
 use crate::record::Noted;
-use crate::text::{filled, mode_word, named, owned};
-use nq_base::{Entry, Mode, Said, Spans, Told};
-use nq_chart::{Part, Sign, text_of};
+use crate::text::named;
+use nq_base::{Entry, Mode, Name, Said, Spans, Told};
 use std::alloc::Global;
 
 /// An entry in words.
@@ -23,31 +23,53 @@ pub fn entry_words(alloc: Global, entry: &Entry) -> Result<Noted, NoMemory>
 
 /// What an entry says.
 fn words_of(alloc: Global, entry: &Entry) -> Result<String, NoMemory> {
+    let (form, numbers) = form_of(entry);
+    match name_of(entry) {
+        Some(name) => named(alloc, form, name),
+        None => filled(alloc, form, &numbers),
+    }
+}
+
+/// The name with which the words of an entry end, if they end with one.
+fn name_of(entry: &Entry) -> Option<&Name> {
+    let Entry::C { told, .. } = entry else {
+        return None;
+    };
+    match told {
+        Told::Create { name, .. } | Told::Lookup { name } => Some(name),
+        _ => None,
+    }
+}
+
+/// The words of an entry, and the numbers that stand in them for the signs `#`.
+fn form_of(entry: &Entry) -> (&'static str, [u64; 4]) {
     match entry {
-        Entry::C { told, .. } => told_words(alloc, told),
-        Entry::A { said, .. } => said_words(alloc, said),
-        Entry::W { .. } | Entry::R { .. } => block_words(alloc, entry),
-        Entry::S { .. } | Entry::L { .. } => stored_words(alloc, entry),
+        Entry::C { told, .. } => told_form(told),
+        Entry::A { said, .. } => said_form(said),
+        Entry::W { .. } | Entry::R { .. } => block_form(entry),
+        Entry::S { .. } => ("stores #:#, writes #-#", writes_of(entry)),
+        Entry::L { .. } => ("lost #:#, writes #-#", writes_of(entry)),
         Entry::G {
             who,
             file,
             mode,
             term,
             ..
-        } => grant_words(alloc, who.host.0, file.0, *mode, *term),
-        Entry::F { who, file, .. } => filled(
-            alloc,
+        } => (
+            grant_words(*mode),
+            [who.host.0 as u64, file.0 as u64, *term as u64, 0],
+        ),
+        Entry::F { who, file, .. } => (
             "fences host # on #",
-            &[who.host.0 as u64, file.0 as u64],
+            [who.host.0 as u64, file.0 as u64, 0, 0],
         ),
-        Entry::Z { file, from, to, .. } => filled(
-            alloc,
+        Entry::Z { file, from, to, .. } => (
             "file # from # to # blocks",
-            &[file.0 as u64, *from as u64, *to as u64],
+            [file.0 as u64, *from as u64, *to as u64, 0],
         ),
-        Entry::B { who } => filled(alloc, "starts again, incarnation #", &[who.inc.0 as u64]),
-        Entry::X { boot, .. } => filled(alloc, "boots again, boot #", &[*boot as u64]),
-        Entry::O { boot, .. } => filled(alloc, "recovery of boot # ends", &[*boot as u64]),
+        Entry::B { who } => ("starts again, incarnation #", [who.inc.0 as u64, 0, 0, 0]),
+        Entry::X { boot, .. } => ("boots again, boot #", [*boot as u64, 0, 0, 0]),
+        Entry::O { boot, .. } => ("recovery of boot # ends", [*boot as u64, 0, 0, 0]),
     }
 }
 
@@ -64,8 +86,8 @@ fn sign_of(entry: &Entry) -> Sign
     }
 }
 
-/// A write or a read.
-fn block_words(alloc: Global, entry: &Entry) -> Result<String, NoMemory> {
+/// The words of a write or a read.
+fn block_form(entry: &Entry) -> (&'static str, [u64; 4]) {
     match entry {
         Entry::W {
             file,
@@ -81,7 +103,7 @@ fn block_words(alloc: Global, entry: &Entry) -> Result<String, NoMemory> {
                 "delays #:# = #, write #"
             };
             let numbers = [file.0 as u64, block.0 as u64, *value as u64, number.0];
-            filled(alloc, form, &numbers)
+            (form, numbers)
         }
         Entry::R {
             file,
@@ -95,14 +117,14 @@ fn block_words(alloc: Global, entry: &Entry) -> Result<String, NoMemory> {
             } else {
                 "has #:# = #"
             };
-            filled(alloc, form, &[file.0 as u64, block.0 as u64, *value as u64])
+            (form, [file.0 as u64, block.0 as u64, *value as u64, 0])
         }
-        _ => Ok(String::new(alloc)),
+        _ => ("", [0; 4]),
     }
 }
 
-/// A store or a loss.
-fn stored_words(alloc: Global, entry: &Entry) -> Result<String, NoMemory> {
+/// Of which writes a store or a loss tells.
+fn writes_of(entry: &Entry) -> [u64; 4] {
     match entry {
         Entry::S {
             file,
@@ -110,99 +132,72 @@ fn stored_words(alloc: Global, entry: &Entry) -> Result<String, NoMemory> {
             first,
             last,
             ..
-        } => {
-            let numbers = [file.0 as u64, block.0 as u64, first.0, last.0];
-            filled(alloc, "stores #:#, writes #-#", &numbers)
         }
-        Entry::L {
+        | Entry::L {
             file,
             block,
             first,
             last,
             ..
-        } => {
-            let numbers = [file.0 as u64, block.0 as u64, first.0, last.0];
-            filled(alloc, "lost #:#, writes #-#", &numbers)
-        }
-        _ => Ok(String::new(alloc)),
+        } => [file.0 as u64, block.0 as u64, first.0, last.0],
+        _ => [0; 4],
     }
 }
 
-/// A grant.
-fn grant_words(
-    alloc: Global,
-    host: u32,
-    file: u32,
-    mode: Mode,
-    term: u32,
-) -> Result<String, NoMemory> {
-    text_of(
-        alloc,
-        &[
-            Part::Text("grants host "),
-            Part::Number(host as u64),
-            Part::Text(" "),
-            Part::Text(mode_word(mode)),
-            Part::Text(" on "),
-            Part::Number(file as u64),
-            Part::Text(", "),
-            Part::Number(term as u64),
-            Part::Text(" ticks"),
-        ],
-    )
+/// The words of a grant.
+fn grant_words(mode: Mode) -> &'static str {
+    match mode {
+        Mode::NonCaching => "grants host # noncaching on #, # ticks",
+        Mode::Reading => "grants host # reading on #, # ticks",
+        Mode::Writing => "grants host # writing on #, # ticks",
+    }
 }
 
-/// A call.
-fn told_words(alloc: Global, told: &Told) -> Result<String, NoMemory> {
+/// The words of a call, but for a name.
+fn told_form(told: &Told) -> (&'static str, [u64; 4]) {
     match told {
-        Told::Create { name, .. } => named(alloc, "call create ", name),
-        Told::Lookup { name } => named(alloc, "call lookup ", name),
-        Told::Attr { file } => filled(alloc, "call attr #", &[file.0 as u64]),
-        Told::Read { file, block } => {
-            filled(alloc, "call read # #", &[file.0 as u64, block.0 as u64])
-        }
-        Told::Fetch { file, block } => {
-            filled(alloc, "call fetch # #", &[file.0 as u64, block.0 as u64])
-        }
-        Told::Write { file, block, value } => {
-            let numbers = [file.0 as u64, block.0 as u64, *value as u64];
-            filled(alloc, "call write # # #", &numbers)
-        }
-        Told::WriteSync { file, block, value } => {
-            let numbers = [file.0 as u64, block.0 as u64, *value as u64];
-            filled(alloc, "call put # # #", &numbers)
-        }
-        Told::Sync { file } => filled(alloc, "call sync #", &[file.0 as u64]),
+        Told::Create { .. } => ("call create ", [0; 4]),
+        Told::Lookup { .. } => ("call lookup ", [0; 4]),
+        Told::Attr { file } => ("call attr #", [file.0 as u64, 0, 0, 0]),
+        Told::Read { file, block } => ("call read # #", [file.0 as u64, block.0 as u64, 0, 0]),
+        Told::Fetch { file, block } => ("call fetch # #", [file.0 as u64, block.0 as u64, 0, 0]),
+        Told::Write { file, block, value } => (
+            "call write # # #",
+            [file.0 as u64, block.0 as u64, *value as u64, 0],
+        ),
+        Told::WriteSync { file, block, value } => (
+            "call put # # #",
+            [file.0 as u64, block.0 as u64, *value as u64, 0],
+        ),
+        Told::Sync { file } => ("call sync #", [file.0 as u64, 0, 0, 0]),
         Told::Resize { file, blocks } => {
-            filled(alloc, "call resize # #", &[file.0 as u64, *blocks as u64])
+            ("call resize # #", [file.0 as u64, *blocks as u64, 0, 0])
         }
-        Told::Remove { file } => filled(alloc, "call remove #", &[file.0 as u64]),
+        Told::Remove { file } => ("call remove #", [file.0 as u64, 0, 0, 0]),
     }
 }
 
-/// An answer.
-fn said_words(alloc: Global, said: &Said) -> Result<String, NoMemory> {
+/// The words of an answer.
+fn said_form(said: &Said) -> (&'static str, [u64; 4]) {
     match said {
-        Said::OkValue(value) => filled(alloc, "answer ok #", &[*value as u64]),
-        Said::OkBy { value, packet } => {
-            filled(alloc, "answer ok # by #", &[*value as u64, *packet])
-        }
-        Said::Lost(spans) => lost_words(alloc, spans),
-        Said::Ok => owned(alloc, "answer ok"),
-        Said::Busy => owned(alloc, "answer busy"),
-        Said::Stale => owned(alloc, "answer stale"),
-        Said::NoEntry => owned(alloc, "answer noentry"),
-        Said::Exists => owned(alloc, "answer exists"),
-        Said::NoSpace => owned(alloc, "answer nospace"),
-        Said::Range => owned(alloc, "answer range"),
-        Said::DirtyFull => owned(alloc, "answer dirtyfull"),
+        Said::OkValue(value) => ("answer ok #", [*value as u64, 0, 0, 0]),
+        Said::OkBy { value, packet } => ("answer ok # by #", [*value as u64, *packet, 0, 0]),
+        Said::Lost(spans) => lost_form(spans),
+        Said::Ok => ("answer ok", [0; 4]),
+        Said::Busy => ("answer busy", [0; 4]),
+        Said::Stale => ("answer stale", [0; 4]),
+        Said::NoEntry => ("answer noentry", [0; 4]),
+        Said::Exists => ("answer exists", [0; 4]),
+        Said::NoSpace => ("answer nospace", [0; 4]),
+        Said::Range => ("answer range", [0; 4]),
+        Said::DirtyFull => ("answer dirtyfull", [0; 4]),
     }
 }
 
-/// An answer that names losses: the first of them, and how many more there are.
-fn lost_words(alloc: Global, spans: &Spans) -> Result<String, NoMemory> {
+/// The words of an answer that names losses: the first of them, and how many more there are.
+fn lost_form(spans: &Spans) -> (&'static str, [u64; 4]) {
     let Some(span) = spans.get(0) else {
-        return owned(alloc, "answer lost");
+        return ("answer lost", [0; 4]);
     };
     let more = spans.len().saturating_sub(1);
     let form = if more > 0 {
@@ -210,6 +205,8 @@ fn lost_words(alloc: Global, spans: &Spans) -> Result<String, NoMemory> {
     } else {
         "answer lost #:#-#"
     };
-    let numbers = [span.block.0 as u64, span.first.0, span.last.0, more as u64];
-    filled(alloc, form, &numbers)
+    (
+        form,
+        [span.block.0 as u64, span.first.0, span.last.0, more as u64],
+    )
 }

@@ -1,6 +1,8 @@
-//! A run as it was seen, event by event, and how it is shown: as a picture, told line by line, and why an entry came.
+//! A run as it was seen, event by event, and how it is shown: as a picture (`chart` draws
+//! it), told line by line, and why an entry came.
 #![tactic(auto)]
 
+pub mod chart;
 mod columns;
 mod drawing;
 mod entries;

@@ -3,11 +3,11 @@
 use crate::NoMemory;
 use std::alloc::Global;
 
-/// A list that grows. Once memory was wanting it takes nothing more, and `finish` tells of it.
+/// A list that grows. Once memory was wanting it takes nothing more, and `is_short` and `finish` tell of it.
 #[derive(Drop)]
 pub(crate) struct Growing<T> {
-    items: Vec<T>,
-    is_short: bool,
+    pub(crate) items: Vec<T>,
+    pub(crate) is_short: bool,
 }
 
 impl<T: Drop> Growing<T> {
@@ -36,12 +36,23 @@ impl<T: Drop> Growing<T> {
         }
     }
 
+    /// Takes the last item out.
+    pub(crate) fn pop(&mut self) -> Option<T> {
+        self.items.pop()
+    }
+
     /// Adds an item, if there was memory to make it.
     pub(crate) fn add(&mut self, made: Result<T, NoMemory>) {
         match made {
             Ok(item) => self.push(item),
             Err(_) => self.is_short = true,
         }
+    }
+
+    /// The items, as many as there was memory for.
+    pub(crate) fn into_items(self) -> Vec<T> {
+        let Growing { items, is_short: _ } = self;
+        items
     }
 
     /// The items.

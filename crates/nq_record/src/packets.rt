@@ -1,13 +1,13 @@
 //! Packets in words.
-#![tactic(auto, using(nq_chart::proofs::Joined::ended))]
+#![tactic(auto, using(crate::proofs::Joined::ended))]
 
 ghost use Rattle.std.specs.Prelude.{◌≡◌, ◌++◌, codes, string_bytes, Some, IfOk};
 ghost use Rattle.nq_record.specs.Words.{SaysRequest, filed, granted, lease_granted, lease_words, plain_read, read_words, refusal_word, reply_text, resize_words, revised, wanting_read, with_grant, write_words};
 
 use crate::NoMemory;
+use crate::chart::{Part, text_of};
 use crate::text::{mode_word, named, owned};
 use nq_base::{Grant, Mode, Refusal, Reply, Request, Want};
-use nq_chart::{Part, text_of};
 use std::alloc::Global;
 
 /// A request or a notice in words: its procedure, and the fields that matter.
@@ -43,7 +43,7 @@ pub fn request_words(alloc: Global, request: &Request) -> Result<String, NoMemor
 }
 
 /// A RESIZE.
-#[tactic(auto, using(nq_chart::proofs::Joined::ended), unfolding(crate::specs::Words::resize_words))]
+#[tactic(auto, using(crate::proofs::Joined::ended), unfolding(crate::specs::Words::resize_words))]
 fn resize_words(alloc: Global, file: u32, blocks: u32) -> Result<String, NoMemory>
     ensures { IfOk result (λ text. string_bytes text ≡ resize_words file blocks) }
 {
@@ -59,7 +59,7 @@ fn resize_words(alloc: Global, file: u32, blocks: u32) -> Result<String, NoMemor
 }
 
 /// A procedure and its file.
-#[tactic(auto, using(nq_chart::proofs::Joined::ended), unfolding(crate::specs::Words::filed))]
+#[tactic(auto, using(crate::proofs::Joined::ended), unfolding(crate::specs::Words::filed))]
 fn filed(alloc: Global, procedure: &str, file: u32) -> Result<String, NoMemory>
     ensures { IfOk result (λ text. string_bytes text ≡ filed procedure.now file) }
 {
@@ -84,7 +84,7 @@ fn read_words(alloc: Global, file: u32, block: u32, want: Option<Want>) -> Resul
 }
 
 /// A READ that wants no lease.
-#[tactic(auto, using(nq_chart::proofs::Joined::ended), unfolding(crate::specs::Words::plain_read))]
+#[tactic(auto, using(crate::proofs::Joined::ended), unfolding(crate::specs::Words::plain_read))]
 fn plain_read(alloc: Global, file: u32, block: u32) -> Result<String, NoMemory>
     ensures { IfOk result (λ text. string_bytes text ≡ plain_read file block) }
 {
@@ -100,7 +100,7 @@ fn plain_read(alloc: Global, file: u32, block: u32) -> Result<String, NoMemory>
 }
 
 /// A READ that wants a lease.
-#[tactic(auto, using(nq_chart::proofs::Joined::ended), unfolding(crate::specs::Words::wanting_read))]
+#[tactic(auto, using(crate::proofs::Joined::ended), unfolding(crate::specs::Words::wanting_read))]
 fn wanting_read(alloc: Global, file: u32, block: u32, mode: Mode) -> Result<String, NoMemory>
     ensures { IfOk result (λ text. string_bytes text ≡ wanting_read file block mode) }
 {
@@ -118,7 +118,7 @@ fn wanting_read(alloc: Global, file: u32, block: u32, mode: Mode) -> Result<Stri
 }
 
 /// A WRITE.
-#[tactic(auto, using(nq_chart::proofs::Joined::ended), unfolding(crate::specs::Words::write_words))]
+#[tactic(auto, using(crate::proofs::Joined::ended), unfolding(crate::specs::Words::write_words))]
 fn write_words(
     alloc: Global,
     file: u32,
@@ -159,7 +159,7 @@ fn write_words(
 }
 
 /// A GETLEASE.
-#[tactic(auto, using(nq_chart::proofs::Joined::ended), unfolding(crate::specs::Words::lease_words))]
+#[tactic(auto, using(crate::proofs::Joined::ended), unfolding(crate::specs::Words::lease_words))]
 fn lease_words(alloc: Global, file: u32, want: &Want) -> Result<String, NoMemory>
     ensures { IfOk result (λ text. string_bytes text ≡ lease_words file want.now) }
 {
@@ -204,7 +204,7 @@ fn refused(alloc: Global, status: Refusal) -> Result<String, NoMemory>
 }
 
 /// A status and a revision.
-#[tactic(auto, using(nq_chart::proofs::Joined::ended), unfolding(crate::specs::Words::revised))]
+#[tactic(auto, using(crate::proofs::Joined::ended), unfolding(crate::specs::Words::revised))]
 fn revised(alloc: Global, status: &str, rev: u64) -> Result<String, NoMemory>
     ensures { IfOk result (λ text. string_bytes text ≡ revised status.now rev) }
 {

@@ -1,13 +1,14 @@
 //! Events as the rows of a chart.
 
 use crate::NoMemory;
+use crate::chart::{Note, Part, Row, Side, Sign, filled, text_of};
 use crate::drawing::{outer, place_of};
 use crate::lists::Growing;
 use crate::record::{Act, Moment, Record, Sent};
-use crate::text::{filled, owned};
+use crate::text::owned;
 use nq_base::Party;
-use nq_chart::{Note, Part, Row, Side, Sign, text_of};
 use std::alloc::Global;
+use std::mem;
 
 /// The rows of a chart, and in which of them each event stands.
 #[derive(Drop)]
@@ -49,59 +50,58 @@ impl Rows {
         }
     }
 
-    /// The rows.
-    pub(crate) fn finish(self) -> Result<Vec<Row>, NoMemory> {
+    /// Whether memory was wanting.
+    pub(crate) fn is_short(&self) -> bool {
+        self.rows.is_short || self.places.is_short
+    }
+
+    /// The rows, as many as there was memory for.
+    pub(crate) fn into_rows(self) -> Vec<Row> {
         let Rows {
             from: _,
             to: _,
             rows,
-            places,
+            places: _places,
         } = self;
-        places.finish()?;
-        rows.finish()
+        rows.into_items()
     }
 }
 
 /// What the clocks show that no row has told yet, by the places of the parties.
 #[derive(Drop)]
 struct Clocks {
-    shown: Vec<Option<u64>>,
+    shown: Growing<Option<u64>>,
 }
 
 impl Clocks {
-    /// Clocks that all show 0.
-    fn new(alloc: Global, parties: usize) -> Result<Clocks, NoMemory> {
-        let shown = vec![in alloc; Some(0u64); parties]?;
-        Ok(Clocks { shown })
+    /// Clocks of so many parties that all show this time.
+    fn new(alloc: Global, parties: usize, time: Option<u64>) -> Clocks {
+        let mut shown = Growing::new(alloc);
+        for _ in 0..parties {
+            shown.push(time);
+        }
+        Clocks { shown }
     }
 
     /// Notes what a clock shows.
     fn show(&mut self, place: usize, time: u64) {
-        if let Some(shown) = self.shown.get_mut(place) {
+        if let Some(shown) = self.shown.items.get_mut(place) {
             *shown = Some(time);
         }
     }
 
     /// What the clocks show; from then on nothing is untold.
     fn take(&mut self, alloc: Global) -> Result<Vec<Option<u64>>, NoMemory> {
-        let mut told = Growing::new(alloc);
-        for shown in self.shown.iter_mut() {
-            told.push(*shown);
-            *shown = None;
-        }
-        told.finish()
+        let untold = Clocks::new(alloc, self.shown.len(), None);
+        let Clocks { shown } = mem::replace(self, untold);
+        shown.finish()
     }
 }
 
 /// The rows of the events from `from` to `to`. Ticks in which nothing else happens share a row.
-pub(crate) fn rows_of(
-    alloc: Global,
-    record: &Record,
-    from: usize,
-    to: usize,
-) -> Result<Rows, NoMemory> {
-    let marked = marked(alloc, record)?;
-    let mut clocks = Clocks::new(alloc, (record.hosts as usize).saturating_add(1))?;
+pub(crate) fn rows_of(alloc: Global, record: &Record, from: usize, to: usize) -> Rows {
+    let parties = (record.hosts as usize).saturating_add(1);
+    let mut clocks = Clocks::new(alloc, parties, Some(0));
     let mut rows = Rows::new(alloc, from, to);
     let mut idle = Idle {
         first: from,
@@ -111,7 +111,7 @@ pub(crate) fn rows_of(
     for (place, moment) in record.moments.iter().enumerate() {
         clocks.show(place_of(record.hosts, moment.party), moment.clock.0);
         if place >= from && place <= to {
-            if is_idle(&marked, place, moment) {
+            if is_idle(moment) {
                 idle.add(place, moment);
             } else {
                 idle.end(alloc, record.hosts, &mut rows, &mut clocks);
@@ -120,35 +120,12 @@ pub(crate) fn rows_of(
         }
     }
     idle.end(alloc, record.hosts, &mut rows, &mut clocks);
-    Ok(rows)
-}
-
-/// Which events begin or end something that lasts.
-fn marked(alloc: Global, record: &Record) -> Result<Vec<bool>, NoMemory> {
-    let mut marked = vec![in alloc; false; record.moments.len()]?;
-    for span in &record.spans {
-        mark(&mut marked, span.first);
-        if !span.open {
-            mark(&mut marked, span.last);
-        }
-    }
-    Ok(marked)
-}
-
-/// Marks an event.
-fn mark(marked: &mut Vec<bool>, place: usize) {
-    if let Some(mark) = marked.get_mut(place) {
-        *mark = true;
-    }
+    rows
 }
 
 /// Whether an event is a tick in which nothing else happens.
-fn is_idle(marked: &Vec<bool>, place: usize, moment: &Moment) -> bool {
-    let is_marked = match marked.get(place) {
-        Some(mark) => *mark,
-        None => false,
-    };
-    matches!(moment.act, Act::Tick) && moment.sent == 0 && moment.made == 0 && !is_marked
+fn is_idle(moment: &Moment) -> bool {
+    matches!(moment.act, Act::Tick) && moment.sent == 0 && moment.made == 0 && moment.changed == 0
 }
 
 /// Ticks in which nothing else happens, one after the other.
@@ -171,19 +148,6 @@ impl Idle {
         self.count = self.count.saturating_add(1);
     }
 
-    /// How they are named at the edge.
-    fn name(&self, alloc: Global) -> Result<String, NoMemory> {
-        let form = if self.count == 1 { "#" } else { "#-#" };
-        let last = self.first.saturating_add(self.count).saturating_sub(1);
-        filled(alloc, form, &[self.first as u64, last as u64])
-    }
-
-    /// What is told of them.
-    fn text(&self, alloc: Global) -> Result<String, NoMemory> {
-        let form = if self.count == 1 { "tick" } else { "# ticks" };
-        filled(alloc, form, &[self.count as u64])
-    }
-
     /// Gives them a row, if there are any.
     fn end(&mut self, alloc: Global, hosts: u32, rows: &mut Rows, clocks: &mut Clocks) {
         if self.count > 0 {
@@ -194,26 +158,39 @@ impl Idle {
 
     /// Their row.
     fn row(&self, alloc: Global, hosts: u32, clocks: &mut Clocks) -> Result<Row, NoMemory> {
-        let mut notes = Growing::new(alloc);
+        let (name, text) = if self.count == 1 {
+            ("#", "tick")
+        } else {
+            ("#-#", "# ticks")
+        };
+        let last = self.first.saturating_add(self.count).saturating_sub(1);
         let side = outer(hosts, self.party);
-        notes.add(note(side, Sign::Plain, self.text(alloc)));
+        let text = filled(alloc, text, &[self.count as u64]);
+        let mut notes = Growing::new(alloc);
+        notes.add(note(side, Sign::Plain, text));
         let party = place_of(hosts, self.party);
-        row(self.name(alloc), clocks.take(alloc), party, notes.finish())
+        let numbers = [self.first as u64, last as u64];
+        row(alloc, name, &numbers, clocks, party, notes)
     }
 }
 
-/// A row, if there was memory for what stands in it.
+/// A row with these notes, whose name is a form and its numbers.
 fn row(
-    name: Result<String, NoMemory>,
-    clocks: Result<Vec<Option<u64>>, NoMemory>,
+    alloc: Global,
+    form: &str,
+    numbers: &[u64],
+    clocks: &mut Clocks,
     party: usize,
-    notes: Result<Vec<Note>, NoMemory>,
+    notes: Growing<Note>,
 ) -> Result<Row, NoMemory> {
+    let notes = notes.finish()?;
+    let name = filled(alloc, form, numbers)?;
+    let clocks = clocks.take(alloc)?;
     Ok(Row {
-        name: name?,
-        clocks: clocks?,
+        name,
+        clocks,
         party,
-        notes: notes?,
+        notes,
     })
 }
 
@@ -234,18 +211,13 @@ fn event_row(
     moment: &Moment,
     clocks: &mut Clocks,
 ) -> Result<Row, NoMemory> {
-    let name = filled(alloc, "#", &[place as u64]);
     let party = place_of(record.hosts, moment.party);
-    row(
-        name,
-        clocks.take(alloc),
-        party,
-        notes(alloc, record, moment),
-    )
+    let notes = notes(alloc, record, moment);
+    row(alloc, "#", &[place as u64], clocks, party, notes)
 }
 
 /// The notes of an event.
-fn notes(alloc: Global, record: &Record, moment: &Moment) -> Result<Vec<Note>, NoMemory> {
+fn notes(alloc: Global, record: &Record, moment: &Moment) -> Growing<Note> {
     let mut notes = Growing::new(alloc);
     let side = arrival_note(alloc, record, moment, &mut notes);
     entry_notes(alloc, record, moment, side, &mut notes);
@@ -253,7 +225,7 @@ fn notes(alloc: Global, record: &Record, moment: &Moment) -> Result<Vec<Note>, N
     if notes.len() == 0 {
         notes.add(note(side, Sign::Plain, owned(alloc, act_word(moment.act))));
     }
-    notes.finish()
+    notes
 }
 
 /// The note of the packet that arrives, if one does; the side on which the other notes stand.

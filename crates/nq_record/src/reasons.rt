@@ -1,13 +1,13 @@
 //! Why an entry came.
 
-ghost use Rattle.nq_chart.specs.Page.{Extends};
+ghost use Rattle.nq_record.specs.Page.{Extends};
 
 use crate::NoMemory;
+use crate::chart::Page;
 use crate::lists::Growing;
 use crate::record::{Act, Record};
 use crate::telling::tell_moment;
 use nq_base::{BlockNo, Entry, FileId, Number, Said, Who};
-use nq_chart::Page;
 use std::alloc::Global;
 
 /// Appends the events that led to an entry, newest first, each as `tell` tells it. What stood in the text before stays in
@@ -48,8 +48,8 @@ fn led_to(
     place: usize,
 ) -> Result<Vec<usize>, NoMemory> {
     let mut led = Growing::new(alloc);
-    let mut open = Vec::new(alloc);
-    open.push(place)?;
+    let mut open = Growing::new(alloc);
+    open.push(place);
     for _ in 0..entries.len() {
         let Some(entry) = open.pop() else {
             break;
@@ -58,20 +58,24 @@ fn led_to(
             follow_packets(record, moment, &mut led);
         }
         if let Some(source) = source_of(entries, entry) {
-            open.push(source)?;
+            open.push(source);
             if let Some(end) = end_between(entries, source, entry) {
-                open.push(end)?;
+                open.push(end);
             }
         }
     }
+    open.finish()?;
     led.finish()
 }
 
 /// The event that made an entry.
 fn moment_of(record: &Record, entry: usize) -> Option<usize> {
-    record.moments.iter().position(|moment| {
-        moment.entries <= entry && entry < moment.entries.saturating_add(moment.made)
-    })
+    for (place, moment) in record.moments.iter().enumerate() {
+        if moment.entries <= entry && entry < moment.entries.saturating_add(moment.made) {
+            return Some(place);
+        }
+    }
+    None
 }
 
 /// Adds an event, the event that sent the packet that arrives in it, and so on.
@@ -204,33 +208,17 @@ fn end_between(entries: &[Entry], written: usize, place: usize) -> Option<usize>
     let mut silence = None;
     let mut boot = None;
     for (earlier, before) in entries.iter().enumerate() {
-        let is_between = written < earlier && earlier < place;
-        if is_between && is_end(before, *who, *file) {
-            silence = Some(earlier);
-        }
-        if is_between && is_boot(before) {
-            boot = Some(earlier);
+        if written < earlier && earlier < place {
+            match before {
+                Entry::F {
+                    who: silent,
+                    file: of,
+                    ..
+                } if *silent == *who && *of == *file => silence = Some(earlier),
+                Entry::X { .. } => boot = Some(earlier),
+                _ => {}
+            }
         }
     }
     silence.or(boot)
-}
-
-/// Whether an entry is the end in silence of a lease of this client.
-fn is_end(before: &Entry, who: Who, file: FileId) -> bool {
-    match before {
-        Entry::F {
-            who: silent,
-            file: of,
-            ..
-        } => *silent == who && *of == file,
-        _ => false,
-    }
-}
-
-/// Whether an entry is a boot of the server.
-fn is_boot(before: &Entry) -> bool {
-    match before {
-        Entry::X { .. } => true,
-        _ => false,
-    }
 }

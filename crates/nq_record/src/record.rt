@@ -1,8 +1,8 @@
 //! What was seen.
 
+use crate::chart::Sign;
 use crate::spans::{Change, Span};
 use nq_base::{Party, Ticks};
-use nq_chart::Sign;
 
 /// A run as it was seen. Events and entries are meant by their places, packets by their numbers; all are counted from 0.
 #[derive(Drop)]

@@ -3,7 +3,7 @@
 use nq_base::{FileId, Host, Mode, Party};
 
 /// What lasts: a lease at its holder, a row at the server, or a recovery.
-#[derive(Clone, Copy, PartialEq, Eq)]
+#[derive(Clone, Copy, PartialEq)]
 pub enum Kind {
     /// A lease that a host holds.
     Lease {

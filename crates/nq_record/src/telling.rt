@@ -1,13 +1,14 @@
 //! A run, told line by line.
 
-ghost use Rattle.nq_chart.specs.Page.{Extends};
+ghost use Rattle.nq_record.specs.Page.{Extends};
 
 use crate::NoMemory;
-use crate::columns::{put_left, put_right};
+use crate::chart::{Page, Part};
+use crate::columns::{put_blanks, put_right};
 use crate::record::{Act, Moment, Record, Sent};
 use crate::spans::{Change, Kind};
 use crate::text::{mode_word, party_parts};
-use nq_chart::{Page, Part};
+use nq_base::Mode;
 use std::alloc::Global;
 
 /// Appends a line for each event: its number, who acts and what the clock of that party shows, what happens, how many rows the server
@@ -42,9 +43,13 @@ pub(crate) fn tell_moment(record: &Record, place: usize, page: &mut Page) {
 /// Puts the columns of an event that have a fixed width.
 fn tell_act(record: &Record, place: usize, moment: &Moment, page: &mut Page) {
     put_right(page, place as u64, 6, " ");
-    put_left(page, &party_parts(moment.party), 8);
+    let clock = page.len().saturating_add(8);
+    page.put(&party_parts(moment.party));
+    put_blanks(page, clock);
     put_right(page, moment.clock.0, 7, "  ");
-    put_left(page, &act_parts(record, place, moment.act), 52);
+    let counts = page.len().saturating_add(52);
+    tell_what(record, place, moment.act, page);
+    put_blanks(page, counts);
     tell_counts(moment, page);
 }
 
@@ -56,39 +61,27 @@ fn tell_counts(moment: &Moment, page: &mut Page) {
     put_right(page, moment.dirty as u64, 4, "");
 }
 
-/// What happens, in words.
-fn act_parts(record: &Record, place: usize, act: Act) -> [Part; 4] {
-    match act {
-        Act::Arrival(number) => arrival_parts(record, place, number),
-        Act::Call => alone("call"),
-        Act::Tick => alone("tick"),
-        Act::Restart => alone("restart"),
-        Act::Crash => alone("crash"),
-    }
-}
-
-/// A word alone.
-fn alone(word: &str) -> [Part; 4] {
-    [
-        Part::Text(word),
-        Part::Text(""),
-        Part::Text(""),
-        Part::Text(""),
-    ]
-}
-
-/// An arrival in words.
-fn arrival_parts(record: &Record, place: usize, number: u64) -> [Part; 4] {
-    let (again, words) = match record.packets.get(number as usize) {
-        Some(sent) => (again_word(sent, place), sent.words.as_str()),
-        None => ("", ""),
+/// Puts what happens.
+fn tell_what(record: &Record, place: usize, act: Act, page: &mut Page) {
+    let word = match act {
+        Act::Arrival(number) => return tell_arrival(record, place, number, page),
+        Act::Call => "call",
+        Act::Tick => "tick",
+        Act::Restart => "restart",
+        Act::Crash => "crash",
     };
-    [
-        Part::Text("deliver "),
-        Part::Number(number),
-        Part::Text(again),
-        Part::Text(words),
-    ]
+    page.put(&[Part::Text(word)]);
+}
+
+/// Puts an arrival.
+fn tell_arrival(record: &Record, place: usize, number: u64, page: &mut Page) {
+    page.fill("deliver #", &[number]);
+    if let Some(sent) = record.packets.get(number as usize) {
+        page.put(&[
+            Part::Text(again_word(sent, place)),
+            Part::Text(sent.words.as_str()),
+        ]);
+    }
 }
 
 /// What stands between the number of a packet that arrives and its words.
@@ -109,7 +102,7 @@ fn tell_changes(record: &Record, moment: &Moment, page: &mut Page) {
         }
     }
     if let Some(blocks) = moment.delays {
-        page.put(&[Part::Text(" | delayed "), Part::Number(blocks as u64)]);
+        page.fill(" | delayed #", &[blocks as u64]);
     }
 }
 
@@ -119,21 +112,22 @@ fn tell_change(change: &Change, page: &mut Page) {
     page.put(&[Part::Text(sign)]);
     match change.kind {
         Kind::Recovery => page.put(&[Part::Text("recovery")]),
-        Kind::Lease { file, mode } => page.put(&[
-            Part::Text("lease "),
-            Part::Text(mode_word(mode)),
-            Part::Text(" "),
-            Part::Number(file.0 as u64),
-        ]),
-        Kind::Row { file, host, mode } => page.put(&[
-            Part::Text("row "),
-            Part::Text(mode_word(mode)),
-            Part::Text(" "),
-            Part::Number(file.0 as u64),
-            Part::Text(" of host "),
-            Part::Number(host.0 as u64),
-        ]),
+        Kind::Lease { file, mode } => tell_lease("lease ", mode, file.0, page),
+        Kind::Row { file, host, mode } => {
+            tell_lease("row ", mode, file.0, page);
+            page.fill(" of host #", &[host.0 as u64]);
+        }
     }
+}
+
+/// Puts a word, the kind of a lease and its file.
+fn tell_lease(word: &str, mode: Mode, file: u32, page: &mut Page) {
+    page.put(&[
+        Part::Text(word),
+        Part::Text(mode_word(mode)),
+        Part::Text(" "),
+        Part::Number(file as u64),
+    ]);
 }
 
 /// Puts the packets that an event sends.
@@ -148,11 +142,7 @@ fn tell_packets(record: &Record, moment: &Moment, page: &mut Page) {
 
 /// Puts a packet that is sent, behind a bar: its number, to whom it goes, and what it says.
 fn tell_packet(number: u64, sent: &Sent, page: &mut Page) {
-    page.put(&[
-        Part::Text(" | sends "),
-        Part::Number(number),
-        Part::Text(" to "),
-    ]);
+    page.fill(" | sends # to ", &[number]);
     page.put(&party_parts(sent.to));
     page.put(&[Part::Text(": "), Part::Text(sent.words.as_str())]);
 }

@@ -1,23 +1,21 @@
 //! Text.
 
 ghost use Rattle.std.specs.Prelude.{◌≡◌, string_bytes, IfOk};
-ghost use Rattle.nq_chart.specs.Page.{Extends};
+ghost use Rattle.nq_record.specs.Page.{Extends};
 ghost use Rattle.nq_record.specs.Words.{mode_word};
 
 use crate::NoMemory;
+use crate::chart::{Part, text_of};
 use nq_base::{Mode, Name, Party};
-use nq_chart::{Part, text_of};
 use std::alloc::Global;
+use std::str;
 
 /// Appends a name, which is printable ASCII, behind a word.
 pub(crate) fn named(alloc: Global, word: &str, name: &Name) -> Result<String, NoMemory>
     ensures { IfOk result (λ text. Extends word.now (string_bytes text)) }
 {
-    let mut text = String::new(alloc);
-    text.push_str(word)?;
-    for byte in name.as_bytes() {
-        text.push(*byte as char)?;
-    }
+    let letters = str::from_utf8(name.as_bytes()).unwrap_or("");
+    let text = text_of(alloc, &[Part::Text(word), Part::Text(letters)])?;
     Ok(text)
 }
 
@@ -26,23 +24,6 @@ pub(crate) fn owned(alloc: Global, words: &str) -> Result<String, NoMemory>
     ensures { IfOk result (λ text. string_bytes text ≡ words.now) }
 {
     Ok(String::from_str(alloc, words)?)
-}
-
-/// A form in which these numbers stand for the signs `#`, in their order. A sign for which there is no number is left out, and so is
-/// a number for which there is no sign.
-pub(crate) fn filled(alloc: Global, form: &str, numbers: &[u64]) -> Result<String, NoMemory> {
-    let mut text = String::new(alloc);
-    let mut signs = 0usize;
-    for words in form.split('#') {
-        if signs > 0 {
-            if let Some(number) = numbers.get(signs - 1) {
-                text.push_str(text_of(alloc, &[Part::Number(*number)])?.as_str())?;
-            }
-        }
-        text.push_str(words)?;
-        signs = signs.saturating_add(1);
-    }
-    Ok(text)
 }
 
 /// The word of a kind of lease.
@@ -54,11 +35,6 @@ pub(crate) fn mode_word(mode: Mode) -> &'static str
         Mode::Reading => "reading",
         Mode::Writing => "writing",
     }
-}
-
-/// The name of a party.
-pub(crate) fn party_name(alloc: Global, party: Party) -> Result<String, NoMemory> {
-    text_of(alloc, &party_parts(party))
 }
 
 /// The parts of the name of a party.

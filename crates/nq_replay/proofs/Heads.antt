@@ -1,33 +1,18 @@
 -- A schedule that was read can be played over a world.
 use Rattle.std.proofs.Common.{◌≡◌, ◌⊎◌, inl, inr, ℕ, ◌+◌, ◌<◌, ◌≤◌, ◌^◌, List, [], ◌∷◌, ◌++◌, length, arith, length-append}
 use Rattle.std.specs.Prelude.{codes}
-use Rattle.law_bounds.specs.Within.{AreDistinct, IsNew}
 use Rattle.nq_base.specs.declared.Event.{Event}
 use Rattle.nq_model.specs.Profile.{shortest_term}
 use Rattle.nq_replay.specs.Going.{AreForWorld, IsForWorld}
 use Rattle.nq_replay.specs.Schedules.{IsReady}
-use Rattle.nq_script.specs.Heads.{FitFiles, head_lines, AreDistinct as Differ, IsNew as IsOther}
+use Rattle.nq_script.specs.Heads.{head_lines}
 use Rattle.nq_script.specs.Lines.{Allows, HasEvent, SpellsLine}
 use Rattle.nq_script.specs.Schedule.{SpellsLines}
 use Rattle.nq_script.specs.Text.{text_of}
 use Rattle.nq_script.specs.declared.heads.Head.{Head}
 use Rattle.nq_script.specs.declared.lines.Line.{Line}
 use Rattle.nq_script.specs.declared.scripts.Script.{Script}
-use Rattle.nq_world.specs.First.{AreFirstFiles}
 use Rattle.nq_world.specs.Playing.{CanCome, HasSettings, WorldOver}
-
--- ---- the files
-
-is_new : (name : List ℕ) (files : List (List ℕ × ℕ)) → IsOther name files → IsNew name files
-is_new name [] new = tt
-is_new name (f ∷ files) new = (new.0, is_new name files new.1)
-
-are_distinct : (files : List (List ℕ × ℕ)) → Differ files → AreDistinct files
-are_distinct [] differ = tt
-are_distinct (f ∷ files) differ = (is_new f.0 files differ.0, are_distinct files differ.1)
-
-pub first_files : (files : List (List ℕ × ℕ)) → FitFiles files → AreFirstFiles files
-first_files files fit = record { each = fit.each; few_files = fit.few_files; few_blocks = fit.few_blocks; distinct = are_distinct files fit.distinct }
 
 -- ---- the events
 

@@ -14,13 +14,13 @@ use Rattle.nq_io.specs.Faults.{Rose}
 use Rattle.nq_io.specs.Sink.{AppendsFront}
 use Rattle.nq_io.specs.Told.{with_end}
 use Rattle.nq_io.specs.Whole.{IsAll, IsOver}
-use Rattle.nq_journal.specs.Fault.{IsFaultyAt, IsJournal, ended}
-use Rattle.nq_journal.specs.Parsing.{IsFault, IsTextOf, named}
-use Rattle.nq_journal.specs.Text.{IsText, entry_line, entry_words, end_line, head_line, journal_text}
+use Rattle.nq_script.specs.Fault.{IsFaultyAt, IsJournal, ended}
+use Rattle.nq_script.specs.Parsing.{IsFault, IsTextOf, named}
+use Rattle.nq_script.specs.JournalText.{IsText, entry_line, entry_words, end_line, head_line, journal_text}
 use Rattle.nq_replay.specs.Ending.{IsUnlessFault, TellsOver}
 use Rattle.nq_replay.specs.Judging.{IsJudged, IsSaidUnlessFault, Judges, JudgesText, PrintsWrong, TellsVerdict, yes_line}
 use Rattle.nq_replay.specs.Lines.{PrintsLine, script_line}
-use Rattle.nq_words.specs.Words.{line, joined}
+use Rattle.nq_script.specs.Words.{line, joined}
 
 -- ---- the place of a fault
 

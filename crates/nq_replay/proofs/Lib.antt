@@ -2,7 +2,6 @@ mod Appending
 mod Endings
 mod Joining
 pub mod AsidesOnward
-pub mod Begun
 pub mod Dropping
 pub mod Ending
 pub mod FirstRuns
@@ -21,10 +20,8 @@ pub mod Onward
 pub mod Outcomes
 pub mod Overs
 pub mod Printings
-pub mod Putting
 pub mod Readied
 pub mod Reversing
-pub mod Seconds
 pub mod Skewing
 pub mod Spelling
 pub mod Steps

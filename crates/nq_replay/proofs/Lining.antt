@@ -11,8 +11,8 @@ use Rattle.nq_script.specs.Schedule.{SpellsSchedule}
 use Rattle.nq_script.specs.Text.{Lacks, text_of}
 use Rattle.nq_script.specs.declared.heads.Head.{Head}
 use Rattle.nq_script.specs.declared.lines.Line.{Line}
-use Rattle.nq_words.proofs.LineWords.{IsCut, cut_found}
-use Rattle.nq_words.specs.Reading.{cut as cut_at}
+use Rattle.nq_script.proofs.LineWords.{IsCut, cut_found}
+use Rattle.nq_script.specs.WordsReading.{cut as cut_at}
 
 other-byte : (b : ℕ) → b ≢ 10 → (b == 10) ≡ false
 other-byte b other = ne_eqb b 10 other

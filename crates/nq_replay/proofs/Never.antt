@@ -5,8 +5,8 @@ use Rattle.nq_io.specs.Faults.{Rose}
 use Rattle.nq_keeper.specs.StoredKeeper.{StoredKeeper, GoesOn, empty_kept}
 use Rattle.nq_replay.specs.Going.{said}
 use Rattle.nq_replay.specs.declared.play.played.Played.{Played}
-use Rattle.nq_replay.specs.Beginning.{NeverFails}
 use Rattle.nq_replay.specs.Schedules.{HasReason}
+use Rattle.nq_world.specs.Beginning.{NeverFails}
 use Rattle.nq_world.specs.Playing.{CountsFaults}
 use Rattle.nq_world.specs.declared.stepped.Stepped.{Stepped}
 

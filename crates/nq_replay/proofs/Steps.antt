@@ -11,7 +11,7 @@ use Rattle.nq_replay.specs.Delivering.{Marks, least_undelivered, next_packet}
 use Rattle.nq_replay.specs.Going.{Goes, HasFlag, IsAt, WasRefused, WentTo}
 use Rattle.nq_replay.specs.Playing.{Played, answered, play_event, refused, took}
 use Rattle.nq_world.specs.Answering.{told as answer_of}
-use Rattle.nq_world.specs.Playing.{CountsFaults, HasSettings, Plays, Steps, WorldOver}
+use Rattle.nq_world.specs.Playing.{CountsFaults, GoesOn, HasSettings, Plays, Steps, WorldOver}
 use Rattle.nq_world.specs.Shown.{datagram}
 use Rattle.nq_world.specs.declared.stepped.Stepped.{Stepped}
 
@@ -27,15 +27,24 @@ next-is head events w told flags sent next at many least =
     sym (rw all at least events at.marks)
 
 -- the count of faults over two steps
-pub faults-on : (said : Stepped) (first second last : ℕ) → second ≡ first → CountsFaults said second last → CountsFaults said first last
+faults-on : (said : Stepped) (first second last : ℕ) → second ≡ first → CountsFaults said second last → CountsFaults said first last
 faults-on said first second last is counts = subst (λ n. CountsFaults said n last) is counts
 
 -- what a world keeps over two steps
-pub settings-on : {K : Type 0} (hosts longest term : ℕ) (old new : WorldOver K) → HasSettings hosts longest term old → HasSettings (length old.clients) old.skew.window old.term new → HasSettings hosts longest term new
+settings-on : {K : Type 0} (hosts longest term : ℕ) (old new : WorldOver K) → HasSettings hosts longest term old → HasSettings (length old.clients) old.skew.window old.term new → HasSettings hosts longest term new
 settings-on hosts longest term old new first second = record {
   hosts_are = second.hosts_are ∙ first.hosts_are;
   longest_is = second.longest_is ∙ first.longest_is;
   term_is = second.term_is ∙ first.term_is;
+}
+
+-- what holds of a world over two steps, of which the first was taken
+pub keeps-on : {K : Type 0} (faults : K → ℕ) (follows : K → K → Type 0) (said : Stepped) (old mid new : WorldOver K) → ((a b c : K) → follows a b → follows b c → follows a c)
+    → GoesOn faults follows Stepped.Done old mid → GoesOn faults follows said mid new → GoesOn faults follows said old new
+keeps-on faults follows said old mid new on first second = record {
+  counts = faults-on said (faults old.server.keeper) (faults mid.server.keeper) (faults new.server.keeper) first.counts second.counts;
+  keeper = on _ _ _ first.keeper second.keeper;
+  settings = settings-on _ _ _ mid new first.settings second.settings;
 }
 
 -- a delivery that is taken is that of a packet that was sent

@@ -1,7 +1,7 @@
 -- Entries of calls and boots that version 1 has.
 use Rattle.std.proofs.Common.{◌≡◌, List, [], ◌∷◌, ◌++◌}
 use Rattle.nq_base.specs.declared.Entry.{Entry}
-use Rattle.nq_words.specs.Forms.{HasTold}
+use Rattle.nq_script.specs.Forms.{HasTold}
 use Rattle.nq_model.specs.Journal.{Each}
 use Rattle.walk_steps.proofs.ClientEntries.{AnyCall, AnyLength, OfClient}
 use Rattle.walk_steps.proofs.ServerEntries.{OfServer}

@@ -12,8 +12,8 @@ use Rattle.nq_io.specs.Faults.{Rose}
 use Rattle.nq_io.specs.Sink.{AppendsFront}
 use Rattle.nq_io.specs.Told.{with_end}
 use Rattle.nq_io.specs.Whole.{TakesSome}
-use Rattle.nq_journal.specs.Fault.{IsFaultyAt}
-use Rattle.nq_journal.specs.Text.{IsText}
+use Rattle.nq_script.specs.Fault.{IsFaultyAt}
+use Rattle.nq_script.specs.JournalText.{IsText}
 use Rattle.nq_replay.specs.Ending.{IsFault}
 use Rattle.nq_replay.specs.Lines.{PrintsLine, script_line}
 use Rattle.nq_replay.specs.Replay.{OfInput, PrintsLimit, TakesInput}

@@ -7,6 +7,7 @@ use Rattle.nq_replay.specs.Delivering.{next_packet}
 use Rattle.nq_script.specs.Heads.{head_lines}
 use Rattle.nq_script.specs.declared.heads.Head.{Head}
 use Rattle.nq_script.specs.declared.lines.Line.{Line}
+pub use Rattle.nq_world.specs.Beginning.{beginning}
 
 -- the events of a run behind which all went well, or what was answered to the first event that was not taken
 pub data Played : Type 0 where
@@ -78,10 +79,6 @@ abbrev pub play_lines : Beginning → (most number : ℕ) → List Line → (ear
 play_lines head most number [] earlier = ran earlier
 play_lines head most number (line ∷ lines) earlier =
     at_line number (play_line head most line earlier) (play_lines head most (number + 1) lines)
-
--- with what the run of a schedule begins
-abbrev pub beginning : Head → Beginning
-beginning head = record { hosts = head.hosts; term = head.term; longest = head.longest; files = head.files }
 
 -- a schedule is played from the start; one delivery more than a schedule may have events is one too many
 unfoldable pub play : Head → List Line → Ended

@@ -4,9 +4,7 @@
 //! What such a text is stands in `specs/Text`.
 
 mod aside;
-mod printing;
 mod scripts;
 
 pub use aside::{AsideLine, aside_at};
-pub use printing::print_parts;
-pub use scripts::{MixedScript, VERSION, read_script};
+pub use scripts::{MixedScript, read_script};

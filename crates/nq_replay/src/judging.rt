@@ -2,7 +2,7 @@
 
 ghost use Rattle.std.specs.Prelude.{◌≡◌, ◌<◌, ◌≤◌, ◌^◌, ◌+◌, ℕ, List, IfOk, Some, length, string_bytes};
 ghost use Rattle.nq_check.specs.Verdict.{Fault, IsVerdict};
-ghost use Rattle.nq_journal.specs.Fault.{IsFaultyAt, IsJournal};
+ghost use Rattle.nq_script.specs.Fault.{IsFaultyAt, IsJournal};
 ghost use Rattle.nq_base.specs.declared.ending.ending.Ending.{Ending};
 ghost use Rattle.nq_replay.specs.Ending.{IsUnlessFault};
 ghost use Rattle.nq_replay.specs.Judging.{IsSaidUnlessFault, Judges, JudgesText, TellsVerdict, no_line};
@@ -12,7 +12,7 @@ use nq_base::NoMemory;
 use nq_base::ending::Ending;
 use nq_check::{Judged, Rule, check};
 use nq_io::{Put, Sink, Source, Whole, read_all};
-use nq_journal::{JournalFault, parse};
+use nq_script::journal::{JournalFault, parse};
 use std::alloc::Global;
 
 /// Reads a journal to the end of the input, of at most so many bytes, and judges it, as `docs/check.md` tells. How it ends:

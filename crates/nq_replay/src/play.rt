@@ -9,11 +9,9 @@ mod events;
 mod laws;
 mod lines;
 mod played;
-mod starting;
 
 pub use delivered::Delivered;
 pub use events::note;
 pub use laws::played_runs_are_lawful;
-pub use lines::play;
+pub(crate) use lines::play;
 pub use played::Played;
-pub use starting::{begin, begin_surely};

@@ -4,7 +4,7 @@ ghost use Rattle.std.specs.Prelude.{◌≡◌, ℕ, List, [], Some, All, map};
 ghost use Rattle.nq_base.specs.Plain.{plain};
 ghost use Rattle.nq_base.specs.declared.Entry.{Entry};
 ghost use Rattle.nq_base.specs.declared.ending.ending.Ending.{Ending};
-ghost use Rattle.nq_journal.specs.Text.{Has, IsVersion};
+ghost use Rattle.nq_script.specs.JournalText.{Has, IsVersion};
 ghost use Rattle.nq_keeper.specs.StoredKeeper.{empty_kept};
 ghost use Rattle.nq_replay.specs.Going.{Comes, said};
 ghost use Rattle.nq_replay.specs.Playing.{Ended, beginning, play};
@@ -17,15 +17,15 @@ ghost use Rattle.nq_world.specs.Playing.{CountsFaults, HasSettings, Plays};
 ghost use Rattle.nq_world.specs.declared.stepped.Stepped.{Stepped};
 
 use crate::finished::Finished;
-use crate::play::{Played, begin, play};
+use crate::play::{Played, play};
 use crate::printing::{Bound, limit_text, put_line, script_text, skew_text};
 use nq_base::ending::Ending;
 use nq_base::{Journal, SkewBroken};
 use nq_io::Sink;
-use nq_journal::{Printed, is_in, print};
 use nq_keeper::Keeper;
 use nq_script::Script;
-use nq_world::{Limit, MOST_EVENTS, NewFault, Stepped, World};
+use nq_script::journal::{Printed, print};
+use nq_world::{Limit, MOST_EVENTS, NewFault, Stepped, World, begin};
 use std::alloc::Global;
 
 /// Plays a schedule that was read over a keeper that keeps nothing yet, and prints the journal of its run in the version of the
@@ -162,24 +162,6 @@ fn print_entries<K: Sink>(alloc: Global, journal: &Journal, version: u32, out: &
         Printed::All => Ending::Done,
         Printed::Failed => Ending::WriteFault,
         Printed::Memory => Ending::Memory,
-    }
-}
-
-/// Prints a journal in a version. `Memory` is the answer too where the version has no spelling for one of its entries.
-pub(crate) fn print_journal<K: Sink>(
-    alloc: Global,
-    journal: &Journal,
-    version: u32,
-    out: &mut K,
-) -> Ending
-    requires { IsVersion version }
-    ensures { (entries : List Entry) → map plain journal.now.entries ≡ entries
-        → PrintsEntries result version entries (K.held out.old) (K.held out.new) (K.faults out.old) (K.faults out.new) }
-{
-    if is_in(journal, version) {
-        print_entries(alloc, journal, version, out)
-    } else {
-        Ending::Memory
     }
 }
 

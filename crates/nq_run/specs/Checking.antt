@@ -3,7 +3,7 @@
 use Rattle.std.specs.Prelude.{◌≡◌, ◌<◌, ◌≤◌, ℕ, List, Option, Some, length}
 use Rattle.nq_base.specs.Status.{status_of}
 use Rattle.nq_base.specs.declared.ending.ending.Ending.{Ending}
-use Rattle.nq_journal.specs.Fault.{IsFaultyAt, IsJournal}
+use Rattle.nq_script.specs.Fault.{IsFaultyAt, IsJournal}
 use Rattle.nq_replay.specs.Ending.{IsUnlessFault}
 use Rattle.nq_replay.specs.Judging.{IsSaidUnlessFault, Judges}
 

@@ -12,7 +12,7 @@ mod storming;
 mod top;
 mod usage;
 
-pub use nq_command::{Command, NoMemory, Words};
+pub use nq_script::command::{Command, NoMemory, Words};
 pub use nq_service::Ended;
 pub use nq_storm::fates::{CutFate, Fate, HostileFate, LossyFate, SteadyFate};
 pub use top::run;

@@ -14,11 +14,11 @@ use Rattle.nq_script.specs.Text.{spaced}
 use Rattle.nq_script.proofs.CallWords.{spaced-joined}
 use Rattle.nq_script.proofs.Cuts.{cut-again, cut-found, after-found}
 use Rattle.nq_script.proofs.Numbers.{decimal-lacks}
-use Rattle.nq_words.specs.Forms.{FitsTold, HasTold, SpellsTold, told_words}
-use Rattle.nq_words.specs.Reading.{cut as cut_at, u32_of}
-use Rattle.nq_words.proofs.Again.{told_spelled}
-use Rattle.nq_words.proofs.Found.{told_read}
-use Rattle.nq_words.proofs.Numerals.{u32_again, u32_found}
+use Rattle.nq_script.specs.Forms.{FitsTold, HasTold, SpellsTold, told_words}
+use Rattle.nq_script.specs.WordsReading.{cut as cut_at, u32_of}
+use Rattle.nq_script.proofs.Again.{told_spelled}
+use Rattle.nq_script.proofs.Found.{told_read}
+use Rattle.nq_script.proofs.Numerals.{u32_again, u32_found}
 use Rattle.nq_base.specs.Calls.{told}
 
 -- what a choice gives comes of the one or, where that is not there, of the other

@@ -4,8 +4,8 @@ use Rattle.std.specs.List.{flat_map}
 use Rattle.nq_base.specs.declared.Call.{Call}
 use Rattle.nq_script.specs.Calls.{FitsCall, call_words}
 use Rattle.nq_script.specs.Text.{spaced}
-use Rattle.nq_words.specs.Forms.{FitsTold, told_words}
-use Rattle.nq_words.specs.Words.{joined}
+use Rattle.nq_script.specs.Forms.{FitsTold, told_words}
+use Rattle.nq_script.specs.Words.{joined}
 use Rattle.nq_base.specs.Calls.{told}
 
 -- a word in front of the words of a call, with a blank between

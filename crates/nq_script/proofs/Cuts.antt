@@ -5,8 +5,8 @@ use Rattle.std.proofs.lemmas.Option.{none-some, same_Some}
 use Rattle.std.proofs.lemmas.Bool.{eqb-true}
 use Rattle.nq_script.specs.Reading.{after}
 use Rattle.nq_script.specs.Text.{Lacks}
-use Rattle.nq_words.specs.Reading.{cut as cut_at}
-use Rattle.nq_words.proofs.LineWords.{IsCut, cut_again, cut_found}
+use Rattle.nq_script.specs.WordsReading.{cut as cut_at}
+use Rattle.nq_script.proofs.LineWords.{IsCut, cut_again, cut_found}
 
 -- a text that begins with a prefix has the rest behind it
 pub after-again : (prefix rest : List ℕ) → after prefix (prefix ++ rest) ≡ Some rest

@@ -12,7 +12,7 @@ use Rattle.nq_script.specs.Heads.{IsNew, FitFiles, FitsHead, AreSettings, IsLong
 use Rattle.nq_script.specs.Lines.{line_of}
 use Rattle.nq_script.specs.Progress.{NoNumber, WrongFile, WrongLine, WrongEnd, ReadSoFar, EndsWith}
 use Rattle.nq_script.specs.Reading.{told_line, file_of, ranged_of}
-use Rattle.nq_words.specs.Reading.{cut as cut_at}
+use Rattle.nq_script.specs.WordsReading.{cut as cut_at}
 use Rattle.nq_script.specs.Schedule.{NamesEvents, SpellsSchedule, FirstBadHeadLine, FirstBadLine, StandsInFront}
 use Rattle.nq_script.specs.Text.{IsVersion, text_of}
 use Rattle.nq_script.specs.declared.heads.Head.{Head}

@@ -4,7 +4,7 @@ use Rattle.std.proofs.lemmas.List.{append-nil}
 use Rattle.nq_script.specs.Lines.{SpellsLine, line_of}
 use Rattle.nq_script.specs.Progress.{ReadSoFar, EndsWith, WrongLine, WrongEnd}
 use Rattle.nq_script.specs.Reading.{told_line}
-use Rattle.nq_words.specs.Reading.{cut as cut_at}
+use Rattle.nq_script.specs.WordsReading.{cut as cut_at}
 use Rattle.nq_script.specs.Schedule.{NamesEvents}
 use Rattle.nq_script.specs.Text.{text_of}
 use Rattle.nq_script.specs.declared.heads.Head.{Head}

@@ -5,7 +5,7 @@ use Rattle.std.proofs.lemmas.List.Sums.{sum_by-append}
 use Rattle.std.proofs.lemmas.Option.{none-some, some_pair_parts}
 use Rattle.nq_script.specs.Heads.{FitFiles, blocks_of, file_line, file_lines}
 use Rattle.nq_script.specs.Progress.{WrongFile}
-use Rattle.nq_words.specs.Reading.{cut as cut_at}
+use Rattle.nq_script.specs.WordsReading.{cut as cut_at}
 use Rattle.nq_script.specs.Text.{Lacks, text_of}
 use Rattle.nq_script.proofs.Cuts.{cut-again, cut-found}
 

@@ -10,7 +10,7 @@ use Rattle.nq_base.proofs.Options.{bind_some}
 use Rattle.nq_base.specs.Name.{IsName, IsNameByte}
 use Rattle.nq_script.specs.Heads.{IsFile, IsNew, FitFiles, blocks_of, file_line}
 use Rattle.nq_script.specs.Reading.{after, ranged_of, file_of}
-use Rattle.nq_words.specs.Reading.{cut as cut_at, number_of}
+use Rattle.nq_script.specs.WordsReading.{cut as cut_at, number_of}
 use Rattle.nq_script.specs.Text.{Lacks}
 use Rattle.nq_script.proofs.Cuts.{after-found, after-again, cut-found, cut-again}
 use Rattle.nq_script.proofs.Fitting.{fit-more, fit-last}

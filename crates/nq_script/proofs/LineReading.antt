@@ -11,7 +11,7 @@ use Rattle.nq_base.specs.declared.Event.{Event}
 use Rattle.nq_script.specs.Calls.{call_words}
 use Rattle.nq_script.specs.Lines.{IsRepeat, SpellsLine, line_of, longest_words}
 use Rattle.nq_script.specs.Reading.{either, after, number_then, told_of, times_of, call_line, deliver_line, server_ticks, client_ticks, tick_line, round_line, restart_line, crash_line, word_line, clock_line, told_line}
-use Rattle.nq_words.specs.Reading.{number_of, u32_of}
+use Rattle.nq_script.specs.WordsReading.{number_of, u32_of}
 use Rattle.nq_script.specs.declared.heads.Head.{Head}
 use Rattle.nq_script.specs.declared.lines.Line.{Line}
 use Rattle.nq_script.specs.declared.lines.ToldLine.{ToldLine}

@@ -5,9 +5,9 @@ use Rattle.std.proofs.lemmas.Bool.{le-leb, leb-true}
 use Rattle.nq_base.specs.Steps.{◌>>=◌}
 use Rattle.nq_base.proofs.Options.{bind_some}
 use Rattle.nq_script.specs.Text.{Lacks}
-use Rattle.nq_words.specs.Reading.{is_digit, number_of, only_if, u64_of}
-use Rattle.nq_words.proofs.Options.{only_if_some}
-use Rattle.nq_words.proofs.Numerals.{u64_again, u64_found, free_digits}
+use Rattle.nq_script.specs.WordsReading.{is_digit, number_of, only_if, u64_of}
+use Rattle.nq_script.proofs.Options.{only_if_some}
+use Rattle.nq_script.proofs.Numerals.{u64_again, u64_found, free_digits}
 
 -- what a number writes is read as that number
 pub number-again : (most n : ℕ) → most < 2 ^ 64 → n ≤ most → number_of most (decimal n) ≡ Some n

@@ -12,7 +12,7 @@ use Rattle.nq_script.specs.Schedule.{SpellsLines}
 use Rattle.nq_script.specs.Text.{spaced, text_of}
 use Rattle.nq_script.specs.declared.heads.Head.{Head}
 use Rattle.nq_script.specs.declared.lines.Line.{Line}
-use Rattle.nq_words.specs.Words.{spaced as behind_blank}
+use Rattle.nq_script.specs.Words.{spaced as behind_blank}
 use Rattle.nq_script.proofs.CallWords.{spaced-call}
 use Rattle.nq_script.proofs.FileLines.{text_of-append}
 

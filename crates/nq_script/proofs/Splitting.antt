@@ -4,7 +4,7 @@ use Rattle.std.specs.List.{AllByRecursion}
 use Rattle.std.proofs.lemmas.Bool.{and_parts, not-true, eqb-false}
 use Rattle.std.proofs.lemmas.List.{append-nil}
 use Rattle.std.proofs.lemmas.Option.{some_pair_parts}
-use Rattle.nq_words.specs.Reading.{cut as cut_at}
+use Rattle.nq_script.specs.WordsReading.{cut as cut_at}
 use Rattle.nq_script.specs.Schedule.{Begins, GoesWrong}
 use Rattle.nq_script.specs.Text.{Lacks, text_of}
 use Rattle.nq_script.proofs.Cuts.{cut-again}

@@ -5,7 +5,7 @@ use Rattle.nq_base.specs.Name.{IsName}
 use Rattle.nq_base.specs.declared.Call.{Call}
 use Rattle.nq_base.specs.declared.Told.{Told}
 use Rattle.nq_script.specs.Text.{spaced}
-use Rattle.nq_words.specs.Forms.{told_words}
+use Rattle.nq_script.specs.Forms.{told_words}
 use Rattle.nq_base.specs.Calls.{told}
 
 -- a body that a word can tell: a block filled with a number below 2 ^ 32

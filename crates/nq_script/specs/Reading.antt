@@ -6,8 +6,8 @@ use Rattle.nq_base.specs.Steps.{◌>>=◌}
 use Rattle.nq_base.specs.declared.Told.{Told}
 use Rattle.nq_script.specs.declared.heads.Head.{Head}
 use Rattle.nq_script.specs.declared.lines.ToldLine.{ToldLine}
-use Rattle.nq_words.specs.Reading.{cut, number_of, u32_of, words_of}
-use Rattle.nq_words.specs.ReadingCalls.{told_in}
+use Rattle.nq_script.specs.WordsReading.{cut, number_of, u32_of, words_of}
+use Rattle.nq_script.specs.ReadingCalls.{told_in}
 
 -- what follows a prefix
 abbrev pub after : (prefix bytes : List ℕ) → Option (List ℕ)

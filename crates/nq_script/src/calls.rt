@@ -8,8 +8,8 @@ ghost use Rattle.nq_script.specs.Faults.{Answers};
 ghost use Rattle.nq_script.specs.declared.faults.ScriptFault.{ScriptFault};
 
 use crate::faults::ScriptFault;
+use crate::words::read_told;
 use nq_base::{Block, Call, Told};
-use nq_words::read_told;
 use std::alloc::Global;
 
 /// The call that is told, with its body.

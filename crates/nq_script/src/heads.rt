@@ -12,9 +12,9 @@ ghost use Rattle.nq_script.specs.Reading.{file_of};
 ghost use Rattle.nq_script.specs.Text.{text_of};
 
 use crate::faults::ScriptFault;
-use crate::words::{ranged, rest_after};
+use crate::fields::{ranged, rest_after};
+use crate::words::cut;
 use nq_base::{FileList, Name};
-use nq_words::cut;
 use std::alloc::Global;
 
 /// What a run begins with.

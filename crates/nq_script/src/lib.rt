@@ -1,4 +1,5 @@
-//! The text of schedules, read and printed.
+//! The text of schedules, read and printed; beside it that of journals (`journal`), what the words of a command line mean (`command`), and
+//! the words of calls and answers, which all of them have (`words`).
 //!
 //! The grammar is in `specs/`: `Text` (words and lines), `Calls`, `Lines`, `Heads`, and `Schedule`, which says what the
 //! text of a schedule is and at which line another text first goes wrong. A further form of a line is one more case of
@@ -7,14 +8,17 @@
 #![tactic(auto)]
 
 mod calls;
+pub mod command;
 mod faults;
+mod fields;
 mod heads;
+pub mod journal;
 mod laws;
 mod lines;
 mod print;
 mod schedules;
 mod scripts;
-mod words;
+pub mod words;
 
 pub use calls::parse_call;
 pub use faults::ScriptFault;

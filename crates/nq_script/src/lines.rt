@@ -6,10 +6,10 @@ ghost use Rattle.nq_script.specs.Reading.{told_line, call_line, deliver_line, cl
 ghost use Rattle.nq_script.specs.declared.lines.Line.{Line};
 
 use crate::calls::call_of;
+use crate::fields::{number_then, ranged, rest_after};
 use crate::heads::Head;
-use crate::words::{number_then, ranged, rest_after};
+use crate::words::{number, number32, read_told};
 use nq_base::{Event, Host, Told};
-use nq_words::{number, number32, read_told};
 
 /// A line after the head.
 #[derive(Drop)]

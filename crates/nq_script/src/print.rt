@@ -8,8 +8,8 @@ ghost use Rattle.nq_script.specs.Lines.{HasEvent, FitsEvent, SpellsEvent, event_
 ghost use Rattle.nq_script.specs.Text.{spaced, text_of};
 
 use crate::heads::Head;
+use crate::words::{push_bytes, push_command, push_told};
 use nq_base::{Call, Event, FileList, Name, NoMemory};
-use nq_words::{push_bytes, push_command, push_told};
 use std::alloc::Global;
 
 /// Appends a word and numbers, with blanks between them.

@@ -13,8 +13,8 @@ ghost use Rattle.nq_script.specs.declared.lines.Line.{Line};
 use crate::faults::ScriptFault;
 use crate::heads::{Head, HeadOut, parse_head};
 use crate::lines::{Line, ToldLine, line_of, read_line};
+use crate::words::cut;
 use nq_base::NoMemory;
-use nq_words::cut;
 use std::alloc::Global;
 use std::marker::Model;
 

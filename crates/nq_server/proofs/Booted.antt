@@ -3,11 +3,11 @@ use Rattle.std.proofs.Common.{◌≡◌, ◌+◌, ℕ, ◌==◌, Bool, true, fal
 use Rattle.std.specs.Option.{ForSome}
 use Rattle.nq_base.specs.declared.Entry.{Entry}
 use Rattle.nq_base.specs.declared.Row.{Row}
-use Rattle.nq_boot.specs.Booting.{Starts, IsOfTerm, last_boot, recovery_of, started_of}
-use Rattle.nq_boot.specs.declared.StartFault.{StartFault}
-use Rattle.nq_boot.specs.declared.StartFault.TheVariants.{Failed, Memory, Spent}
-use Rattle.nq_boot.specs.declared.Started.{Started}
-use Rattle.nq_boot.specs.declared.Started.TheVariants as begins
+use Rattle.nq_keeper.specs.Booting.{Starts, IsOfTerm, last_boot, recovery_of, started_of}
+use Rattle.nq_keeper.specs.declared.requests.boot.starting.StartFault.{StartFault}
+use Rattle.nq_keeper.specs.declared.requests.boot.starting.StartFault.TheVariants.{Failed, Memory, Spent}
+use Rattle.nq_keeper.specs.declared.requests.boot.starting.Started.{Started}
+use Rattle.nq_keeper.specs.declared.requests.boot.starting.Started.TheVariants as begins
 use Rattle.nq_io.specs.Faults.{Rose}
 use Rattle.nq_base.specs.Entries.{EntryList}
 use Rattle.nq_keeper.specs.Keeping.{StaysOrEnds}

@@ -6,7 +6,7 @@ use Rattle.nq_base.specs.declared.Decided.TheVariants.{Fresh, Again, Old, OldInc
 use Rattle.nq_base.specs.declared.Gate.{Gate}
 use Rattle.nq_base.specs.declared.Request.{Request}
 use Rattle.nq_base.specs.declared.Who.{Who}
-use Rattle.nq_files.specs.Deciding.{Gives}
+use Rattle.nq_keeper.specs.Deciding.{Gives}
 use Rattle.nq_io.specs.Faults.{Rose}
 use Rattle.nq_base.specs.Entries.{EntryList}
 use Rattle.nq_keeper.specs.Keeping.{StaysOrEnds}

@@ -12,7 +12,7 @@ use Rattle.nq_base.specs.declared.Row.{Row}
 use Rattle.nq_base.specs.declared.Verdict.{Verdict}
 use Rattle.nq_base.specs.declared.Verdict.TheVariants.{Done, Fenced, Exist, NoSpace, Invalid, Stale, TryLater}
 use Rattle.nq_base.specs.declared.Who.{Who}
-use Rattle.nq_boot.specs.Recovery.{Recovery, after_write}
+use Rattle.nq_keeper.specs.Recovery.{Recovery, after_write}
 use Rattle.nq_model.specs.Decided.{Aside, aside, done_aside, nothing_aside, entry_aside, rows_aside, heard_aside, stored_aside}
 use Rattle.nq_model.specs.Server.{Phase, serving, recovering, Server}
 use Rattle.nq_model.specs.Table.{Table, find_row, with_rows, drop_host, drop_rows_of}

@@ -9,8 +9,8 @@ use Rattle.nq_base.specs.declared.Refusal.{Refusal}
 use Rattle.nq_base.specs.declared.Reply.{Reply as Answer}
 use Rattle.nq_base.specs.declared.Want.{Want}
 use Rattle.nq_base.specs.declared.Who.{Who}
-use Rattle.nq_files.specs.Reading.{read_in, read_out}
-use Rattle.nq_files.specs.declared.ReadOut.{ReadOut}
+use Rattle.nq_keeper.specs.Reading.{read_in, read_out}
+use Rattle.nq_keeper.specs.declared.requests.reading.ReadOut.{ReadOut}
 use Rattle.nq_model.specs.Ask.{ask}
 use Rattle.nq_model.specs.Change.{row_of, row_of_found}
 use Rattle.nq_model.specs.Kept.{File, Kept}

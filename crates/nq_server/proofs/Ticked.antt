@@ -8,8 +8,8 @@ use Rattle.std.proofs.lemmas.List.Elements.{All-nil}
 use Rattle.nq_base.specs.declared.Entry.{Entry}
 use Rattle.nq_base.specs.declared.Row.{Row}
 use Rattle.nq_base.specs.declared.RowKey.{RowKey}
-use Rattle.nq_boot.specs.Booting.{LeavesThen, ended_at, opened_by}
-use Rattle.nq_boot.specs.Recovery.{Recovery}
+use Rattle.nq_keeper.specs.Booting.{LeavesThen, ended_at, opened_by}
+use Rattle.nq_keeper.specs.Recovery.{Recovery}
 use Rattle.nq_datagrams.specs.Sent.{FitsPacket}
 use Rattle.nq_lease.specs.Ending.{Fences, fence_of, fenced, fenced_if, has_ended, table_after}
 use Rattle.nq_lease.specs.declared.expire.ending.Fence.{Fence}

@@ -2,11 +2,11 @@
 -- it; `before` and `count` are its counts of faults.
 use Rattle.std.specs.Prelude.{◌≡◌, ◌<◌, ◌≤◌, ◌^◌, ℕ, ◌+◌, Option, Some, Result, Ok, Err}
 use Rattle.std.specs.Option.{ForSome}
-use Rattle.nq_boot.specs.declared.StartFault.{StartFault}
-use Rattle.nq_boot.specs.declared.StartFault.TheVariants as start
-use Rattle.nq_boot.specs.declared.Started.{Started}
-use Rattle.nq_boot.specs.declared.Started.TheVariants as begins
-use Rattle.nq_boot.specs.Booting.{IsOfTerm, last_boot, started_of}
+use Rattle.nq_keeper.specs.declared.requests.boot.starting.StartFault.{StartFault}
+use Rattle.nq_keeper.specs.declared.requests.boot.starting.StartFault.TheVariants as start
+use Rattle.nq_keeper.specs.declared.requests.boot.starting.Started.{Started}
+use Rattle.nq_keeper.specs.declared.requests.boot.starting.Started.TheVariants as begins
+use Rattle.nq_keeper.specs.Booting.{IsOfTerm, last_boot, started_of}
 use Rattle.nq_io.specs.Faults.{Rose}
 use Rattle.nq_keeper.specs.Keeping.{StaysOrEnds}
 use Rattle.nq_model.specs.Kept.{Kept}

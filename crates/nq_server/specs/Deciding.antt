@@ -11,7 +11,7 @@ use Rattle.nq_base.specs.declared.Request.TheVariants.{Attach, Write, Resize, Re
 use Rattle.nq_base.specs.declared.Row.{Row}
 use Rattle.nq_base.specs.declared.Verdict.{Verdict}
 use Rattle.nq_base.specs.declared.Who.{Who}
-use Rattle.nq_boot.specs.Recovery.{Recovery, after_write}
+use Rattle.nq_keeper.specs.Recovery.{Recovery, after_write}
 use Rattle.nq_base.specs.Entries.{EntryList}
 use Rattle.nq_model.specs.Change.{row_of_found}
 use Rattle.nq_model.specs.Decided.{Aside, aside, decided_answer, kept_length, later_aside, file_to_change}

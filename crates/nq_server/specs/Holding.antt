@@ -2,7 +2,7 @@
 -- `tells` is what it tells after it; `before` and `count` are its counts of faults.
 use Rattle.std.specs.Prelude.{◌≡◌, ◌<◌, ℕ, ◌+◌, Option, Some, None, Result, Ok, Err}
 use Rattle.std.specs.Option.{ForSome}
-use Rattle.nq_boot.specs.Booting.{last_boot}
+use Rattle.nq_keeper.specs.Booting.{last_boot}
 use Rattle.nq_io.specs.Faults.{Rose}
 use Rattle.nq_base.specs.Entries.{EntryList}
 use Rattle.nq_keeper.specs.Keeping.{StaysOrEnds}

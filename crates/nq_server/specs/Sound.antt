@@ -1,7 +1,7 @@
 -- What holds at every moment of a server.
 use Rattle.std.specs.Prelude.{◌≡◌, ◌<◌, ◌≤◌, ◌^◌, ℕ, ◌+◌, List, [], ◌∷◌, Option, Some, None, false}
 use Rattle.nq_base.specs.declared.Row.{Row}
-use Rattle.nq_boot.specs.Recovery.{Recovery}
+use Rattle.nq_keeper.specs.Recovery.{Recovery}
 use Rattle.nq_model.specs.Profile.{shortest_term, longest_term, most_taken_by_server}
 use Rattle.nq_model.specs.Server.{serving}
 use Rattle.nq_model.specs.Table.{caches}

@@ -1,6 +1,6 @@
 -- What a server holds beside what it keeps, as the protocol sees it.
 use Rattle.std.specs.Prelude.{ℕ, Option, Some, None}
-use Rattle.nq_boot.specs.Recovery.{Recovery}
+use Rattle.nq_keeper.specs.Recovery.{Recovery}
 use Rattle.nq_model.specs.Kept.{Kept}
 use Rattle.nq_model.specs.Server.{Phase, serving, recovering, Server}
 use Rattle.nq_model.specs.Table.{Table}

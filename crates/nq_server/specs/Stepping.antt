@@ -12,7 +12,7 @@ use Rattle.nq_keeper.specs.Keeping.{StaysOrEnds}
 use Rattle.nq_model.specs.Kept.{Kept}
 use Rattle.nq_model.specs.Message.{Packet, Reason as Cause, was_too_long, was_no_message, was_no_call, wrong_host, old_incarnation, out_of_bounds, no_reply_owed}
 use Rattle.nq_model.specs.Server.{ServerStep, Outcome, taken, dropped}
-use Rattle.nq_rpc.specs.Fault.{fault_number}
+use Rattle.nq_xdr.specs.RpcFault.{fault_number}
 use Rattle.nq_keeper.specs.declared.KeepFault.{KeepFault}
 use Rattle.nq_keeper.specs.declared.KeepFault.TheVariants as keep
 use Rattle.nq_server.specs.declared.received.Reason.{Reason}

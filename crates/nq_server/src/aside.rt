@@ -14,7 +14,7 @@ use crate::state::{Phase, State};
 use nq_base::{
     Access, Decided, Entry, FileId, Host, Journal, Request, Row, RowKey, Ticks, Verdict, Who,
 };
-use nq_boot::Recovering;
+use nq_keeper::requests::boot::Recovering;
 use nq_lease::Table;
 
 /// A write of the holder of this row was heard now.

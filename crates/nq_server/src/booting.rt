@@ -1,7 +1,7 @@
 //! The boot of a server over a keeper: at its beginning, and after a crash.
 
 ghost use Rattle.std.specs.Prelude.{◌≡◌, ◌<◌, ◌≤◌, ◌^◌, ◌+◌, [], ◌∷◌, ◌++◌, IfOk, None};
-ghost use Rattle.nq_boot.specs.Booting.{LeavesThen, start_fault, started_of};
+ghost use Rattle.nq_keeper.specs.Booting.{LeavesThen, start_fault, started_of};
 ghost use Rattle.nq_model.specs.Change.{heads_of};
 ghost use Rattle.nq_model.specs.Kept.{Kept};
 ghost use Rattle.nq_model.specs.Server.{last_in};
@@ -13,7 +13,7 @@ ghost use Rattle.nq_server.specs.State.{beside, beside_of, phase_of};
 
 use crate::state::{Phase, State};
 use nq_base::{Entry, Heads, Journal, Ticks};
-use nq_boot::{LAST_BOOT, StartFault, Started, start};
+use nq_keeper::requests::boot::{LAST_BOOT, StartFault, Started, start};
 use nq_keeper::{KeepFault, Keeper};
 use nq_lease::Table;
 use std::alloc::Global;

@@ -4,7 +4,7 @@ ghost use Rattle.std.specs.Prelude.{◌≡◌, ◌≤◌, ◌+◌, ◌++◌, ℕ
 ghost use Rattle.std.specs.Option.{ForSome};
 ghost use Rattle.nq_base.specs.declared.Party.{Party as Receiver};
 ghost use Rattle.nq_datagrams.specs.Sent.{sent};
-ghost use Rattle.nq_files.specs.Deciding.{IsOfHost};
+ghost use Rattle.nq_keeper.specs.Deciding.{IsOfHost};
 ghost use Rattle.nq_base.specs.Entries.{EntryList};
 ghost use Rattle.nq_keeper.specs.Keeping.{LeavesOne, Reads};
 ghost use Rattle.nq_model.specs.Change.{heads_of};
@@ -27,7 +27,7 @@ use crate::state::{Phase, State};
 use crate::verdicts::{answer_to, drop_reason};
 use nq_base::{Access, Block, Decided, FileId, Heads, Journal, NoMemory, Request, Verdict, Who};
 use nq_datagrams::BegunReply;
-use nq_files::decide;
+use nq_keeper::requests::decide;
 use nq_keeper::{KeepFault, Keeper};
 use nq_lease::evict::{NoticeTo, notices};
 use nq_wire::Outbox;

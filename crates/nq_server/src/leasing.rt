@@ -21,7 +21,7 @@ use nq_base::{
     Question, Refusal, Reply, RowKey, Want, Who,
 };
 use nq_datagrams::BegunReply;
-use nq_files::{ReadOut, read_block};
+use nq_keeper::requests::{ReadOut, read_block};
 use nq_keeper::{KeepFault, Keeper};
 use nq_lease::Table;
 use nq_lease::evict::NoticeTo;

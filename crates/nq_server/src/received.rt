@@ -1,6 +1,6 @@
 //! How an event was taken.
 
-use nq_rpc::RpcFault;
+use nq_xdr::rpc::RpcFault;
 
 /// Why a datagram was dropped.
 #[derive(Clone, Copy, PartialEq, Drop)]

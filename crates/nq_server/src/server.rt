@@ -2,7 +2,7 @@
 
 ghost use Rattle.std.specs.Prelude.{◌≡◌, ◌<◌, ◌≤◌, ◌^◌, ◌↔◌, IfOk, IsTrue};
 ghost use Rattle.std.specs.Option.{ForSome};
-ghost use Rattle.nq_boot.specs.Booting.{LeavesThen};
+ghost use Rattle.nq_keeper.specs.Booting.{LeavesThen};
 ghost use Rattle.nq_datagrams.specs.Incoming.{datagram_in};
 ghost use Rattle.nq_keeper.specs.Keeping.{LeavesOne, Reads};
 ghost use Rattle.nq_model.specs.Change.{file_after, row_of_found};
@@ -21,8 +21,8 @@ use crate::received::{Received, Taken};
 use crate::state::{Phase, State};
 use crate::ticks::tick;
 use nq_base::{FileId, FileRow, Host, Inc, Journal, Spare, Ticks};
-use nq_boot::StartFault;
 use nq_datagrams::read_incoming;
+use nq_keeper::requests::boot::StartFault;
 use nq_keeper::{KeepFault, Keeper};
 use nq_lease::Table;
 use nq_wire::Outbox;

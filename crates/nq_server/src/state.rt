@@ -1,7 +1,7 @@
 //! What a server holds beside what it keeps.
 
 use nq_base::Ticks;
-use nq_boot::{Recovering, Serving};
+use nq_keeper::requests::boot::{Recovering, Serving};
 use nq_lease::Table;
 
 /// Whether the boot serves.

@@ -2,7 +2,7 @@
 
 ghost use Rattle.std.specs.Prelude.{◌≡◌, ◌<◌, ◌≤◌, ◌^◌, [], ◌++◌, ◌∷◌, IsSome, find, reverse};
 ghost use Rattle.std.specs.Option.{ForSome};
-ghost use Rattle.nq_boot.specs.Booting.{LeavesThen, ended_at};
+ghost use Rattle.nq_keeper.specs.Booting.{LeavesThen, ended_at};
 ghost use Rattle.nq_model.specs.Profile.{shortest_term, longest_term};
 ghost use Rattle.nq_model.specs.Server.{serving};
 ghost use Rattle.nq_model.specs.ServerStep.{is_due, tick as ticked};
@@ -15,7 +15,7 @@ ghost use Rattle.nq_wire.specs.Outbox.{Datagrams};
 use crate::received::Taken;
 use crate::state::{Phase, State};
 use nq_base::{Entry, Journal, Ticks};
-use nq_boot::{Finish, Recovering, Serving};
+use nq_keeper::requests::boot::{Finish, Recovering, Serving};
 use nq_keeper::{KeepFault, Keeper};
 use nq_lease::Table;
 use nq_lease::expire::{Fence, due, end_reading, end_writing};

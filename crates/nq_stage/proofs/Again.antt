@@ -4,8 +4,8 @@ use Rattle.std.proofs.lemmas.Bool.{eq-eqb}
 use Rattle.nq_base.specs.declared.PushBase.{PushBase}
 use Rattle.nq_base.specs.declared.Request.TheVariants.{Write}
 use Rattle.nq_datagrams.specs.Messages.{bytes_of}
-use Rattle.nq_rpc.specs.Message.{spelling, call_with, reply_with, null}
-use Rattle.nq_rpc.proofs.Messages.{message_again, null_fits}
+use Rattle.nq_xdr.specs.Message.{spelling, call_with, reply_with, null}
+use Rattle.nq_xdr.proofs.Messages.{message_again, null_fits}
 use Rattle.nq_wire.specs.Parts.{head, base_bytes, optional, IsPushBase}
 use Rattle.nq_wire.specs.Request.{arguments}
 use Rattle.nq_xdr.specs.Item.{word, hyper, boolean, opaque}

@@ -5,3 +5,15 @@ pub mod Keys
 pub mod Newest
 pub mod Offered
 pub mod Writes
+mod Apart
+mod Boots
+mod Datagrams
+mod KnownClient
+mod KnownRuns
+mod KnownSteps
+mod Meaning
+mod Meant
+mod NotStored
+pub mod Rebuilt
+pub mod Schedules
+mod SomeStaged

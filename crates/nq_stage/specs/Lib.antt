@@ -14,3 +14,7 @@ pub mod Shortening
 pub mod Staged
 pub mod Theorem
 pub mod Writes
+pub mod Boots
+pub mod Lawful
+pub mod Met
+pub mod NotStored

@@ -2,13 +2,13 @@
 use Rattle.std.specs.Prelude.{ℕ, Bool, false, ◌==◌, ◌&&◌, List, length, Option, Some, None, Result, Ok, Err, if◌then◌else◌}
 use Rattle.nq_base.specs.declared.PushBase.{PushBase}
 use Rattle.nq_datagrams.specs.Messages.{program, version, rpc_version}
-use Rattle.nq_rpc.specs.declared.CallMessage.{CallMessage}
-use Rattle.nq_rpc.specs.declared.Message.{Message as Said}
-use Rattle.nq_rpc.specs.declared.Message.TheVariants as said
-use Rattle.nq_rpc.specs.declared.Outcome.{Outcome}
-use Rattle.nq_rpc.specs.declared.Outcome.TheVariants as outcome
-use Rattle.nq_rpc.specs.declared.RpcFault.{RpcFault}
-use Rattle.nq_rpc.specs.Reading.{message_at}
+use Rattle.nq_xdr.specs.declared.rpc.message.CallMessage.{CallMessage}
+use Rattle.nq_xdr.specs.declared.rpc.message.Message.{Message as Said}
+use Rattle.nq_xdr.specs.declared.rpc.message.Message.TheVariants as said
+use Rattle.nq_xdr.specs.declared.rpc.message.Outcome.{Outcome}
+use Rattle.nq_xdr.specs.declared.rpc.message.Outcome.TheVariants as outcome
+use Rattle.nq_xdr.specs.declared.rpc.fault.RpcFault.{RpcFault}
+use Rattle.nq_xdr.specs.RpcReading.{message_at}
 use Rattle.nq_xdr.specs.declared.XdrFault.{XdrFault}
 use Rattle.nq_xdr.specs.declared.XdrFault.TheVariants.{Short, Bool as NoBoolean, Trailing}
 use Rattle.nq_xdr.specs.Reading.{◌>>=◌, word_at, hyper_at, boolean_at, opaque_at}

@@ -1,7 +1,7 @@
 //! Reading messages. Nothing here takes memory.
 
 ghost use Rattle.std.specs.Prelude.{◌≡◌, length, option_copied, IfOk, IfSome};
-ghost use Rattle.nq_rpc.specs.Lent.{lent_message, lent_outcome};
+ghost use Rattle.nq_xdr.specs.Lent.{lent_message, lent_outcome};
 ghost use Rattle.nq_stage.specs.Lent.{lent_call, lent_stage, lent_stages};
 ghost use Rattle.nq_stage.specs.Reading.{base_at, body_at, call_as, call_in, commit_at, commit_in, end_at, front_at, is_unstaged_in, pushed_of, push_at, push_in, results_in, results_of, stage_at, stage_in, staged_at, unstaged_at, verifier_in, written_at};
 ghost use Rattle.nq_xdr.specs.Reading.{Gives};
@@ -11,7 +11,7 @@ use crate::messages::{
 };
 use nq_base::{Block, BlockNo, FileId, Host, Inc, Number, PushBase, Rev, Seq, Who};
 use nq_datagrams::{PROGRAM, RPC_VERSION, VERSION};
-use nq_rpc::{LentCall, LentMessage, LentOutcome, LentReply, decode_in_place};
+use nq_xdr::rpc::{LentCall, LentMessage, LentOutcome, LentReply, decode_in_place};
 use nq_xdr::{Reader, XdrFault};
 
 /// The procedure WRITE.

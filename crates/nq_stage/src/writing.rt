@@ -1,15 +1,15 @@
 //! Writing messages, each with AUTH_NULL.
 
 ghost use Rattle.std.specs.Prelude.{◌≡◌, ℕ, ◌+◌, ◌≤◌, List, ◌++◌, length, IfOk, OnOk};
-ghost use Rattle.nq_rpc.specs.Message.{call_with, null, reply_with, spelling};
+ghost use Rattle.nq_xdr.specs.Message.{call_with, null, reply_with, spelling};
 ghost use Rattle.nq_stage.specs.Messages.{commit_bytes, head_of, pushed_bytes, stage_bytes, staged_bytes, unstaged_bytes, write_bytes, written_bytes, IsFront, IsPushed, IsWritten};
 
 use crate::messages::{COMMIT_PROCEDURE, Pushed, STAGE_PROCEDURE, UNSTAGED_STATUS, Written};
 use nq_base::{Block, NoMemory};
 use nq_datagrams::{PROGRAM, VERSION};
-use nq_rpc::{Head, begin_call, begin_reply};
 use nq_wire::parts::{put_base, put_body, put_who};
 use nq_xdr::Writer;
+use nq_xdr::rpc::{Head, begin_call, begin_reply};
 use std::alloc::Global;
 
 /// The procedure WRITE.

@@ -3,7 +3,7 @@ use Rattle.std.proofs.Common.{◌≡◌, ◌<◌, ◌≤◌, ℕ, ◌+◌, List,
 use Rattle.std.specs.List.{AllByRecursion}
 use Rattle.nq_replay.proofs.Keeping.{Ends, Keeps, ends-answered, ends-packet, ends-then, keeps-repeated}
 use Rattle.nq_replay.specs.Text.{mixed}
-use Rattle.nq_commit.specs.Playing.{PlaysOutside, StagedOver, stepped_outside}
+use Rattle.nq_staged.specs.Worlds.{PlaysOutside, StagedOver, stepped_outside}
 use Rattle.nq_model.specs.Kept.{Kept}
 use Rattle.nq_replay.specs.Playing.{beginning}
 use Rattle.nq_replay.specs.declared.play.played.Played.{Played as Went}

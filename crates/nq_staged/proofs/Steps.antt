@@ -3,7 +3,7 @@ use Rattle.std.proofs.Common.{◌≡◌, ℕ, ◌<◌, ◌≤◌, Bool, true, fa
 use Rattle.std.proofs.lemmas.Bool.Decides.{nat_tests}
 use Rattle.std.specs.Prelude.{nat_lt, if◌then◌else◌}
 use Rattle.nq_base.specs.declared.Event.{Event}
-use Rattle.nq_commit.specs.Playing.{PlaysOutside, StagedOver, StepsOutside, stepped_outside}
+use Rattle.nq_staged.specs.Worlds.{PlaysOutside, StagedOver, StepsOutside, stepped_outside}
 use Rattle.nq_model.specs.Kept.{Kept}
 use Rattle.nq_model.specs.Stepped.{Stepped as Answer, done, no_packet, out_of_skew, too_many_events, too_many_packets, most_events, tested_room}
 use Rattle.nq_model.specs.World.{Head}
@@ -15,7 +15,7 @@ use Rattle.nq_staged.specs.Playing.{next_packet, plain_events, play_event}
 use Rattle.nq_stage.specs.declared.run.event.StagedEvent.{StagedEvent}
 use Rattle.nq_stage.specs.Outside.{outside_run}
 use Rattle.nq_world.specs.Answering.{told as answer_of}
-use Rattle.nq_world.specs.Playing.{CountsFaults, HasSettings, WorldOver}
+use Rattle.nq_world.specs.Playing.{CountsFaults, GoesOn, HasSettings, WorldOver}
 use Rattle.nq_world.specs.declared.Stepped.{Stepped}
 
 -- the packet that is delivered next is the least that has no flag
@@ -26,16 +26,25 @@ next-is head events flags sent next marks many least =
     sym (least (plain_events events) marks ∙ ap (λ n. least_undelivered 0 n (plain_events events)) many)
 
 -- the count of faults over two steps
-pub faults-on : (said : Stepped) (first second last : ℕ) → second ≡ first → CountsFaults said second last → CountsFaults said first last
+faults-on : (said : Stepped) (first second last : ℕ) → second ≡ first → CountsFaults said second last → CountsFaults said first last
 faults-on said first second last is counts = subst (λ n. CountsFaults said n last) is counts
 
 -- what a world keeps over two steps
-pub settings-on : {K : Type 0} (hosts longest term : ℕ) (old new : WorldOver K) → HasSettings hosts longest term old
+settings-on : {K : Type 0} (hosts longest term : ℕ) (old new : WorldOver K) → HasSettings hosts longest term old
     → HasSettings (length old.clients) old.skew.window old.term new → HasSettings hosts longest term new
 settings-on hosts longest term old new first second = record {
   hosts_are = second.hosts_are ∙ first.hosts_are;
   longest_is = second.longest_is ∙ first.longest_is;
   term_is = second.term_is ∙ first.term_is;
+}
+
+-- what holds of a world over two steps, of which the first was taken
+pub keeps-on : {K : Type 0} (faults : K → ℕ) (follows : K → K → Type 0) (said : Stepped) (old mid new : WorldOver K) → ((a b c : K) → follows a b → follows b c → follows a c)
+    → GoesOn faults follows Stepped.Done old mid → GoesOn faults follows said mid new → GoesOn faults follows said old new
+keeps-on faults follows said old mid new on first second = record {
+  counts = faults-on said (faults old.server.keeper) (faults mid.server.keeper) (faults new.server.keeper) first.counts second.counts;
+  keeper = on _ _ _ first.keeper second.keeper;
+  settings = settings-on _ _ _ mid new first.settings second.settings;
 }
 
 -- a delivery that is taken is that of a packet that travels

@@ -2,7 +2,7 @@
 -- content, and `flags` tells which packets were delivered.
 use Rattle.std.specs.Prelude.{◌<◌, ℕ, Bool, List, Option}
 use Rattle.nq_base.specs.declared.Event.{Event}
-use Rattle.nq_commit.specs.Playing.{PlaysOutside, StagedOver}
+use Rattle.nq_staged.specs.Worlds.{PlaysOutside, StagedOver}
 use Rattle.nq_model.specs.Kept.{Kept}
 use Rattle.nq_model.specs.World.{Head}
 use Rattle.nq_replay.specs.Delivering.{Marks}

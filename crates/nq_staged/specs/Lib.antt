@@ -3,3 +3,7 @@ pub mod TextLaws
 pub mod Playing
 pub mod Going
 pub mod Running
+pub mod Line
+pub mod Around
+pub mod Taking
+pub mod Worlds

@@ -3,7 +3,7 @@ use Rattle.std.specs.Prelude.{ℕ, ◌+◌, List, [], ◌∷◌, length, Option,
 use Rattle.nq_replay.specs.AsidesPlaying.{Ended, Played, and_then, answered, play_each, refused, repeated, took, with_packet}
 use Rattle.nq_replay.specs.Text.{beside, plain}
 use Rattle.nq_base.specs.declared.Event.{Event}
-use Rattle.nq_commit.specs.Playing.{stepped_outside}
+use Rattle.nq_staged.specs.Worlds.{stepped_outside}
 use Rattle.nq_model.specs.Stepped.{too_many_events, most_events}
 use Rattle.nq_model.specs.World.{Head as Beginning}
 use Rattle.nq_replay.specs.Delivering.{least_undelivered}

@@ -6,13 +6,13 @@ use Rattle.std.specs.List.{AllByRecursion}
 use Rattle.std.specs.Prelude.{◌≡◌, ◌⊎◌, ℕ, List, ◌++◌, Option, codes, map, reverse}
 use Rattle.nq_base.specs.declared.SkewBroken.{SkewBroken}
 use Rattle.nq_replay.specs.Texts.{IsTellable}
-use Rattle.nq_commit.specs.Playing.{PlaysOutside, StagedOver}
+use Rattle.nq_staged.specs.Worlds.{PlaysOutside, StagedOver}
 use Rattle.nq_base.specs.declared.ending.ending.Ending.{Ending}
 use Rattle.nq_io.specs.Faults.{Rose}
 use Rattle.nq_io.specs.Sink.{AppendsFront}
 use Rattle.nq_io.specs.Told.{with_end}
 use Rattle.nq_io.specs.Whole.{TakesSome}
-use Rattle.nq_journal.specs.Text.{journal_text}
+use Rattle.nq_script.specs.JournalText.{journal_text}
 use Rattle.nq_model.specs.Kept.{Kept}
 use Rattle.nq_model.specs.Stepped.{Stepped, no_packet, out_of_skew, too_many_events, too_many_packets}
 use Rattle.nq_replay.specs.Lawful.{IsLawful}

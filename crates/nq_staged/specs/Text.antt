@@ -1,7 +1,7 @@
 -- What the lines of a staged schedule say that are none of a schedule: `stage H`, the offer of a host's side.
 use Rattle.std.specs.Prelude.{ℕ, ◌<◌, List, Option, Some, None}
 use Rattle.nq_replay.specs.Text.{FirstBadMixed, MixedLine, SpellsMixed}
-use Rattle.nq_commit.specs.Line.{stage_line}
+use Rattle.nq_staged.specs.Line.{stage_line}
 use Rattle.nq_script.specs.declared.heads.Head.{Head}
 use Rattle.nq_staged.specs.declared.offer.Offer.{Offer}
 

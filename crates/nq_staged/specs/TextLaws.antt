@@ -3,13 +3,13 @@ use Rattle.std.proofs.Common.{◌≡◌, ◌<◌, ◌≤◌, ℕ, Bool, true, fa
 use Rattle.std.proofs.lemmas.Bool.Decides.{nat_tests}
 use Rattle.std.proofs.lemmas.Option.{same_Some}
 use Rattle.std.specs.Prelude.{◌-◌, codes, nat_lt, if◌then◌else◌}
-use Rattle.nq_commit.specs.Line.{host_of, stage_line}
+use Rattle.nq_staged.specs.Line.{host_of, stage_line}
 use Rattle.nq_script.proofs.Cuts.{after-found}
 use Rattle.nq_script.proofs.Numbers.{number-found}
 use Rattle.nq_script.specs.Reading.{after}
 use Rattle.nq_staged.specs.Text.{IsOfHost, offer_by, offer_of}
 use Rattle.nq_staged.specs.declared.offer.Offer.{Offer}
-use Rattle.nq_words.specs.Reading.{number_of}
+use Rattle.nq_script.specs.WordsReading.{number_of}
 
 -- ---- the host of a line
 

@@ -2,7 +2,7 @@
 
 ghost use Rattle.std.specs.Prelude.{◌≡◌, ◌≤◌, List, ◌∷◌, length};
 ghost use Rattle.nq_base.specs.declared.Event.{Event};
-ghost use Rattle.nq_commit.specs.Playing.{CanComeOutside};
+ghost use Rattle.nq_staged.specs.Worlds.{CanComeOutside};
 ghost use Rattle.nq_model.specs.World.{Head};
 ghost use Rattle.nq_replay.specs.Delivering.{Marks};
 ghost use Rattle.nq_replay.specs.AsidesGoing.{Goes};
@@ -10,10 +10,10 @@ ghost use Rattle.nq_staged.specs.Going.{HasFlagOutside, IsAt};
 ghost use Rattle.nq_replay.specs.AsidesPlaying.{repeated};
 ghost use Rattle.nq_staged.specs.Playing.{plain_events, play_event, play_flow, play_round, play_ticks};
 ghost use Rattle.nq_stage.specs.declared.run.event.StagedEvent.{StagedEvent};
-ghost use Rattle.nq_world.specs.Playing.{CountsFaults, HasSettings};
+ghost use Rattle.nq_world.specs.Playing.{GoesOn};
 
+use crate::commit::StagedWorld;
 use nq_base::{Event, Host};
-use nq_commit::StagedWorld;
 use nq_keeper::Keeper;
 use nq_replay::play::Delivered;
 use nq_stage::run::StagedEvent;
@@ -38,9 +38,7 @@ pub(crate) fn take<K: Keeper>(
     requires { CanComeOutside (length world.old.inner.clients) world.old.inner.skew.window event.now }
     ensures goes { (head : Head) (events : List StagedEvent) → IsAt head events world.old (K.content world.old.inner.server.keeper) delivered.old
         → Goes result (play_event head event.now events) (λ es. IsAt head es world.new (K.content world.new.inner.server.keeper) delivered.new) }
-    ensures faults { CountsFaults result (K.faults world.old.inner.server.keeper) (K.faults world.new.inner.server.keeper) }
-    ensures follows { K.follows world.old.inner.server.keeper world.new.inner.server.keeper }
-    ensures settings { HasSettings (length world.old.inner.clients) world.old.inner.skew.window world.old.inner.term world.new.inner }
+    ensures keeps { GoesOn K.faults K.follows result world.old.inner world.new.inner }
 {
     let Ok(sent) = world.sent() else {
         return Stepped::Memory;
@@ -67,9 +65,7 @@ pub(crate) fn take_times<K: Keeper>(
     requires { CanComeOutside (length world.old.inner.clients) world.old.inner.skew.window event.now }
     ensures goes { (head : Head) (events : List StagedEvent) → IsAt head events world.old (K.content world.old.inner.server.keeper) delivered.old
         → Goes result (repeated times (play_event head event.now) events) (λ es. IsAt head es world.new (K.content world.new.inner.server.keeper) delivered.new) }
-    ensures faults { CountsFaults result (K.faults world.old.inner.server.keeper) (K.faults world.new.inner.server.keeper) }
-    ensures follows { K.follows world.old.inner.server.keeper world.new.inner.server.keeper }
-    ensures settings { HasSettings (length world.old.inner.clients) world.old.inner.skew.window world.old.inner.term world.new.inner }
+    ensures keeps { GoesOn K.faults K.follows result world.old.inner world.new.inner }
 {
     for turn in 0..times {
         match take(world, delivered, event) {
@@ -78,18 +74,6 @@ pub(crate) fn take_times<K: Keeper>(
         }
     }
     Stepped::Done
-}
-
-/// Gives a tick of the server's clock.
-fn tick_server<K: Keeper>(world: &mut StagedWorld<K>, delivered: &mut Delivered) -> Stepped
-    ensures goes { (head : Head) (events : List StagedEvent) → IsAt head events world.old (K.content world.old.inner.server.keeper) delivered.old
-        → Goes result (play_event head (StagedEvent.Plain Event.ServerTick) events) (λ es. IsAt head es world.new (K.content world.new.inner.server.keeper) delivered.new) }
-    ensures faults { CountsFaults result (K.faults world.old.inner.server.keeper) (K.faults world.new.inner.server.keeper) }
-    ensures follows { K.follows world.old.inner.server.keeper world.new.inner.server.keeper }
-    ensures settings { HasSettings (length world.old.inner.clients) world.old.inner.skew.window world.old.inner.term world.new.inner }
-{
-    let event = StagedEvent::Plain(Event::ServerTick);
-    take(world, delivered, &event)
 }
 
 /// The clocks of so many hosts tick.
@@ -101,9 +85,7 @@ fn tick_hosts<K: Keeper>(
     requires { hosts ≤ length world.old.inner.clients }
     ensures goes { (head : Head) (events : List StagedEvent) → IsAt head events world.old (K.content world.old.inner.server.keeper) delivered.old
         → Goes result (play_ticks head 0 hosts events) (λ es. IsAt head es world.new (K.content world.new.inner.server.keeper) delivered.new) }
-    ensures faults { CountsFaults result (K.faults world.old.inner.server.keeper) (K.faults world.new.inner.server.keeper) }
-    ensures follows { K.follows world.old.inner.server.keeper world.new.inner.server.keeper }
-    ensures settings { HasSettings (length world.old.inner.clients) world.old.inner.skew.window world.old.inner.term world.new.inner }
+    ensures keeps { GoesOn K.faults K.follows result world.old.inner world.new.inner }
 {
     for host in 0..hosts {
         let event = StagedEvent::Plain(Event::ClientTick(Host(host)));
@@ -120,12 +102,10 @@ fn round<K: Keeper>(world: &mut StagedWorld<K>, delivered: &mut Delivered, hosts
     requires { hosts ≤ length world.old.inner.clients }
     ensures goes { (head : Head) (events : List StagedEvent) → head.hosts ≡ hosts → IsAt head events world.old (K.content world.old.inner.server.keeper) delivered.old
         → Goes result (play_round head events) (λ es. IsAt head es world.new (K.content world.new.inner.server.keeper) delivered.new) }
-    ensures faults { CountsFaults result (K.faults world.old.inner.server.keeper) (K.faults world.new.inner.server.keeper) }
-    ensures follows { K.follows world.old.inner.server.keeper world.new.inner.server.keeper }
-    ensures settings { HasSettings (length world.old.inner.clients) world.old.inner.skew.window world.old.inner.term world.new.inner }
+    ensures keeps { GoesOn K.faults K.follows result world.old.inner world.new.inner }
 {
     match tick_hosts(world, delivered, hosts) {
-        Stepped::Done => tick_server(world, delivered),
+        Stepped::Done => take(world, delivered, &StagedEvent::Plain(Event::ServerTick)),
         other => other,
     }
 }
@@ -140,9 +120,7 @@ pub(crate) fn rounds<K: Keeper>(
     requires { hosts ≤ length world.old.inner.clients }
     ensures goes { (head : Head) (events : List StagedEvent) → head.hosts ≡ hosts → IsAt head events world.old (K.content world.old.inner.server.keeper) delivered.old
         → Goes result (repeated times (play_round head) events) (λ es. IsAt head es world.new (K.content world.new.inner.server.keeper) delivered.new) }
-    ensures faults { CountsFaults result (K.faults world.old.inner.server.keeper) (K.faults world.new.inner.server.keeper) }
-    ensures follows { K.follows world.old.inner.server.keeper world.new.inner.server.keeper }
-    ensures settings { HasSettings (length world.old.inner.clients) world.old.inner.skew.window world.old.inner.term world.new.inner }
+    ensures keeps { GoesOn K.faults K.follows result world.old.inner world.new.inner }
 {
     for turn in 0..times {
         match round(world, delivered, hosts) {
@@ -161,9 +139,7 @@ pub(crate) fn deliver<K: Keeper>(
 ) -> Stepped
     ensures goes { (head : Head) (events : List StagedEvent) → IsAt head events world.old (K.content world.old.inner.server.keeper) delivered.old
         → Goes result (play_event head (StagedEvent.Plain (Event.Deliver packet)) events) (λ es. IsAt head es world.new (K.content world.new.inner.server.keeper) delivered.new) }
-    ensures faults { CountsFaults result (K.faults world.old.inner.server.keeper) (K.faults world.new.inner.server.keeper) }
-    ensures follows { K.follows world.old.inner.server.keeper world.new.inner.server.keeper }
-    ensures settings { HasSettings (length world.old.inner.clients) world.old.inner.skew.window world.old.inner.term world.new.inner }
+    ensures keeps { GoesOn K.faults K.follows result world.old.inner world.new.inner }
 {
     let event = StagedEvent::Plain(Event::Deliver(packet));
     take(world, delivered, &event)
@@ -178,9 +154,7 @@ pub(crate) fn flow<K: Keeper>(
 ) -> Stepped
     ensures goes { (head : Head) (events : List StagedEvent) → IsAt head events world.old (K.content world.old.inner.server.keeper) delivered.old
         → Goes result (play_flow head most events) (λ es. IsAt head es world.new (K.content world.new.inner.server.keeper) delivered.new) }
-    ensures faults { CountsFaults result (K.faults world.old.inner.server.keeper) (K.faults world.new.inner.server.keeper) }
-    ensures follows { K.follows world.old.inner.server.keeper world.new.inner.server.keeper }
-    ensures settings { HasSettings (length world.old.inner.clients) world.old.inner.skew.window world.old.inner.term world.new.inner }
+    ensures keeps { GoesOn K.faults K.follows result world.old.inner world.new.inner }
 {
     for turn in 0..most {
         let Ok(sent) = world.sent() else {

@@ -2,8 +2,10 @@
 //! world, its journal, and what was counted are printed.
 //!
 //! What its lines say that are none of a schedule stands in `specs/Text` (`nq_replay::asides` has the rest of its text), how it is played in `specs/Playing`, and what is printed in `specs/Running`.
+//! The world in which it is played is in `commit`.
 #![tactic(auto)]
 
+pub mod commit;
 mod events;
 mod lines;
 mod offer;

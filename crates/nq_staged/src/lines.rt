@@ -2,7 +2,7 @@
 
 ghost use Rattle.std.specs.Prelude.{◌≡◌, ◌≤◌, ◌+◌, ◌^◌, ◌<◌, List, [], length, slice_get, Some};
 ghost use Rattle.nq_replay.specs.Text.{HoldsOfAsides, mixed};
-ghost use Rattle.nq_commit.specs.Playing.{PlaysOutside};
+ghost use Rattle.nq_staged.specs.Worlds.{PlaysOutside};
 ghost use Rattle.nq_model.specs.World.{Head};
 ghost use Rattle.nq_replay.specs.Going.{AreForWorld, IsForWorld, said};
 ghost use Rattle.nq_replay.specs.declared.play.played.Played.{Played};
@@ -12,12 +12,12 @@ ghost use Rattle.nq_staged.specs.Going.{IsAt};
 ghost use Rattle.nq_staged.specs.Playing.{play_event, play_line, play_lines, play_plain};
 ghost use Rattle.nq_staged.specs.Text.{IsOfHost, StagedLine};
 ghost use Rattle.nq_stage.specs.declared.run.event.StagedEvent.{StagedEvent};
-ghost use Rattle.nq_world.specs.Playing.{CountsFaults, HasSettings};
+ghost use Rattle.nq_world.specs.Playing.{GoesOn};
 
+use crate::commit::StagedWorld;
 use crate::events::{deliver, flow, rounds, take, take_times};
 use crate::offer::Offer;
 use nq_base::Host;
-use nq_commit::StagedWorld;
 use nq_keeper::Keeper;
 use nq_replay::asides::{MixedScript, aside_at};
 use nq_replay::play::{Delivered, Played};
@@ -39,9 +39,7 @@ fn play_plain<K: Keeper>(
     ensures goes { (head : Head) (events : List StagedEvent) → head.hosts ≡ hosts
         → IsAt head events world.old (K.content world.old.inner.server.keeper) delivered.old
         → Goes result (play_plain head most line events) (λ es. IsAt head es world.new (K.content world.new.inner.server.keeper) delivered.new) }
-    ensures faults { CountsFaults result (K.faults world.old.inner.server.keeper) (K.faults world.new.inner.server.keeper) }
-    ensures follows { K.follows world.old.inner.server.keeper world.new.inner.server.keeper }
-    ensures settings { HasSettings (length world.old.inner.clients) world.old.inner.skew.window world.old.inner.term world.new.inner }
+    ensures keeps { GoesOn K.faults K.follows result world.old.inner world.new.inner }
 {
     match line {
         Line::Events { event, times } => {
@@ -69,9 +67,7 @@ fn play_second<K: Keeper>(
     ensures goes { (line : Line) → slice_get lines.now place ≡ Some line → (head : Head) (events : List StagedEvent) → head.hosts ≡ hosts
         → IsAt head events world.old (K.content world.old.inner.server.keeper) delivered.old
         → Goes result (play_plain head most line events) (λ es. IsAt head es world.new (K.content world.new.inner.server.keeper) delivered.new) }
-    ensures faults { CountsFaults result (K.faults world.old.inner.server.keeper) (K.faults world.new.inner.server.keeper) }
-    ensures follows { K.follows world.old.inner.server.keeper world.new.inner.server.keeper }
-    ensures settings { HasSettings (length world.old.inner.clients) world.old.inner.skew.window world.old.inner.term world.new.inner }
+    ensures keeps { GoesOn K.faults K.follows result world.old.inner world.new.inner }
 {
     match lines.get(place) {
         Some(line) => play_plain(world, delivered, hosts, most, line),
@@ -94,9 +90,7 @@ fn play_plain_at<K: Keeper>(
     ensures goes { (line : Line) → slice_get lines.now place ≡ Some line → (head : Head) (events : List StagedEvent) → head.hosts ≡ hosts
         → IsAt head events world.old (K.content world.old.inner.server.keeper) delivered.old
         → Goes result (play_plain head most line events) (λ es. IsAt head es world.new (K.content world.new.inner.server.keeper) delivered.new) }
-    ensures faults { CountsFaults result (K.faults world.old.inner.server.keeper) (K.faults world.new.inner.server.keeper) }
-    ensures follows { K.follows world.old.inner.server.keeper world.new.inner.server.keeper }
-    ensures settings { HasSettings (length world.old.inner.clients) world.old.inner.skew.window world.old.inner.term world.new.inner }
+    ensures keeps { GoesOn K.faults K.follows result world.old.inner world.new.inner }
 {
     match lines.packet_at(place) {
         Some(packet) => deliver(world, delivered, packet),
@@ -109,9 +103,7 @@ fn offer<K: Keeper>(world: &mut StagedWorld<K>, delivered: &mut Delivered, host:
     requires { host < length world.old.inner.clients }
     ensures goes { (head : Head) (events : List StagedEvent) → IsAt head events world.old (K.content world.old.inner.server.keeper) delivered.old
         → Goes result (play_event head (StagedEvent.Stage host) events) (λ es. IsAt head es world.new (K.content world.new.inner.server.keeper) delivered.new) }
-    ensures faults { CountsFaults result (K.faults world.old.inner.server.keeper) (K.faults world.new.inner.server.keeper) }
-    ensures follows { K.follows world.old.inner.server.keeper world.new.inner.server.keeper }
-    ensures settings { HasSettings (length world.old.inner.clients) world.old.inner.skew.window world.old.inner.term world.new.inner }
+    ensures keeps { GoesOn K.faults K.follows result world.old.inner world.new.inner }
 {
     let event = StagedEvent::Stage(host);
     take(world, delivered, &event)
@@ -133,9 +125,7 @@ fn play_at<K: Keeper>(
     ensures goes { (line : StagedLine) → slice_get (mixed script.now.asides.items script.now.script.lines) place ≡ Some line → (head : Head) (events : List StagedEvent)
         → head.hosts ≡ hosts → IsAt head events world.old (K.content world.old.inner.server.keeper) delivered.old
         → Goes result (play_line head most line events) (λ es. IsAt head es world.new (K.content world.new.inner.server.keeper) delivered.new) }
-    ensures faults { CountsFaults result (K.faults world.old.inner.server.keeper) (K.faults world.new.inner.server.keeper) }
-    ensures follows { K.follows world.old.inner.server.keeper world.new.inner.server.keeper }
-    ensures settings { HasSettings (length world.old.inner.clients) world.old.inner.skew.window world.old.inner.term world.new.inner }
+    ensures keeps { GoesOn K.faults K.follows result world.old.inner world.new.inner }
 {
     match aside_at(&script.asides, place) {
         Some(aside) => offer(world, delivered, aside.host),
@@ -169,8 +159,7 @@ pub(crate) fn play<K: Keeper>(
         → Comes result (play_lines head most script.now.script.first (mixed script.now.asides.items script.now.script.lines) [])
         (λ events. PlaysOutside head events world.new (K.content world.new.inner.server.keeper)) }
     ensures stops { said result ≡ Stepped.Done → result ≡ Played.All }
-    ensures faults { CountsFaults (said result) (K.faults world.old.inner.server.keeper) (K.faults world.new.inner.server.keeper) }
-    ensures follows { K.follows world.old.inner.server.keeper world.new.inner.server.keeper }
+    ensures keeps { GoesOn K.faults K.follows (said result) world.old.inner world.new.inner }
 {
     let mut delivered = Delivered::new(alloc);
     let hosts = script.script.head.hosts;

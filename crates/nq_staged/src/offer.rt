@@ -3,8 +3,8 @@
 ghost use Rattle.nq_staged.specs.Text.{IsOfHost, offer_of};
 ghost use Rattle.nq_staged.specs.TextLaws.{is-long, is-of-host};
 
+use crate::commit::parse_stage;
 use nq_base::Host;
-use nq_commit::parse_stage;
 use nq_replay::asides::AsideLine;
 
 /// A host's side offers a body: what a line `stage H` says.

@@ -1,7 +1,7 @@
 //! The line of what was counted.
 
 ghost use Rattle.std.specs.Prelude.{◌≡◌, IfOk, string_bytes};
-ghost use Rattle.nq_commit.specs.Around.{counts_of};
+ghost use Rattle.nq_staged.specs.Around.{counts_of};
 ghost use Rattle.nq_staged.specs.Running.{count_line};
 
 use nq_base::NoMemory;

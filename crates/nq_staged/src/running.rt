@@ -3,14 +3,14 @@
 ghost use Rattle.std.specs.Prelude.{◌≡◌, ◌⊎◌, ◌<◌, ◌≤◌, ◌^◌, ℕ, List, [], Some, length, IfOk};
 ghost use Rattle.nq_base.specs.declared.SkewBroken.{SkewBroken};
 ghost use Rattle.nq_replay.specs.Text.{IsReadyMixed, mixed};
-ghost use Rattle.nq_commit.specs.Playing.{PlaysOutside};
+ghost use Rattle.nq_staged.specs.Worlds.{PlaysOutside};
 ghost use Rattle.nq_base.specs.declared.ending.ending.Ending.{Ending};
 ghost use Rattle.nq_keeper.specs.StoredKeeper.{empty_kept};
 ghost use Rattle.nq_model.specs.Stepped.{out_of_skew};
 ghost use Rattle.nq_replay.specs.Playing.{beginning};
 ghost use Rattle.nq_replay.specs.declared.play.played.Played.{Played};
 ghost use Rattle.nq_replay.specs.Ending.{IsUnlessFault};
-ghost use Rattle.nq_replay.specs.Beginning.{NeverFails};
+ghost use Rattle.nq_world.specs.Beginning.{NeverFails};
 ghost use Rattle.nq_replay.specs.Schedules.{HasReason};
 ghost use Rattle.nq_replay.specs.declared.Bound.{Bound};
 ghost use Rattle.nq_script.specs.Heads.{FitsHead};
@@ -23,19 +23,19 @@ ghost use Rattle.nq_staged.specs.Text.{IsOfHost};
 ghost use Rattle.nq_stage.specs.declared.run.event.StagedEvent.{StagedEvent};
 ghost use Rattle.nq_world.specs.Playing.{HasSettings};
 
+use crate::commit::StagedWorld;
 use crate::lines::play;
 use crate::offer::Offer;
 use crate::printing::count_text;
 use nq_base::NoMemory;
 use nq_base::ending::Ending;
-use nq_commit::StagedWorld;
 use nq_io::{Sink, Source, Whole, read_all};
 use nq_keeper::{Keeper, ListKeeper};
-use nq_replay::asides::{MixedScript, print_parts, read_script};
-use nq_replay::play::{Played, begin_surely};
-use nq_replay::{schedule_text, tell_over, tell_script, tell_stop};
+use nq_replay::asides::{MixedScript, read_script};
+use nq_replay::play::Played;
+use nq_replay::{print_parts, schedule_text, tell_over, tell_script, tell_stop};
 use nq_script::{Head, ScriptFault};
-use nq_world::{MOST_EVENTS, NewFault};
+use nq_world::{MOST_EVENTS, NewFault, begin_surely};
 use std::alloc::Global;
 
 /// Reads a staged schedule to the end of the input, of at most so many bytes, and runs it: a schedule of version 2 that may have
@@ -225,5 +225,5 @@ fn print_run<L: Keeper, K: Sink>(
     let Ok(line) = count_text(alloc, world.counts()) else {
         return Ending::Memory;
     };
-    print_parts(alloc, &text, world.journal(), line.as_bytes(), out)
+    print_parts(alloc, 2, &text, world.journal(), line.as_bytes(), out)
 }

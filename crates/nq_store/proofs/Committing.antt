@@ -3,28 +3,28 @@ use Rattle.std.proofs.Common.{◌≡◌, ◌⊎◌, ℕ, List, Option, Some, Non
 use Rattle.std.specs.List.{All}
 use Rattle.std.specs.Option.{ForSome}
 use Rattle.nq_base.specs.declared.Change.{Change}
-use Rattle.nq_plan.specs.Standing.{image_area}
+use Rattle.nq_image.specs.PlanStanding.{image_area}
 use Rattle.nq_image.specs.Standing.{Agree, IsFree, Standing, kept_at}
 use Rattle.nq_keeper.specs.Keeping.{LeavesTwo, told_after}
 use Rattle.nq_model.specs.Change.{Fits, IsChangeWithin, IsWithinBounds, applied}
 use Rattle.nq_model.specs.Kept.{Kept}
 use Rattle.nq_model.proofs.WithinBounds.{within-applied}
-use Rattle.nq_plan.specs.Held.{HeldTables}
-use Rattle.nq_plan.specs.Placing.{IsPlacedFor}
-use Rattle.nq_plan.specs.Ranges.{ranges_of}
-use Rattle.nq_plan.specs.Settling.{settled}
-use Rattle.nq_plan.specs.declared.Placed.{Placed}
+use Rattle.nq_image.specs.Held.{HeldTables}
+use Rattle.nq_image.specs.Placing.{IsPlacedFor}
+use Rattle.nq_image.specs.Ranges.{ranges_of}
+use Rattle.nq_image.specs.Settling.{settled}
+use Rattle.nq_image.specs.declared.plan.placing.Placed.{Placed}
 use Rattle.nq_disk.specs.Batch.{IsFit}
 use Rattle.nq_disk.specs.Ranges.{Range}
 use Rattle.nq_disk.specs.Saying.{Each}
 use Rattle.nq_disk.specs.Whole.{Settled, after}
-use Rattle.law_image.specs.Changing.{CanBeWritten, IsWritten, new_blocks, zeroed}
+use Rattle.nq_store.specs.Changing.{CanBeWritten, IsWritten, new_blocks, zeroed}
 use Rattle.nq_store.specs.Storing.{IsKeptOn, IsReady, LeavesKept, OpensWhole, kept_on, kept_told}
 use Rattle.nq_image.proofs.Agreeing.{agree-kept, agree-stands}
-use Rattle.law_image.proofs.Fitting.{change-fits}
-use Rattle.law_image.proofs.Zeroing.{all-zeros, zeroed-agrees}
-use Rattle.law_image.proofs.Opening.{change-settled, change-stands, closed-stands}
-use Rattle.law_image.proofs.Seats.{new-are-free}
+use Rattle.nq_store.proofs.Fitting.{change-fits}
+use Rattle.nq_store.proofs.ImagesZeroing.{all-zeros, zeroed-agrees}
+use Rattle.nq_store.proofs.ImagesOpening.{change-settled, change-stands, closed-stands}
+use Rattle.nq_store.proofs.Seats.{new-are-free}
 use Rattle.nq_store.proofs.Keeping.{held-kept, known, stands-kept}
 
 -- nothing is told, or something

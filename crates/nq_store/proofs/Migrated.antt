@@ -5,7 +5,7 @@ use Rattle.std.specs.Prelude.{OnOk}
 use Rattle.std.proofs.lemmas.List.{at_drop_all, at_drop_more}
 use Rattle.std.proofs.lemmas.List.Sums.{sum_by-cons}
 use Rattle.nq_disk.specs.Bytes.{Torn, written}
-use Rattle.nq_plan.specs.Standing.{image_area, stands_as}
+use Rattle.nq_image.specs.PlanStanding.{image_area, stands_as}
 use Rattle.nq_image.specs.Image.{FoundOne, ◌>>=◌, reached}
 use Rattle.nq_image.specs.Kept.{kept_in, kept_one, numbers_from}
 use Rattle.nq_image.specs.Layout.{block_place}
@@ -20,12 +20,12 @@ use Rattle.nq_image.specs.declared.Slot.{Slot}
 use Rattle.nq_disk.specs.Batch.{IsFit}
 use Rattle.nq_disk.specs.Saying.{Each}
 use Rattle.nq_disk.specs.Whole.{IsClosed, OpensAfter, OpensAsOne, Settled, after}
-use Rattle.law_image.specs.Head.{if_reached}
-use Rattle.law_image.specs.Migrated.{blocks_in}
-use Rattle.law_image.specs.Prepared.{SameBelow, change_of, prepared, tabled}
-use Rattle.law_image.proofs.Leaving.{as-before, below-closed, below-stands, fits, mid-long, stands-one, then-begins, then-stands, then-two}
-use Rattle.law_image.proofs.Parts.{parts-of-one}
-use Rattle.law_image.proofs.Same.{opens-as-one, reaches-end}
+use Rattle.nq_store.specs.Head.{if_reached}
+use Rattle.nq_store.specs.Migrated.{blocks_in}
+use Rattle.nq_store.specs.Prepared.{SameBelow, change_of, prepared, tabled}
+use Rattle.nq_store.proofs.Leaving.{as-before, below-closed, below-stands, fits, mid-long, stands-one, then-begins, then-stands, then-two}
+use Rattle.nq_store.proofs.Parts.{parts-of-one}
+use Rattle.nq_store.proofs.Same.{opens-as-one, reaches-end}
 use Rattle.nq_store.specs.Examining.{Examines, Tests}
 use Rattle.nq_store.specs.Migrating.{CountsWriting, IsMigrated, IsOldImage, Migrates}
 use Rattle.nq_store.specs.Opening.{CountsFault}

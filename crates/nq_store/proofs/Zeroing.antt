@@ -7,16 +7,16 @@ use Rattle.nq_base.specs.Block.{filled, repeated, zeros}
 use Rattle.nq_disk.specs.Bytes.{Torn, written}
 use Rattle.nq_disk.specs.Calling.{ReadsFront}
 use Rattle.nq_disk.specs.declared.DiskFault.{DiskFault}
-use Rattle.nq_plan.specs.Standing.{image_area}
+use Rattle.nq_image.specs.PlanStanding.{image_area}
 use Rattle.nq_image.specs.Kept.{body_in}
 use Rattle.nq_image.specs.Layout.{block_place, piece}
 use Rattle.nq_image.specs.Standing.{IsFree, Standing, Stands}
 use Rattle.nq_model.proofs.WithinBounds.{zeros-body}
 use Rattle.nq_disk.specs.Whole.{IsClosed}
-use Rattle.law_image.specs.Changing.{zeroed}
+use Rattle.nq_store.specs.Changing.{zeroed}
 use Rattle.nq_store.specs.Storing.{StandsStill}
 use Rattle.nq_image.proofs.Agreeing.{agree-stands}
-use Rattle.law_image.proofs.Zeroing.{agree-on, torn-agrees}
+use Rattle.nq_store.proofs.ImagesZeroing.{agree-on, torn-agrees}
 
 pub through : (P : List ℕ → Type 0) (A B : Type 0) (image : List ℕ) → A ⊎ B → (A → P image) → (B → P image) → P image
 through P A B image (inl a) f g = f a

@@ -5,3 +5,8 @@ pub mod Laws
 pub mod Migrating
 pub mod Examining
 pub mod Loading
+pub mod Migrated
+pub mod Prepared
+pub mod Head
+pub mod Changing
+pub mod Reading

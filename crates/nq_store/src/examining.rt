@@ -2,7 +2,7 @@
 
 ghost use Rattle.std.specs.Prelude.{◌≡◌, ◌≤◌, IfOk, count_by, is_some, length};
 ghost use Rattle.std.specs.Option.{ForSome};
-ghost use Rattle.law_image.specs.Head.{head_one};
+ghost use Rattle.nq_store.specs.Head.{head_one};
 ghost use Rattle.nq_image.specs.Image.{image_one, reached};
 ghost use Rattle.nq_image.specs.Layout.{piece as piece_at};
 ghost use Rattle.nq_image.specs.Reading.{Reads};
@@ -28,7 +28,7 @@ pub(crate) fn files_in(slots: &[Option<Slot>]) -> u32
 }
 
 /// The numbers and rows, by the first bytes of the image.
-#[tactic(auto, unfolding(law_image::specs::Head::head_one))]
+#[tactic(auto, unfolding(crate::specs::Head::head_one))]
 fn read_head(alloc: Global, head: &[u8]) -> Result<ImageOne, ImageFault>
     requires { length head.now ≡ 28672 }
     ensures told { Reads seen_one result (head_one head.now) }

@@ -37,5 +37,5 @@ pub(crate) fn print_storm<L: Keeper, K: Sink>(
     let Ok(line) = count_text(alloc, ran.len(), world.packets().len(), lost) else {
         return Ending::Memory;
     };
-    print_parts(alloc, &text, world.journal(), line.as_bytes(), out)
+    print_parts(alloc, 1, &text, world.journal(), line.as_bytes(), out)
 }

@@ -22,10 +22,9 @@ use crate::storms::storm;
 use nq_base::ending::Ending;
 use nq_io::Sink;
 use nq_keeper::Keeper;
-use nq_replay::play::begin;
 use nq_replay::{Finished, tell_limit};
 use nq_script::{Head, Schedule};
-use nq_world::{NewFault, World};
+use nq_world::{NewFault, World, begin};
 use std::alloc::Global;
 
 /// Runs a storm of so many events, which a fate chooses, asked once for each, over four hosts, two files, and a keeper that keeps

@@ -3,6 +3,7 @@ pub mod PartsAgain
 pub mod RequestsAgain
 pub mod RepliesAgain
 pub mod Whole
+pub mod Short
 pub mod Spelled
 pub mod Filled
 pub mod Lengths

@@ -5,5 +5,6 @@ pub mod Parts
 pub mod Request
 pub mod Reply
 pub mod Reading
+pub mod Least
 pub mod Outbox
 pub mod Lent

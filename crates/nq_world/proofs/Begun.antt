@@ -13,13 +13,15 @@ use Rattle.nq_model.specs.World.{Head, first_clients, first_kept}
 use Rattle.nq_io.specs.Faults.{Rose}
 use Rattle.nq_keeper.specs.StoredKeeper.{empty_kept}
 use Rattle.nq_server.specs.Holding.{Boots, Holding, IsServer}
+use Rattle.nq_script.specs.Heads.{FitFiles, AreDistinct as Differ, IsNew as IsOther}
 use Rattle.nq_world.proofs.Going.{runs-begin, servers-begin}
+use Rattle.nq_world.specs.Beginning.{CountsBegin}
 use Rattle.nq_world.specs.First.{AreFirstFiles, told_as}
 use Rattle.nq_world.specs.Moving.{clients_in}
-use Rattle.nq_world.specs.Playing.{WorldOver, Begins, IsNew, Plays, keeper_in, seen_of}
+use Rattle.nq_world.specs.Playing.{WorldOver, Begins, HasSettings, IsNew, Plays, keeper_in, seen_of}
 use Rattle.nq_world.specs.declared.starting.NewFault.{NewFault}
 use Rattle.nq_world.specs.declared.starting.NewFault.TheVariants as fault
-use Rattle.law_bounds.specs.Within.{IsHeadWithin}
+use Rattle.walk_steps.specs.Within.{AreDistinct, IsHeadWithin, IsNew as IsFresh}
 
 -- one more client behind the first ones
 pub first-clients-more : (term host count : ℕ) → first_clients term host (suc count) ≡ first_clients term host count ++ attached_client (record { host = host + count; inc = 1 }) term 0 ∷ []
@@ -100,3 +102,31 @@ pub kept-begins : {K : Type 0} (head : Head) (r : Result (WorldOver K) (NewFault
 kept-begins head (Ok w) told middle tells before counted count kept same x = (λ is. x.0 (kept ∙ ap (told_as (first_kept head)) is), x.1, x.2 ∙ same)
 kept-begins head (Err (fault.Failed keeper)) told middle tells before counted count kept same x = subst (λ n. Rose n count) same x
 kept-begins head (Err (fault.Memory keeper)) told middle tells before counted count kept same x = x ∙ same
+
+-- ---- what a world that begins says of its run, its settings and its keeper
+
+pub begun-plays : {K : Type 0} (head : Head) (first : Kept) (r : Result (WorldOver K) (NewFault K)) (content : K → Option Kept) (told : Option Kept) (before count : ℕ) → Begins head first r told (content (keeper_in r)) before count → told ≡ Some first → IfOk r (λ w. Plays head [] w (content w.server.keeper))
+begun-plays head first (Ok w) content told before count begins is = begins.0 is
+begun-plays head first (Err e) content told before count begins is = tt
+
+pub begun-settings : {K : Type 0} (head : Head) (first : Kept) (r : Result (WorldOver K) (NewFault K)) (told tells : Option Kept) (before count : ℕ) → Begins head first r told tells before count → IfOk r (λ w. HasSettings head.hosts head.longest head.term w)
+begun-settings head first (Ok w) told tells before count begins = begins.1
+begun-settings head first (Err e) told tells before count begins = tt
+
+pub begun-counts : {K : Type 0} (head : Head) (first : Kept) (r : Result (WorldOver K) (NewFault K)) (told tells : Option Kept) (before count : ℕ) → Begins head first r told tells before count → CountsBegin r before count
+begun-counts head first (Ok w) told tells before count begins = begins.2
+begun-counts head first (Err (fault.Failed keeper)) told tells before count begins = begins
+begun-counts head first (Err (fault.Memory keeper)) told tells before count begins = begins
+
+-- ---- the files of a head
+
+is-new : (name : List ℕ) (files : List (List ℕ × ℕ)) → IsOther name files → IsFresh name files
+is-new name [] new = tt
+is-new name (f ∷ files) new = (new.0, is-new name files new.1)
+
+are-distinct : (files : List (List ℕ × ℕ)) → Differ files → AreDistinct files
+are-distinct [] differ = tt
+are-distinct (f ∷ files) differ = (is-new f.0 files differ.0, are-distinct files differ.1)
+
+pub files-first : (files : List (List ℕ × ℕ)) → FitFiles files → AreFirstFiles files
+files-first files fit = record { each = fit.each; few_files = fit.few_files; few_blocks = fit.few_blocks; distinct = are-distinct files fit.distinct }

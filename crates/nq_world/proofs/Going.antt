@@ -10,7 +10,7 @@ use Rattle.nq_model.specs.SkewBroken.{skew_broken}
 use Rattle.nq_model.specs.Stepped.{stepped_at}
 use Rattle.nq_model.specs.World.{Head, run, start}
 use Rattle.nq_model.specs.Bounds.{BootsWithin}
-use Rattle.law_bounds.proofs.WorldNumbers.{numbers-stay-within}
+use Rattle.walk_steps.proofs.WorldNumbers.{numbers-stay-within}
 use Rattle.nq_world.specs.Running.{IsRunOf, stepped_seen, RunsBegin, ServersBegin, TestsAreExact, RunsGoOn, RunsAreLawful}
 use Rattle.nq_world.specs.Shown.{datagram, FitsPacket, Seen}
 

@@ -14,3 +14,5 @@ pub mod Served
 pub mod Taken
 pub mod Refused
 pub mod Begun
+pub mod ReplyWorlds
+pub mod ServerReplies

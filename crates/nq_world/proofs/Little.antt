@@ -11,9 +11,9 @@ use Rattle.nq_model.specs.Client.{ClientStep}
 use Rattle.nq_model.specs.Message.{Message, Packet, call, reply, error, RpcError, rpc_mismatch, program_unavailable, program_mismatch, procedure_unavailable, garbage_arguments}
 use Rattle.nq_model.specs.Server.{ServerStep}
 use Rattle.nq_model.specs.World.{World, from_host, after_server, after_client, run}
-use Rattle.nq_rpc.proofs.Spellings.{length-spelling}
+use Rattle.nq_xdr.proofs.Spellings.{length-spelling}
 use Rattle.nq_wire.proofs.Lengths.{length-arguments, arguments_len-most, length-results, results_len-most}
-use Rattle.law_bounds.proofs.WorldSends.{events-send-few}
+use Rattle.walk_steps.proofs.WorldSends.{events-send-few}
 use Rattle.nq_world.specs.Rooms.{IsSmall, longest_sent, ServerSendsLittle, ClientsSendLittle, EventsSendLittle}
 use Rattle.nq_world.specs.Sending.{bytes_together}
 use Rattle.nq_world.specs.Shown.{FitsPacket, to_server}

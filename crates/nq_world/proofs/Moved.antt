@@ -11,7 +11,7 @@ use Rattle.nq_datagrams.specs.Incoming.{hears_in}
 use Rattle.nq_model.specs.Client.{Client, ClientStep}
 use Rattle.nq_model.specs.Kept.{Kept}
 use Rattle.nq_model.specs.World.{Head, World, after_client, after_hearing, at_client, deliver, deliver_to, deliver_to_client, run, step}
-use Rattle.nq_net.specs.Packets.{Datagram, PacketList}
+use Rattle.nq_link.specs.Packets.{Datagram, PacketList}
 use Rattle.nq_world.proofs.Little.{clients-send-little}
 use Rattle.nq_world.proofs.Played.{IsFit, plays-on}
 use Rattle.nq_world.proofs.Showing.{client-shown, deliveries-to-clients, found-packet}

@@ -10,7 +10,7 @@ use Rattle.nq_model.specs.Stepped.{done, stepped}
 use Rattle.nq_model.specs.World.{Head, run, step}
 use Rattle.nq_model.specs.Bounds.{BootsWithin}
 use Rattle.nq_server.specs.State.{beside}
-use Rattle.law_bounds.specs.Within.{IsGiven}
+use Rattle.walk_steps.specs.Within.{IsGiven}
 use Rattle.nq_world.proofs.Going.{runs-go-on}
 use Rattle.nq_world.proofs.Passing.{done-passes}
 use Rattle.nq_world.specs.Counting.{TookIn}

@@ -18,13 +18,13 @@ use Rattle.nq_model.specs.ServerStep.{at_time, crash, receive}
 use Rattle.nq_model.specs.SkewBroken.{skew_broken}
 use Rattle.nq_model.specs.Stepped.{done, stepped}
 use Rattle.nq_model.specs.World.{Head, World, after_server, run, sending_host, step}
-use Rattle.nq_net.specs.Packets.{Datagram, PacketList}
+use Rattle.nq_link.specs.Packets.{Datagram, PacketList}
 use Rattle.nq_server.specs.Holding.{Holding, IsTaken, Reboots, TakesIn}
 use Rattle.nq_server.specs.State.{Beside, beside, server_of}
 use Rattle.nq_server.specs.declared.received.Received.{Received}
 use Rattle.nq_wire.specs.Outbox.{Datagrams}
-use Rattle.law_bounds.specs.Says.{SaysPlainly}
-use Rattle.law_bounds.specs.Within.{IsGiven}
+use Rattle.walk_steps.specs.Says.{SaysPlainly}
+use Rattle.walk_steps.specs.Within.{IsGiven}
 use Rattle.nq_world.proofs.Counting.{took-more}
 use Rattle.nq_world.proofs.Little.{server-sends-little}
 use Rattle.nq_world.proofs.Passing.{done-passes}

@@ -15,8 +15,8 @@ use Rattle.nq_model.specs.Hear.{hear}
 use Rattle.nq_model.specs.Message.{Message, Packet, datagram_of}
 use Rattle.nq_model.specs.ServerStep.{receive}
 use Rattle.nq_model.specs.World.{World, from_host, after_server, after_client, after_hearing, sending_host, deliver_to_client, deliver_to, deliver, run}
-use Rattle.nq_net.specs.Packets.{Datagram}
-use Rattle.law_replies.proofs.ReplyWorlds.{each-packet-is-heard}
+use Rattle.nq_link.specs.Packets.{Datagram}
+use Rattle.nq_world.proofs.ReplyWorlds.{each-packet-is-heard}
 use Rattle.nq_world.specs.Shown.{datagram, FitsPacket, sent_from, to_server, Seen, Shows}
 use Rattle.nq_world.specs.Stepping.{ServerStepsAreShown, ClientStepsAreShown, DeliveriesToTheServer, DeliveriesToClients, BytesShowTheRun}
 

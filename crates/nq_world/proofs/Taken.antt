@@ -1,31 +1,36 @@
 -- What each event does to a world, from what it did to the world's parts.
-use Rattle.std.proofs.Common.{◌≡◌, ◌≤◌, ◌<◌, ℕ, ◌+◌, List, [], Option, Some, length, get_or, refl, sym, ap, ◌∙◌, arith}
+use Rattle.std.proofs.Common.{◌≡◌, ◌≤◌, ◌<◌, ℕ, ◌+◌, List, [], Option, Some, None, length, get_or, refl, sym, ap, ◌∙◌, arith}
 use Rattle.std.specs.Prelude.{Result, slice_get}
 use Rattle.nq_base.specs.declared.Call.{Call}
 use Rattle.nq_base.specs.declared.Event.{Event}
 use Rattle.nq_base.specs.declared.Party.{Party}
+use Rattle.nq_base.specs.declared.SkewBroken.{SkewBroken}
 use Rattle.nq_client.specs.Counted.{Counted}
 use Rattle.nq_clock.specs.Counts.{SkewCounts}
+use Rattle.nq_clock.specs.Tracks.{Follows}
 use Rattle.nq_datagrams.specs.Incoming.{datagram_in, hears_in}
 use Rattle.nq_base.specs.Entries.{EntryList}
 use Rattle.nq_model.specs.Client.{Client, ClientStep}
 use Rattle.nq_model.specs.ClientStep.{client_call, client_tick, restart}
 use Rattle.nq_model.specs.Kept.{Kept}
 use Rattle.nq_model.specs.Profile.{most_taken_by_server, shortest_term}
+use Rattle.nq_model.specs.SkewBroken.{skew_broken}
 use Rattle.nq_model.specs.ServerStep.{at_time, crash, receive, tick}
 use Rattle.nq_model.specs.Server.{Server, ServerStep}
 use Rattle.nq_model.specs.World.{after_server, run, sending_host}
-use Rattle.nq_net.specs.Packets.{Datagram, PacketList}
+use Rattle.nq_link.specs.Packets.{Datagram, PacketList}
 use Rattle.nq_server.specs.Holding.{Holding, IsTaken, Reboots}
 use Rattle.nq_server.specs.State.{server_of}
 use Rattle.nq_server.specs.Stepping.{next_of}
 use Rattle.nq_server.specs.declared.received.Received.{Received}
 use Rattle.nq_wire.specs.Outbox.{Datagrams}
-use Rattle.law_bounds.proofs.Saying.{server-says-plainly}
+use Rattle.walk_steps.proofs.Saying.{server-says-plainly}
 use Rattle.nq_world.proofs.Moved.{acts-steps, client-steps, hearing-steps}
 use Rattle.nq_world.proofs.Passing.{done-passes}
 use Rattle.nq_world.proofs.Played.{clocks-stay}
 use Rattle.nq_world.proofs.Served.{delivery-steps, given-delivery, reboot-serves, same-server, serves-steps, taken-serves}
+use Rattle.nq_world.proofs.Unspent.{server-in-time}
+use Rattle.nq_world.specs.Counting.{IsLastTime}
 use Rattle.nq_world.specs.Moving.{ActsAt, Clocks, Ends, HasRoom, received}
 use Rattle.nq_world.specs.Playing.{WorldOver, TakesIn, seen_of}
 use Rattle.nq_world.specs.declared.ending.Halt.{Halt}
@@ -234,3 +239,19 @@ crash-takes content longest time r answer server server' clients packets room pa
       clients = refl;
       term = refl;
     })
+
+-- the test of skew finds nothing broken at a tick of the server's clock that the protocol takes in
+pub broken-takes : {K : Type 0} (content : K → Option Kept) (broken : SkewBroken) (answer : Stepped) (old new : WorldOver K)
+    → ((events : List Event) → Follows old.skew events → skew_broken (length old.skew.hosts) old.skew.window events ≡ Some broken)
+    → TakesIn content Event.ServerTick answer old new
+broken-takes content broken answer old new finds head events plays passes =
+    let none : skew_broken (length old.skew.hosts) old.skew.window events ≡ None = (done-passes head events (seen_of old) old.skew Event.ServerTick plays.shown passes).allows in
+    let some = finds events plays.shown.clocks in
+    absurd (cc)
+
+-- no event is taken in where the server's clock shows the last time: no run comes there
+pub late-takes : {K : Type 0} (content : K → Option Kept) (event : Event) (answer : Stepped) (old new : WorldOver K)
+    → IsLastTime old.server.beside.time
+    → TakesIn content event answer old new
+late-takes content event answer old new late head events plays passes =
+    absurd (server-in-time head events old (content old.server.keeper) plays late)

@@ -6,7 +6,7 @@ use Rattle.nq_base.specs.declared.Request.{Request}
 use Rattle.nq_base.specs.declared.Request.TheVariants.{Create, Write}
 use Rattle.nq_datagrams.specs.Messages.{FitsMessage, bytes_of}
 use Rattle.nq_model.specs.Message.{call, reply, error}
-use Rattle.nq_rpc.specs.Message.{spelling}
+use Rattle.nq_xdr.specs.Message.{spelling}
 use Rattle.nq_wire.specs.Request.{arguments}
 use Rattle.nq_xdr.specs.Item.{opaque}
 use Rattle.nq_model.specs.Decided.{HasText}

@@ -1,7 +1,7 @@
 -- How far a world has counted, and what it cannot count on from.
 use Rattle.std.specs.Prelude.{◌≡◌, ◌⊎◌, ◌≤◌, ◌<◌, ℕ, ◌+◌, ◌^◌, List, [], ◌∷◌, Option, Some, slice_get}
 use Rattle.std.specs.Option.{ForSome}
-use Rattle.nq_boot.specs.Booting.{last_boot}
+use Rattle.nq_keeper.specs.Booting.{last_boot}
 use Rattle.nq_client.specs.Counted.{Counted}
 use Rattle.nq_model.specs.Client.{Client}
 use Rattle.nq_model.specs.Kept.{Kept}

@@ -1,5 +1,6 @@
 pub mod Answering
 pub mod Shown
+pub mod Beginning
 pub mod First
 pub mod Stepping
 pub mod Counting
@@ -8,3 +9,4 @@ pub mod Sending
 pub mod Rooms
 pub mod Moving
 pub mod Playing
+pub mod Replies

@@ -17,7 +17,7 @@ use Rattle.nq_model.specs.Client.{Client, ClientStep}
 use Rattle.nq_model.specs.Kept.{Kept}
 use Rattle.nq_model.specs.Server.{ServerStep}
 use Rattle.nq_model.specs.Stepped.{most_sends}
-use Rattle.nq_net.specs.Packets.{PacketList}
+use Rattle.nq_link.specs.Packets.{PacketList}
 use Rattle.nq_server.specs.Holding.{Holding, IsUntouched}
 use Rattle.nq_server.specs.State.{beside}
 use Rattle.nq_server.specs.declared.received.Received.{Received}

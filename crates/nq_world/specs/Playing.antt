@@ -13,7 +13,7 @@ use Rattle.nq_model.specs.Kept.{Kept}
 use Rattle.nq_model.specs.Profile.{shortest_term}
 use Rattle.nq_model.specs.Stepped.{done, stepped}
 use Rattle.nq_model.specs.World.{Head, run}
-use Rattle.nq_net.specs.Packets.{Datagram}
+use Rattle.nq_link.specs.Packets.{Datagram}
 use Rattle.nq_server.specs.Holding.{Holding, IsUntouched}
 use Rattle.nq_server.specs.State.{beside}
 use Rattle.nq_world.specs.Answering.{told as answer_of}

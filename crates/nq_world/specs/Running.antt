@@ -13,7 +13,7 @@ use Rattle.nq_model.specs.Stepped.{Stepped, too_many_events, no_packet, most_eve
 use Rattle.nq_model.specs.ServerStep.{boot}
 use Rattle.nq_model.specs.World.{Head, first_clients, first_kept, run, step}
 use Rattle.nq_model.specs.Bounds.{BootsWithin, KeepsBounds}
-use Rattle.law_bounds.specs.Within.{CarriesText, IsGiven, AreGiven, IsHeadWithin}
+use Rattle.walk_steps.specs.Within.{CarriesText, IsGiven, AreGiven, IsHeadWithin}
 use Rattle.nq_world.specs.Counting.{HasNumbersLeft}
 use Rattle.nq_world.specs.Shown.{Seen, Shows}
 

@@ -7,7 +7,7 @@ use Rattle.nq_datagrams.specs.Messages.{FitsMessage, bytes_of}
 use Rattle.nq_model.specs.Client.{Client}
 use Rattle.nq_model.specs.Message.{Message, Packet}
 use Rattle.nq_model.specs.World.{World}
-use Rattle.nq_net.specs.Packets.{Datagram}
+use Rattle.nq_link.specs.Packets.{Datagram}
 
 -- a packet as it travels: its sender, its receiver, and the one spelling of its message
 abbrev pub datagram : Packet → Datagram

@@ -11,8 +11,8 @@ use Rattle.nq_model.specs.Client.{Client, ClientStep}
 use Rattle.nq_model.specs.Server.{ServerStep}
 use Rattle.nq_model.specs.ServerStep.{receive}
 use Rattle.nq_model.specs.World.{Head, World, after_server, after_client, after_hearing, sending_host, run, step}
-use Rattle.nq_net.specs.Packets.{Datagram}
-use Rattle.law_bounds.specs.Says.{SaysPlainly}
+use Rattle.nq_link.specs.Packets.{Datagram}
+use Rattle.walk_steps.specs.Says.{SaysPlainly}
 use Rattle.nq_world.specs.Shown.{FitsPacket, Seen, Shows, sent_from, to_server}
 
 -- what is seen after the server put datagrams into its outbox and made entries

@@ -4,7 +4,7 @@ ghost use Rattle.std.specs.Prelude.{◌≡◌, ◌≤◌, Some, Err, length, sli
 ghost use Rattle.nq_world.specs.declared.arriving.Missing.{Missing};
 
 use nq_base::{NoMemory, Party};
-use nq_net::Packets;
+use nq_link::net::Packets;
 use std::alloc::Global;
 
 /// A packet as it arrives.

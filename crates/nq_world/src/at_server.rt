@@ -1,12 +1,14 @@
 //! Events at the server of a world, and deliveries.
 
-ghost use Rattle.std.specs.Prelude.{◌≡◌, ◌≤◌, ◌<◌, Some, length, slice_get};
+ghost use Rattle.std.specs.Prelude.{◌≡◌, ◌≤◌, ◌<◌, List, Some, Ok, IfErr, OnErr, OnOk, length, slice_get};
 ghost use Rattle.nq_base.specs.declared.Event.{Event};
 ghost use Rattle.nq_base.specs.declared.Party.{Party};
+ghost use Rattle.nq_clock.specs.Tracks.{Follows};
 ghost use Rattle.nq_model.specs.Profile.{shortest_term};
+ghost use Rattle.nq_model.specs.SkewBroken.{skew_broken};
 ghost use Rattle.nq_model.specs.Stepped.{most_events};
 ghost use Rattle.nq_model.specs.World.{sending_host};
-ghost use Rattle.nq_world.specs.Moving.{received};
+ghost use Rattle.nq_world.specs.Moving.{Clocks, received};
 ghost use Rattle.nq_world.specs.Playing.{GoesOn, TakesIn};
 
 use crate::arriving::{Arrival, Missing, read_packet};
@@ -14,7 +16,8 @@ use crate::clocks::{shown, time_after};
 use crate::ending::{Halt, finish, outbox};
 use crate::stepped::{Limit, Stepped};
 use crate::world::World;
-use nq_base::{Host, Party};
+use nq_base::{Host, Party, SkewBroken};
+use nq_clock::Skew;
 use nq_keeper::Keeper;
 use nq_server::Received;
 
@@ -37,6 +40,21 @@ fn made(taken: Received) -> Result<(), Halt>
         Received::Fault => Err(Halt::Fault),
         Received::Memory => Err(Halt::Memory),
         Received::Spent => Err(Halt::Spent),
+    }
+}
+
+/// The test of skew follows a tick of the server's clock, if it was made.
+fn follow(made: &Result<(), Halt>, skew: &mut Skew) -> Result<(), SkewBroken>
+    ensures clocks { OnOk result (Clocks made.now Event.ServerTick skew.old skew.new) }
+    ensures hosts { length skew.new.hosts ≡ length skew.old.hosts }
+    ensures window { skew.new.window ≡ skew.old.window }
+    ensures made { OnErr result (made.now ≡ Ok tt) }
+    ensures broken { IfErr result (λ broken. (events : List Event) → Follows skew.old events
+        → skew_broken (length skew.old.hosts) skew.old.window events ≡ Some broken) }
+{
+    match made {
+        Ok(()) => skew.server_tick(),
+        Err(_) => Ok(()),
     }
 }
 
@@ -103,24 +121,16 @@ impl<K: Keeper> World<K> {
             return Stepped::Limit(Limit::Events);
         };
         let taken = self.server.tick(time, &mut out, &mut self.journal);
-        match made(taken) {
-            Ok(()) => match self.skew.server_tick() {
-                Ok(()) => finish(
-                    Ok(()),
-                    &mut self.packets,
-                    &mut self.events,
-                    Party::Server,
-                    &out,
-                ),
-                Err(broken) => Stepped::SkewBroken(broken),
-            },
-            Err(halt) => finish(
-                Err(halt),
+        let ended = made(taken);
+        match follow(&ended, &mut self.skew) {
+            Ok(()) => finish(
+                ended,
                 &mut self.packets,
                 &mut self.events,
                 Party::Server,
                 &out,
             ),
+            Err(broken) => Stepped::SkewBroken(broken),
         }
     }
 

@@ -7,7 +7,7 @@ ghost use Rattle.nq_world.specs.Moving.{Ends, HasRoom};
 use crate::sending::send;
 use crate::stepped::{Limit, Stepped};
 use nq_base::{NoMemory, Party};
-use nq_net::Packets;
+use nq_link::net::Packets;
 use nq_wire::Outbox;
 use std::alloc::Global;
 

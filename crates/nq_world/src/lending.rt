@@ -17,9 +17,9 @@ use crate::starting::stop_all;
 use crate::world::World;
 use nq_base::{Call, FileId, FileRow, Host, Inc, Journal, Party, Ticks};
 use nq_client::Client;
-use nq_dirty::Dirty;
+use nq_client_parts::dirty::Dirty;
 use nq_keeper::{KeepFault, Keeper};
-use nq_net::Packets;
+use nq_link::net::Packets;
 use nq_server::Server;
 
 impl<K: Keeper> World<K> {

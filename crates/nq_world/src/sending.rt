@@ -6,7 +6,7 @@ ghost use Rattle.nq_world.specs.Sending.{bytes_together};
 ghost use Rattle.nq_world.specs.Shown.{sent_from};
 
 use nq_base::{NoMemory, Party};
-use nq_net::Packets;
+use nq_link::net::Packets;
 use nq_wire::Outbox;
 
 /// How many bytes the datagrams of an outbox have together; None where they are too many to be counted.

@@ -1,13 +1,15 @@
 //! The beginning of a world.
 
-ghost use Rattle.std.specs.Prelude.{◌≡◌, ◌≤◌, ℕ, List, length, IfOk, IfErr};
+ghost use Rattle.std.specs.Prelude.{◌≡◌, ◌≤◌, ℕ, List, [], Some, length, IfOk, IfErr};
 ghost use Rattle.nq_keeper.specs.StoredKeeper.{empty_kept};
 ghost use Rattle.nq_model.specs.Profile.{longest_term, most_hosts, shortest_term};
 ghost use Rattle.nq_model.specs.World.{first_clients, first_kept};
+ghost use Rattle.nq_script.specs.Heads.{FitsHead};
+ghost use Rattle.nq_world.specs.Beginning.{CountsBegin, NeverFails, beginning};
 ghost use Rattle.nq_world.specs.Counting.{TookIn};
 ghost use Rattle.nq_world.specs.First.{AreFirstFiles, Tells};
 ghost use Rattle.nq_world.specs.Moving.{clients_in};
-ghost use Rattle.nq_world.specs.Playing.{Begins, IsNew, keeper_in};
+ghost use Rattle.nq_world.specs.Playing.{Begins, HasSettings, IsNew, Plays, keeper_in};
 ghost use Rattle.nq_world.specs.declared.starting.NewFault.{NewFault};
 
 use crate::first::keep_head;
@@ -16,7 +18,8 @@ use nq_base::{FileList, Host, Inc, Journal, NoMemory, Ticks};
 use nq_client::{Client, StartClient};
 use nq_clock::Skew;
 use nq_keeper::{KeepFault, Keeper};
-use nq_net::Packets;
+use nq_link::net::Packets;
+use nq_script::Head;
 use nq_server::{BootFault, Server};
 use std::alloc::Global;
 
@@ -139,5 +142,49 @@ impl<K: Keeper> World<K> {
             Err(KeepFault::Failed) => Err(NewFault::Failed(keeper)),
             Err(KeepFault::Memory) => Err(NewFault::Memory(keeper)),
         }
+    }
+}
+
+/// The world before the first event of a schedule with this head, over a keeper that keeps nothing yet. The keeper is handed back
+/// where it failed, which it has counted, and where memory was wanting.
+pub fn begin<K: Keeper>(alloc: Global, head: &Head, keeper: K) -> Result<World<K>, NewFault<K>>
+    requires fits { FitsHead head.now }
+    requires empty { K.content keeper ≡ Some empty_kept }
+    ensures plays { IfOk result (λ w. Plays (beginning head.now) [] w (K.content w.server.keeper)) }
+    ensures settings { IfOk result (λ w. HasSettings head.now.hosts head.now.longest head.now.term w) }
+    ensures faults { CountsBegin result (K.faults keeper) (K.faults (keeper_in result)) }
+    ensures follows { K.follows keeper (keeper_in result) }
+{
+    World::new(
+        alloc,
+        head.hosts,
+        head.term,
+        head.longest,
+        &head.files,
+        keeper,
+    )
+}
+
+/// The world before the first event of a schedule with this head, over a keeper that keeps nothing yet and never fails.
+///
+/// # Errors
+///
+/// Only want of memory.
+pub fn begin_surely<K: Keeper + Drop>(
+    alloc: Global,
+    head: &Head,
+    keeper: K,
+) -> Result<World<K>, NoMemory>
+    requires fits { FitsHead head.now }
+    requires empty { K.content keeper ≡ Some empty_kept }
+    requires never { NeverFails K.faults K.follows keeper }
+    ensures plays { IfOk result (λ w. Plays (beginning head.now) [] w (K.content w.server.keeper)) }
+    ensures settings { IfOk result (λ w. HasSettings head.now.hosts head.now.longest head.now.term w) }
+    ensures never { IfOk result (λ w. NeverFails K.faults K.follows w.server.keeper) }
+{
+    match begin(alloc, head, keeper) {
+        Ok(world) => Ok(world),
+        Err(NewFault::Memory(_keeper)) => Err(NoMemory::Memory),
+        Err(NewFault::Failed(_keeper)) => unreachable!(),
     }
 }

@@ -12,7 +12,7 @@ use nq_base::{Event, Journal};
 use nq_client::Client;
 use nq_clock::Skew;
 use nq_keeper::Keeper;
-use nq_net::Packets;
+use nq_link::net::Packets;
 use nq_server::Server;
 use std::alloc::Global;
 use std::marker::Model;

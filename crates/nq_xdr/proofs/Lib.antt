@@ -5,3 +5,8 @@ pub mod Opaque
 pub mod Follows
 pub mod Repeats
 pub mod SameNumbers
+pub mod Auths
+pub mod Replies
+pub mod Messages
+pub mod Decoded
+pub mod Spellings

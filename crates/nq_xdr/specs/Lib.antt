@@ -3,3 +3,7 @@ pub mod Reading
 pub mod Fault
 pub mod Buffer
 pub mod Words
+pub mod Message
+pub mod Lent
+pub mod RpcReading
+pub mod RpcFault

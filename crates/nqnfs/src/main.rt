@@ -6,16 +6,16 @@
 #![tactic(auto)]
 
 ghost use Rattle.std.specs.Prelude.{◌≡◌, ◌+◌, ◌≤◌, ℕ, List, Some, IfOk, length, true, vec_len};
-ghost use Rattle.nq_command.specs.Commands.{command_of};
-ghost use Rattle.nq_command.specs.declared.Command.{Command};
+ghost use Rattle.nq_script.specs.Commands.{command_of};
+ghost use Rattle.nq_script.specs.declared.command.commands.Command.{Command};
 ghost use Rattle.nq_run.specs.Frames.{makes_a_run};
 
 use nq_base::{Host, Party};
 use nq_clock::StdClock;
 use nq_disk::{Disk, FileDisk, MemDisk, Room};
+use nq_io::streams::{StdSink, StdSource};
 use nq_link::UdpLink;
 use nq_run::{Command, CutFate, Fate, HostileFate, LossyFate, NoMemory, SteadyFate, Words, run};
-use nq_streams::{StdSink, StdSource};
 use std::io::ErrorKind;
 use std::process::ExitCode;
 use std::{env, io};

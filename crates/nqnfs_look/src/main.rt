@@ -10,11 +10,11 @@ ghost use Rattle.std.specs.Prelude.{◌<◌, ◌^◌, length};
 
 use crate::words::view_of;
 use nq_base::ending::Ending;
+use nq_io::streams::{StdSink, StdSource};
 use nq_io::{MemSink, MemSource, Put, Sink, Source, Whole, read_all};
 use nq_keeper::ListKeeper;
 use nq_observe::{NoMemory, Shown, View, look};
 use nq_replay::{read_script, replay};
-use nq_streams::{StdSink, StdSource};
 use std::alloc::Global;
 use std::io::ErrorKind;
 use std::process::ExitCode;

@@ -53,6 +53,6 @@ fn picture_of(words: &[String]) -> Option<View> {
 
 /// The number that a word writes.
 fn number_of(word: &str) -> Option<usize> {
-    let number = nq_words::number(word.as_bytes(), 1_000_000_000)?;
+    let number = nq_script::words::number(word.as_bytes(), 1_000_000_000)?;
     Some(number as usize)
 }

@@ -13,7 +13,7 @@ use nq_base::ending::{Ending, Halt};
 use nq_base::{Host, Party, Who};
 use nq_clock::StdClock;
 use nq_link::{Came, Link, UdpLink};
-use nq_words::number;
+use nq_script::words::number;
 use std::alloc::AllocError;
 use std::env;
 use std::process::ExitCode;

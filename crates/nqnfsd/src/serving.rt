@@ -9,10 +9,10 @@ use nq_clock::StdClock;
 use nq_disk::FileDisk;
 use nq_hosts::daemon::{MOST_TURNS, Watcher};
 use nq_hosts::traffic::{CountedLink, Report};
+use nq_io::streams::StdSink;
 use nq_link::{Came, Link, UdpLink};
 use nq_service::mount::{Greeter, Survey, serve_image};
 use nq_store::OpenFault;
-use nq_streams::StdSink;
 use std::alloc::AllocError;
 use std::io;
 

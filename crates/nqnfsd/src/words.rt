@@ -1,6 +1,6 @@
 //! What the words say.
 
-use nq_words::number;
+use nq_script::words::number;
 
 /// What is to be done.
 #[derive(Drop)]

@@ -2,8 +2,8 @@
 
 use crate::page::{Page, bytes_of, cut, hex_of};
 use nq_base::Spare;
-use nq_rpc::{decode, encode};
 use nq_wire::{decode_reply, decode_request, encode_reply, encode_request};
+use nq_xdr::rpc::{decode, encode};
 use nq_xdr::{Reader, Writer};
 use std::alloc::Global;
 use std::str;

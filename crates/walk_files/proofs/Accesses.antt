@@ -20,7 +20,7 @@ use Rattle.walk_steps.proofs.StepCases.{call-cases, unless-cached-cases, tick-ca
 use Rattle.walk_steps.proofs.ClientFacts.{Alone, push_in}
 use Rattle.nq_model.proofs.ClientLists.{used-lease-found}
 use Rattle.walk_steps.proofs.ClientMoves.{none-some, some-same}
-use Rattle.walk_calls.proofs.PushLists.{is-at}
+use Rattle.walk_files.proofs.PushLists.{is-at}
 use Rattle.nq_model.specs.Client.{Client, ClientStep, Job, Lease, Ticket, UnderWay, begun, lease_on, used_lease, marked_used, lets_read, lets_write, dirty_at, first_dirty, is_push_of, drop_dirty, is_push_at, clean_at, is_clean_at, drop_clean, Clean}
 use Rattle.nq_model.specs.ClientStep.{begins_call, is_called, sends_unless_cached, client_call, client_tick, at_time, sends_again, restart, starts}
 use Rattle.nq_model.specs.Hear.{vacates_lease, notes_notice, evicted, cancels, cancelled, wants_of, replied, goes_on, hear}

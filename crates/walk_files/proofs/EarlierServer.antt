@@ -10,9 +10,9 @@ use Rattle.nq_base.specs.declared.Request.{Request}
 use Rattle.nq_base.specs.declared.Who.{Who}
 use Rattle.walk_steps.proofs.ClientFacts.{push_in}
 use Rattle.walk_steps.proofs.ClientMoves.{some-same}
-use Rattle.walk_calls.proofs.JournalMoves.{covers-more}
-use Rattle.walk_calls.proofs.ServerTells.{DecidedAt, decided-at, IsQuiet, AllQuiet, Effects, without, goes_through, pushes, Decides, Attaches, Moves, same_lines, attaches_one, decides_one}
-use Rattle.walk_calls.proofs.WritesFit.{IsClear, IsOpenPush, WritesFit}
+use Rattle.walk_files.proofs.JournalMoves.{covers-more}
+use Rattle.walk_files.proofs.ServerTells.{DecidedAt, decided-at, IsQuiet, AllQuiet, Effects, without, goes_through, pushes, Decides, Attaches, Moves, same_lines, attaches_one, decides_one}
+use Rattle.walk_files.proofs.WritesFit.{IsClear, IsOpenPush, WritesFit}
 use Rattle.walk_files.proofs.EarlierStores.{Earlier, push-behind}
 use Rattle.nq_model.specs.Client.{Client}
 use Rattle.nq_model.specs.Journal.{Stores, IsStored}

@@ -3,7 +3,7 @@ use Rattle.std.proofs.Common.{◌≡◌, ◌<◌, ◌≤◌, ℕ, true, false, L
 use Rattle.nq_base.specs.declared.Entry.{Entry}
 use Rattle.nq_base.specs.declared.Entry.TheVariants.{C, W, S, L, B, A}
 use Rattle.nq_base.specs.declared.Who.{Who}
-use Rattle.walk_calls.proofs.WritesFit.{CoversNumber, IsRising}
+use Rattle.walk_files.proofs.WritesFit.{CoversNumber, IsRising}
 use Rattle.walk_files.proofs.HeldContents.{IsInside, content}
 use Rattle.walk_files.proofs.Stores.{Rests}
 use Rattle.nq_model.proofs.Lists.{each-append, each-map}

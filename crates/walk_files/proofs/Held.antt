@@ -4,7 +4,7 @@ use Rattle.std.proofs.lemmas.Bool.Decides.{nat_tests}
 use Rattle.nq_base.specs.declared.Entry.{Entry}
 use Rattle.nq_base.specs.declared.Entry.TheVariants.{W, S, Z}
 use Rattle.nq_base.specs.declared.Who.{Who}
-use Rattle.walk_calls.proofs.WritesFit.{IsRising}
+use Rattle.walk_files.proofs.WritesFit.{IsRising}
 use Rattle.walk_files.proofs.Places.{last-same}
 use Rattle.walk_files.proofs.Stores.{StoreFits, Rests, stored-value}
 use Rattle.nq_model.proofs.JournalTests.{tells_write_on, tells_through, tells_stored, tells_last_value}

@@ -12,7 +12,7 @@ use Rattle.nq_base.specs.declared.Who.{Who}
 use Rattle.walk_steps.proofs.ClientMoves.{some-same, none-some}
 use Rattle.walk_files.proofs.Histories.{count-changed, count-unchanged, content-stays, content-changed}
 use Rattle.nq_model.specs.Contents.{changes, changes_of, delayed_value, after_change, with_length, content_at}
-use Rattle.walk_calls.proofs.WritesFit.{IsRising}
+use Rattle.walk_files.proofs.WritesFit.{IsRising}
 use Rattle.walk_files.proofs.Held.{HasHeld, Skips, held-skip, held-cut, delayed-unheld}
 use Rattle.walk_files.proofs.Stores.{Rests}
 use Rattle.nq_model.proofs.JournalTests.{tells_who}

@@ -7,7 +7,7 @@ use Rattle.nq_base.specs.declared.Entry.TheVariants.{W, S, F, Z}
 use Rattle.nq_base.specs.declared.Who.{Who}
 use Rattle.walk_steps.proofs.ClientMoves.{some-same, none-some}
 use Rattle.nq_model.specs.Contents.{changes, delayed_value, after_change}
-use Rattle.walk_calls.proofs.WritesFit.{IsRising}
+use Rattle.walk_files.proofs.WritesFit.{IsRising}
 use Rattle.walk_files.proofs.Held.{held-through, held-store}
 use Rattle.walk_files.proofs.HeldContents.{HeldBlocks, IsInside, content, content-same, content-next, unchanged-skips, delayed-is, skip-all, set-block, lengthened, cut-blocks}
 use Rattle.walk_files.proofs.Stores.{StoreFits, Rests}

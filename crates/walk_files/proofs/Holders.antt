@@ -14,7 +14,7 @@ use Rattle.nq_base.specs.declared.Who.{Who}
 use Rattle.walk_files.proofs.ChainFacts.{ChainFits, PushesFit}
 use Rattle.nq_model.specs.Chained.{IsChained}
 use Rattle.walk_steps.proofs.ClientMoves.{some-same}
-use Rattle.walk_calls.proofs.WritesFit.{WritesFit, JournalFits}
+use Rattle.walk_files.proofs.WritesFit.{WritesFit, JournalFits}
 use Rattle.walk_steps.proofs.Runs.{Runs}
 use Rattle.nq_model.proofs.Lists.{each-append, each-map}
 use Rattle.nq_model.specs.Client.{Client, ClientStep, Lease, lease_on, lets_read, lets_write}

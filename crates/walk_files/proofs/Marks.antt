@@ -3,8 +3,8 @@ use Rattle.std.proofs.Common.{◌≡◌, ◌<◌, ◌≤◌, ◌⊎◌, ℕ, fal
 use Rattle.nq_base.specs.declared.Entry.{Entry}
 use Rattle.nq_base.specs.declared.Entry.TheVariants.{A, W, R}
 use Rattle.nq_base.specs.declared.Who.{Who}
-use Rattle.walk_calls.proofs.JournalMoves.{covers-more}
-use Rattle.walk_calls.proofs.WritesFit.{IsClear, IsRising}
+use Rattle.walk_files.proofs.JournalMoves.{covers-more}
+use Rattle.walk_files.proofs.WritesFit.{IsClear, IsRising}
 use Rattle.nq_model.specs.Client.{ClientStep}
 use Rattle.nq_model.specs.Journal.{Throughout, Each}
 use Rattle.walk_steps.proofs.Packets.{In}

@@ -11,10 +11,10 @@ use Rattle.nq_base.specs.declared.Said.{Said}
 use Rattle.nq_base.specs.declared.Said.TheVariants.{OkValue, OkBy}
 use Rattle.nq_base.specs.declared.Want.{Want}
 use Rattle.nq_base.specs.declared.Who.{Who}
-use Rattle.walk_calls.proofs.Entries.{IsOpenAsTold}
-use Rattle.walk_calls.proofs.Placed.{Placed, IsServedInOrder, reads-on, call-later, reads-called}
-use Rattle.walk_calls.proofs.CallWorlds.{CallsKnown}
-use Rattle.walk_calls.proofs.WritesFit.{IsRising}
+use Rattle.walk_files.proofs.CallsEntries.{IsOpenAsTold}
+use Rattle.walk_files.proofs.Placed.{Placed, IsServedInOrder, reads-on, call-later, reads-called}
+use Rattle.walk_files.proofs.CallWorlds.{CallsKnown}
+use Rattle.walk_files.proofs.WritesFit.{IsRising}
 use Rattle.walk_files.proofs.ReadClient.{Adds, accesses-writes, put-reads-nothing, told-reads-nothing, plain-reads}
 use Rattle.walk_files.proofs.ReadFacts.{IsServed, IsBacked, reads_nothing, counted_read, IsGood, ReadsOf, ReadsFit, placed-append, served-once, waits-more, standing-before}
 use Rattle.walk_files.proofs.Places.{IsPlaced, placed-in, throughout-at, before-exists}

@@ -10,7 +10,7 @@ use Rattle.nq_base.specs.declared.Reply.{Reply}
 use Rattle.nq_base.specs.declared.Request.{Request}
 use Rattle.nq_base.specs.declared.Said.{Said}
 use Rattle.nq_base.specs.declared.Who.{Who}
-use Rattle.walk_calls.proofs.WritesFit.{IsRising}
+use Rattle.walk_files.proofs.WritesFit.{IsRising}
 use Rattle.walk_files.proofs.ReadFacts.{IsServed, IsBacked, IsGood, ReadsOf, ReadsFit, placed-append, get-append, served-more, backed-more, waits-more}
 use Rattle.walk_files.proofs.Places.{IsPlaced}
 use Rattle.walk_files.proofs.ReadParts.{ReadsNothing}

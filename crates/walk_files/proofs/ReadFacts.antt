@@ -12,9 +12,9 @@ use Rattle.nq_base.specs.declared.Said.{Said}
 use Rattle.nq_base.specs.declared.Told.{Told}
 use Rattle.nq_base.specs.declared.Want.{Want}
 use Rattle.nq_base.specs.declared.Who.{Who}
-use Rattle.walk_calls.proofs.Placed.{Placed, IsServedIn, IsServedInOrder, call-later}
-use Rattle.walk_calls.proofs.JournalMoves.{covers-more}
-use Rattle.walk_calls.proofs.WritesFit.{CoversNumber}
+use Rattle.walk_files.proofs.Placed.{Placed, IsServedIn, IsServedInOrder, call-later}
+use Rattle.walk_files.proofs.JournalMoves.{covers-more}
+use Rattle.walk_files.proofs.WritesFit.{CoversNumber}
 use Rattle.walk_files.proofs.Places.{IsPlaced, last-same}
 use Rattle.walk_files.proofs.ReaderValues.{NoneWaits}
 use Rattle.walk_files.proofs.ReadParts.{TicketOfCall}

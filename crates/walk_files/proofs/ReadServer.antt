@@ -10,12 +10,12 @@ use Rattle.nq_base.specs.declared.Request.{Request}
 use Rattle.nq_base.specs.declared.Said.{Said}
 use Rattle.nq_base.specs.declared.Want.{Want}
 use Rattle.nq_base.specs.declared.Who.{Who}
-use Rattle.walk_calls.proofs.ClientMoves.{IsBelow}
-use Rattle.walk_calls.proofs.CallWorlds.{CallsKnown}
+use Rattle.walk_files.proofs.ClientMoves.{IsBelow}
+use Rattle.walk_files.proofs.CallWorlds.{CallsKnown}
 use Rattle.walk_steps.proofs.ClientMoves.{none-some, some-same}
 use Rattle.walk_files.proofs.ServerDelays.{Never}
 use Rattle.nq_model.specs.Contents.{delayed_by}
-use Rattle.walk_calls.proofs.WritesFit.{IsRising}
+use Rattle.walk_files.proofs.WritesFit.{IsRising}
 use Rattle.walk_files.proofs.ReadClient.{good-more}
 use Rattle.walk_files.proofs.ReadFacts.{IsServed, IsBacked, IsGood, ReadsFit, placed-append, get-append, served-more, backed-more, waits-more, standing-after}
 use Rattle.walk_files.proofs.ServerReads.{IsUnread, TellsNone, ServesRead, reads_none, reads_one}

@@ -4,7 +4,7 @@ use Rattle.std.proofs.Common.{◌≡◌, ◌<◌, ◌≤◌, ◌⊎◌, ℕ, tru
 use Rattle.nq_base.specs.declared.Entry.{Entry}
 use Rattle.nq_base.specs.declared.Entry.TheVariants.{W, S, L}
 use Rattle.nq_base.specs.declared.Who.{Who}
-use Rattle.walk_calls.proofs.WritesFit.{CoversNumber, IsRising}
+use Rattle.walk_files.proofs.WritesFit.{CoversNumber, IsRising}
 use Rattle.walk_files.proofs.Held.{HasHeld, IsHeld, last-of-undisturbed}
 use Rattle.walk_files.proofs.Places.{last-same, cut-in}
 use Rattle.walk_files.proofs.Stores.{StoresNumber, stored-value}

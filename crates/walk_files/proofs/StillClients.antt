@@ -13,7 +13,7 @@ use Rattle.nq_base.specs.declared.Who.{Who}
 use Rattle.walk_files.proofs.ChainFacts.{IsFenced, gone, ahead, earlier, IsBoundOrFenced, bound, fenced, done_at, rev_at}
 use Rattle.nq_model.specs.Chained.{IsChained, has_done, has_done_write, is_done, due}
 use Rattle.walk_steps.proofs.ClientMoves.{some-same}
-use Rattle.walk_calls.proofs.WritesFit.{WritesFit, IsClear, IsBehind}
+use Rattle.walk_files.proofs.WritesFit.{WritesFit, IsClear, IsBehind}
 use Rattle.nq_model.specs.Client.{Client, ClientStep, Lease, lease_on}
 use Rattle.nq_model.specs.Journal.{Each}
 use Rattle.nq_model.specs.Kept.{host_row}

@@ -15,9 +15,9 @@ use Rattle.walk_files.proofs.ChainFacts.{ChainFits, PushesFit, StandsWriting, In
 use Rattle.nq_model.specs.Chained.{IsChained, KnowsFile, has_done, has_done_write, due}
 use Rattle.walk_steps.proofs.ClientFacts.{push_in}
 use Rattle.walk_steps.proofs.ClientMoves.{none-some, some-same}
-use Rattle.walk_calls.proofs.FactPushes.{dirty-clear}
-use Rattle.walk_calls.proofs.JournalMoves.{store-covers, covers-more}
-use Rattle.walk_calls.proofs.WritesFit.{WritesFit, CoversNumber, IsClear, IsRising, LiesWithin, in_list, under_way, PushStands, waits, stored}
+use Rattle.walk_files.proofs.FactPushes.{dirty-clear}
+use Rattle.walk_files.proofs.JournalMoves.{store-covers, covers-more}
+use Rattle.walk_files.proofs.WritesFit.{WritesFit, CoversNumber, IsClear, IsRising, LiesWithin, in_list, under_way, PushStands, waits, stored}
 use Rattle.nq_model.proofs.Lists.{exists-left}
 use Rattle.nq_model.specs.Client.{Client, ClientStep, Lease, Ticket, lease_on, is_clean_in}
 use Rattle.nq_model.specs.Journal.{Covers, Throughout, Each}

@@ -13,8 +13,8 @@ use Rattle.nq_model.specs.Chained.{IsChained}
 use Rattle.walk_steps.proofs.ClientFacts.{changes_file, fits_job, fits_attach, fits_renewal, push_in}
 use Rattle.walk_steps.proofs.ClientMoves.{none-some, some-same}
 use Rattle.walk_steps.proofs.BoundBefore.{Stood, StandsWriting}
-use Rattle.walk_calls.proofs.ServerTells.{ServerTells, Moves, same_lines, attaches_one, decides_one}
-use Rattle.walk_calls.proofs.WritesFit.{IsClear}
+use Rattle.walk_files.proofs.ServerTells.{ServerTells, Moves, same_lines, attaches_one, decides_one}
+use Rattle.walk_files.proofs.WritesFit.{IsClear}
 use Rattle.nq_model.specs.Client.{Client, Job, Lease, Ticket, lease_on, is_clean_in}
 use Rattle.nq_model.specs.Journal.{Each}
 use Rattle.nq_model.specs.Kept.{host_row}

@@ -3,7 +3,7 @@ use Rattle.std.proofs.Common.{◌≡◌, ◌<◌, ◌≤◌, ◌⊎◌, ℕ, fal
 use Rattle.nq_base.specs.declared.Entry.{Entry}
 use Rattle.nq_base.specs.declared.Entry.TheVariants.{C, W, R, S, L, G, F, O, B, X, Z, A}
 use Rattle.nq_base.specs.declared.Who.{Who}
-use Rattle.walk_calls.proofs.WritesFit.{CoversNumber, IsClear, IsRising}
+use Rattle.walk_files.proofs.WritesFit.{CoversNumber, IsClear, IsRising}
 use Rattle.walk_files.proofs.Places.{IsPlaced, before-in, before-exists, last-same, cut-in}
 use Rattle.nq_model.specs.Journal.{Throughout, Covers, Stores, Loses, IsStored, IsLost, IsWriteOn, since_cut}
 use Rattle.nq_model.specs.Stands.{Stands, IsStandingValue}

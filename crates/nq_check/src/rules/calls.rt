@@ -1,34 +1,21 @@
 //! Calls, and what they ask.
 
-ghost use Rattle.std.specs.Prelude.{◌≡◌, ◌≤◌, length, reverse, Some, None};
+ghost use Rattle.std.specs.Prelude.{◌≡◌, reverse, Some, None};
 ghost use Rattle.nq_model.specs.Journal.{call_of, told_by};
 ghost use Rattle.nq_model.specs.JournalTest.{exists, is_answer, is_open, speaks_of};
 ghost use Rattle.nq_model.specs.LegalTest.{is_reading};
 ghost use Rattle.nq_model.specs.OrderedTest.{call_resizes, has_open, is_open_call, open_call, writes};
-ghost use Rattle.nq_model.specs.ReportedTest.{is_busy_answer, is_reporting};
+ghost use Rattle.nq_model.specs.ReportedTest.{is_reporting};
 
-use crate::rules::entries::{is_busy_answer, told_by};
-use crate::sought::{Sought, is_near};
+use crate::rules::entries::told_by;
+use crate::sought::{Sought, is_among, is_near};
 use nq_base::{BlockNo, Entry, FileId, Told, Who};
 
 /// Whether an A of a call stands among the entries.
 pub(crate) fn is_answered(entries: &[Entry], by: &Who, n: u64) -> bool
     ensures { result ≡ exists (is_answer by.now n) (reverse entries.now) }
 {
-    is_near(entries, 0, Sought::Answer { who: by, q: n })
-}
-
-#[tactic(auto, using(crate::proofs::Backwards::last_first))]
-/// Whether an A `busy` of a call stands among the entries.
-pub(crate) fn is_busy(entries: &[Entry], by: &Who, n: u64) -> bool
-    ensures { result ≡ exists (is_busy_answer by.now n) (reverse entries.now) }
-{
-    let mut found = false;
-    for entry in entries {
-        let here = is_busy_answer(entry, by, n);
-        found = here || found;
-    }
-    found
+    is_among(entries, Sought::Answer { who: by, q: n })
 }
 
 #[tactic(auto, using(crate::proofs::Backwards::last_first))]
@@ -45,16 +32,8 @@ pub(crate) fn call_of(entries: &[Entry], by: &Who, n: u64) -> Option<Told>
     call
 }
 
-/// Whether a call is open behind the entries.
-pub(crate) fn is_open(before: &[Entry], by: &Who, n: u64) -> bool
-    ensures { result ≡ is_open (reverse before.now) by.now n }
-{
-    is_open_near(before, 0, by, n)
-}
-
-/// The same, for a call whose C stands at a place.
-fn is_open_near(before: &[Entry], near: usize, by: &Who, n: u64) -> bool
-    requires { near ≤ length before.now }
+/// Whether a call is open behind the entries. Those from a place on are looked at first.
+pub(crate) fn is_open(before: &[Entry], near: usize, by: &Who, n: u64) -> bool
     ensures { result ≡ is_open (reverse before.now) by.now n }
 {
     is_near(before, near, Sought::Call { who: by, q: n })
@@ -63,11 +42,10 @@ fn is_open_near(before: &[Entry], near: usize, by: &Who, n: u64) -> bool
 
 /// Whether the entry at a place is a C of the incarnation whose call is open behind the entries.
 pub(crate) fn is_open_call(before: &[Entry], place: usize, by: &Who, entry: &Entry) -> bool
-    requires { place ≤ length before.now }
     ensures { result ≡ is_open_call (reverse before.now) by.now entry.now }
 {
     match entry {
-        Entry::C { who, q, .. } => *by == *who && is_open_near(before, place, by, *q),
+        Entry::C { who, q, .. } => *by == *who && is_open(before, place, by, *q),
         _ => false,
     }
 }

@@ -5,8 +5,9 @@ ghost use Rattle.nq_check.specs.Named.{is_named_at_once, is_reported, is_reporte
 ghost use Rattle.nq_model.specs.JournalTest.{exists};
 ghost use Rattle.nq_model.specs.ReportedTest.{is_name_of, is_same_span, is_unnamed, must_report, name_losses, names};
 
-use crate::rules::calls::{call_of, is_answered, is_busy, is_reporting, speaks_of};
+use crate::rules::calls::{call_of, is_answered, is_reporting, speaks_of};
 use crate::rules::entries::is_answer;
+use crate::sought::{Sought, is_among};
 use nq_base::{Entry, Loss, Said, Span, Spans, Told, Who};
 
 /// Whether a span names a loss.
@@ -79,7 +80,9 @@ fn must_report(whole: &[Entry], by: &Who, loss: &Loss, entry: &Entry) -> bool
 {
     match entry {
         Entry::C { who, q, told } => {
-            *by == *who && is_reporting(loss.file, told) && !is_busy(whole, who, *q)
+            *by == *who
+                && is_reporting(loss.file, told)
+                && !is_among(whole, Sought::Busy { who, q: *q })
         }
         _ => false,
     }

@@ -1,15 +1,16 @@
 //! Which entries stand in the order of their client's calls.
 
-ghost use Rattle.std.specs.Prelude.{◌≡◌, ◌≤◌, length, reverse};
+ghost use Rattle.std.specs.Prelude.{◌≡◌, reverse};
 ghost use Rattle.nq_model.specs.JournalTest.{each, exists, is_call, throughout};
 ghost use Rattle.nq_model.specs.LegalTest.{is_counted_by};
-ghost use Rattle.nq_model.specs.OrderedTest.{is_before_call, is_busy_next, is_call_below, is_call_in_order, is_in_order, is_no_other, is_numbered, is_read_in_order, is_resize_by, is_resize_in_order, is_write_in_order, is_write_of};
+ghost use Rattle.nq_model.specs.OrderedTest.{is_before_call, is_busy_next, is_call_below, is_call_in_order, is_in_order, is_no_other, is_numbered, is_read_in_order, is_resize_in_order, is_write_in_order};
 
 use crate::rules::calls::{
     call_of, has_open, is_answered, is_open, is_open_call, open_call, resizes, writes,
 };
-use crate::rules::entries::{is_call, is_call_below, is_numbered, is_resize_by};
+use crate::rules::entries::{is_call, is_call_below, is_numbered};
 use crate::rules::legal::{is_counted, is_counted_by};
+use crate::sought::{Sought, is_among};
 use nq_base::{BlockNo, Entry, FileId, Number, Said, Who};
 
 // ---- calls
@@ -56,7 +57,6 @@ fn is_call_in_order(before: &[Entry], after: &[Entry], by: &Who, n: u64) -> bool
 
 /// Whether the entry at a place is no C of another open call of the incarnation.
 fn is_no_other(before: &[Entry], place: usize, by: &Who, n: u64, entry: &Entry) -> bool
-    requires { place ≤ length before.now }
     ensures { result ≡ is_no_other (reverse before.now) by.now n entry.now }
 {
     match entry {
@@ -128,11 +128,11 @@ struct Writing<'a> {
     value: u32,
 }
 
-/// Whether a write is of an open call.
-fn is_write_of(before: &[Entry], write: &Writing, call: Option<u64>) -> bool
-    ensures { result ≡ is_write_of (reverse before.now) write.now.who.now write.now.file write.now.block write.now.number write.now.value call }
+/// Whether a W stands in order.
+fn is_write_in_order(before: &[Entry], write: &Writing) -> bool
+    ensures { result ≡ is_write_in_order (reverse before.now) write.now.who.now write.now.file write.now.block write.now.number write.now.value }
 {
-    let Some(q) = call else {
+    let Some(q) = open_call(before, write.who) else {
         return false;
     };
     is_alone(before, write.who, q)
@@ -146,33 +146,15 @@ fn is_write_of(before: &[Entry], write: &Writing, call: Option<u64>) -> bool
         && !has_numbered(before, write.who, write.number)
 }
 
-/// Whether a W stands in order.
-fn is_write_in_order(before: &[Entry], write: &Writing) -> bool
-    ensures { result ≡ is_write_in_order (reverse before.now) write.now.who.now write.now.file write.now.block write.now.number write.now.value }
-{
-    is_write_of(before, write, open_call(before, write.who))
-}
-
 // ---- resizes, removals and reads
-
-#[tactic(auto, using(crate::proofs::Backwards::last_first))]
-/// Whether a Z of a call stands among the entries.
-fn is_resized(before: &[Entry], by: &Who, n: u64) -> bool
-    ensures { result ≡ exists (is_resize_by by.now n) (reverse before.now) }
-{
-    let mut found = false;
-    for entry in before {
-        let here = is_resize_by(entry, by, n);
-        found = here || found;
-    }
-    found
-}
 
 /// Whether a Z stands in order.
 fn is_resize_in_order(before: &[Entry], by: &Who, n: u64, on: FileId, to: u32) -> bool
     ensures { result ≡ is_resize_in_order (reverse before.now) by.now n on to }
 {
-    is_open(before, by, n) && resizes(on, to, call_of(before, by, n)) && !is_resized(before, by, n)
+    is_open(before, 0, by, n)
+        && resizes(on, to, call_of(before, by, n))
+        && !is_among(before, Sought::Resize { who: by, q: n })
 }
 
 #[tactic(auto, using(crate::proofs::Backwards::last_first))]
@@ -192,7 +174,7 @@ fn has_counted(whole: &[Entry], before: &[Entry], by: &Who, n: u64) -> bool
 fn is_read_in_order(whole: &[Entry], before: &[Entry], by: &Who, n: u64) -> bool
     ensures { result ≡ is_read_in_order (reverse whole.now) (reverse before.now) by.now n }
 {
-    is_open(before, by, n) && !has_counted(whole, before, by, n)
+    is_open(before, 0, by, n) && !has_counted(whole, before, by, n)
 }
 
 // ---- the law

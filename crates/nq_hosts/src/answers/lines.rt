@@ -4,7 +4,7 @@ ghost use Rattle.std.specs.Prelude.{◌≡◌, ◌++◌, IfOk, OnOk};
 ghost use Rattle.nq_hosts.specs.Answers.{answer_line, answers_text, told_line};
 
 use nq_base::{Entry, Journal, NoMemory, Said};
-use nq_words::push_said;
+use nq_script::words::push_said;
 use std::alloc::Global;
 
 /// The words of each answer that a journal tells, on a line each, in the order of the journal.
@@ -29,7 +29,7 @@ fn push_told(out: &mut Vec<u8>, entry: &Entry) -> Result<(), NoMemory>
 }
 
 /// Appends the line of an answer.
-#[tactic(auto, unfolding(crate::specs::Answers::answer_line, nq_words::specs::Words::line))]
+#[tactic(auto, unfolding(crate::specs::Answers::answer_line, nq_script::specs::Words::line))]
 fn push_line(out: &mut Vec<u8>, said: &Said) -> Result<(), NoMemory>
     ensures { OnOk result (out.new.items ≡ out.old.items ++ answer_line said.now) }
 {

@@ -5,10 +5,10 @@ ghost use Rattle.std.specs.Option.{option_map};
 ghost use Rattle.nq_base.specs.declared.Call.{Call};
 ghost use Rattle.nq_hosts.specs.Lines.{StepsOver, Tells};
 ghost use Rattle.nq_script.specs.Calls.{SpellsCall};
-ghost use Rattle.nq_words.specs.Reading.{cut};
+ghost use Rattle.nq_script.specs.WordsReading.{cut};
 
 use nq_script::parse_call;
-use nq_words::cut;
+use nq_script::words::cut;
 use std::alloc::Global;
 
 /// The bytes before the first line feed, and those after it; None where there is none.

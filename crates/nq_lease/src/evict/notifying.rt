@@ -4,7 +4,7 @@ ghost use Rattle.std.specs.Prelude.{◌≡◌, ◌+◌, ◌%◌, [], ◌∷◌, 
 ghost use Rattle.nq_base.specs.declared.Request.{Request as Asks};
 ghost use Rattle.nq_datagrams.specs.Messages.{FitsMessage};
 ghost use Rattle.nq_datagrams.specs.Sent.{FitsPacket, sent};
-ghost use Rattle.nq_lease.specs.Telling.{Grows, own_rows, told_among, told_rows};
+ghost use Rattle.nq_lease.specs.Telling.{Tells, own_rows, told_among, told_rows};
 ghost use Rattle.nq_model.specs.Message.{call};
 ghost use Rattle.nq_model.specs.Profile.{xid_end};
 ghost use Rattle.nq_model.specs.Server.{notices as notices_of, to_host};
@@ -56,12 +56,7 @@ fn tell_among(
     xid: &mut u32,
     out: &mut Outbox,
 ) -> Result<(), NoMemory>
-    ensures first { out.new.first ≡ out.old.first }
-    ensures grows { Grows out.old.datagrams out.new.datagrams }
-    ensures number { OnErr result (xid.new ≡ xid.old) }
-    ensures told { OnOk result (out.new.datagrams ≡ out.old.datagrams ++ map sent (notices_of xid.old (told_among file host access rows.now))) }
-    ensures fit { OnOk result (All FitsPacket (notices_of xid.old (told_among file host access rows.now))) }
-    ensures counted { OnOk result (xid.new ≡ (xid.old + length (told_among file host access rows.now)) % xid_end) }
+    ensures { Tells (told_among file host access rows.now) result xid.old xid.new out.old out.new }
 {
     let mut number = *xid;
     for row in rows {
@@ -81,12 +76,7 @@ fn tell_own(
     xid: &mut u32,
     out: &mut Outbox,
 ) -> Result<(), NoMemory>
-    ensures first { out.new.first ≡ out.old.first }
-    ensures grows { Grows out.old.datagrams out.new.datagrams }
-    ensures number { OnErr result (xid.new ≡ xid.old) }
-    ensures told { OnOk result (out.new.datagrams ≡ out.old.datagrams ++ map sent (notices_of xid.old (own_rows own))) }
-    ensures fit { OnOk result (All FitsPacket (notices_of xid.old (own_rows own))) }
-    ensures counted { OnOk result (xid.new ≡ (xid.old + length (own_rows own)) % xid_end) }
+    ensures { Tells (own_rows own) result xid.old xid.new out.old out.new }
 {
     let number = *xid;
     if let Some(row) = own {
@@ -105,12 +95,7 @@ fn tell_all(
     xid: &mut u32,
     out: &mut Outbox,
 ) -> Result<(), NoMemory>
-    ensures first { out.new.first ≡ out.old.first }
-    ensures grows { Grows out.old.datagrams out.new.datagrams }
-    ensures number { OnErr result (xid.new ≡ xid.old) }
-    ensures told { OnOk result (out.new.datagrams ≡ out.old.datagrams ++ map sent (notices_of xid.old (told_rows file to table.now.rows))) }
-    ensures fit { OnOk result (All FitsPacket (notices_of xid.old (told_rows file to table.now.rows))) }
-    ensures counted { OnOk result (xid.new ≡ (xid.old + length (told_rows file to table.now.rows)) % xid_end) }
+    ensures { Tells (told_rows file to table.now.rows) result xid.old xid.new out.old out.new }
 {
     match to {
         NoticeTo::Others { host, access } => {

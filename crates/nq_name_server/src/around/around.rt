@@ -6,13 +6,13 @@ ghost use Rattle.nq_model.specs.Client.{Client};
 ghost use Rattle.nq_model.specs.World.{World};
 ghost use Rattle.nq_name_server.specs.Around.{datagram, datagram_of, flushed_one, new_around, sent_one, shown};
 ghost use Rattle.nq_name_server.specs.Outside.{found_by};
-ghost use Rattle.nq_net.specs.Packets.{Datagram};
+ghost use Rattle.nq_link.specs.Packets.{Datagram};
 
 use crate::around::packets::{Travelling, inner_at, push};
 use crate::server::NameServer;
 use nq_base::{Host, Name, NoMemory, Party, Ticks};
-use nq_name_cache::{Found, NameCache};
-use nq_net::Packets;
+use nq_directory::name_cache::{Found, NameCache};
+use nq_link::net::Packets;
 use nq_wire::Outbox;
 use std::alloc::Global;
 use std::marker::Model;

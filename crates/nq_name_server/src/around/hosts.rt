@@ -4,8 +4,8 @@ ghost use Rattle.std.specs.Prelude.{◌≡◌, ◌<◌, ◌^◌, ◌≤◌, ◌�
 ghost use Rattle.nq_base.specs.declared.Event.{Event};
 ghost use Rattle.nq_model.specs.Client.{Client};
 ghost use Rattle.nq_model.specs.World.{World};
-ghost use Rattle.nq_name_cache.specs.Asking.{Asks, heard, lists_dir};
-ghost use Rattle.nq_name_cache.specs.Names.{Names, before_call, new_names};
+ghost use Rattle.nq_directory.specs.Asking.{Asks, heard, lists_dir};
+ghost use Rattle.nq_directory.specs.NameCacheNames.{Names, before_call, new_names};
 ghost use Rattle.nq_name_server.specs.Around.{IsAsked, asked_as, once_sent, over, to_server};
 ghost use Rattle.nq_name_server.specs.Outside.{at_side, heard_by, is_changing, lists};
 
@@ -13,7 +13,7 @@ use crate::around::around::Around;
 use crate::server::NUMBERS_END;
 use nq_base::{Call, Host, NoMemory, Party, Ticks, Who};
 use nq_directory::Prefix;
-use nq_name_cache::NameCache;
+use nq_directory::name_cache::NameCache;
 use nq_wire::Outbox;
 use std::alloc::Global;
 

@@ -4,7 +4,7 @@ ghost use Rattle.std.specs.Prelude.{◌≡◌, [], ◌∷◌, ◌++◌, Some, le
 ghost use Rattle.nq_name_server.specs.Around.{travelling};
 
 use nq_base::{NoMemory, Party};
-use nq_net::Packets;
+use nq_link::net::Packets;
 use std::marker::Model;
 
 /// A packet that travels, as it is taken in. Clauses see it as the definitions do.

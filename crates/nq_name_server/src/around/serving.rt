@@ -2,7 +2,7 @@
 
 ghost use Rattle.std.specs.Prelude.{◌≡◌, ◌<◌, ◌≤◌, ◌^◌, ◌↔◌, [], ◌∷◌, List, IfOk, IsTrue, OnErr, OnOk};
 ghost use Rattle.nq_base.specs.declared.Event.{Event};
-ghost use Rattle.nq_listing.specs.Reading.{dir_vacated_in};
+ghost use Rattle.nq_directory.specs.Reading.{dir_vacated_in};
 ghost use Rattle.nq_model.specs.World.{World};
 ghost use Rattle.nq_name_server.specs.Around.{IsHeldUp, once_sent, over, served_by};
 ghost use Rattle.nq_name_server.specs.Outside.{served_vacated};
@@ -13,7 +13,7 @@ use crate::change::DirChange;
 use crate::leaf::BegunLeaf;
 use crate::server::{NUMBERS_END, NameServer};
 use nq_base::{Host, NoMemory, Party, Ticks};
-use nq_listing::{DirTag, ReadDir, later_bytes, read_dir_vacated};
+use nq_directory::listing::{DirTag, ReadDir, later_bytes, read_dir_vacated};
 
 impl Around {
     /// Whether there is a number for one lease more.

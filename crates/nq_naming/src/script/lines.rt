@@ -5,7 +5,7 @@ ghost use Rattle.nq_naming.specs.Line.{find_line, host_of, list_line, prefix_of}
 
 use nq_base::{Host, Name};
 use nq_directory::Prefix;
-use nq_words::{cut, is, name, number};
+use nq_script::words::{cut, is, name, number};
 
 /// The host of a word, below the number of hosts.
 fn host_of(word: &[u8], hosts: u32) -> Option<Host>

@@ -9,12 +9,12 @@ ghost use Rattle.nq_script.specs.declared.heads.Head.{Head};
 
 use crate::asides::aside::AsideLine;
 use nq_base::NoMemory;
+use nq_script::words::cut;
 use nq_script::{Script, ScriptFault, parse, parse_head};
-use nq_words::cut;
 use std::alloc::Global;
 
-/// The version in which all is read and printed.
-pub const VERSION: u32 = 2;
+/// The version in which all is read.
+const VERSION: u32 = 2;
 
 /// A schedule with asides as its text gives it.
 #[derive(Drop)]

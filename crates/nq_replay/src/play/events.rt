@@ -6,7 +6,7 @@ ghost use Rattle.nq_model.specs.World.{Head};
 ghost use Rattle.nq_replay.specs.Delivering.{Marks};
 ghost use Rattle.nq_replay.specs.Going.{Goes, HasFlag, IsAt};
 ghost use Rattle.nq_replay.specs.Playing.{play_event, play_flow, play_round, play_ticks, repeated};
-ghost use Rattle.nq_world.specs.Playing.{CanCome, CountsFaults, HasSettings};
+ghost use Rattle.nq_world.specs.Playing.{CanCome, GoesOn};
 
 use crate::play::delivered::Delivered;
 use nq_base::{Event, Host};
@@ -36,9 +36,7 @@ pub(crate) fn take<K: Keeper>(
     requires { CanCome (length world.old.clients) world.old.skew.window event.now }
     ensures goes { (head : Head) (events : List Event) → IsAt head events world.old (K.content world.old.server.keeper) delivered.old
         → Goes result (play_event head event.now events) (λ es. IsAt head es world.new (K.content world.new.server.keeper) delivered.new) }
-    ensures faults { CountsFaults result (K.faults world.old.server.keeper) (K.faults world.new.server.keeper) }
-    ensures follows { K.follows world.old.server.keeper world.new.server.keeper }
-    ensures settings { HasSettings (length world.old.clients) world.old.skew.window world.old.term world.new }
+    ensures keeps { GoesOn K.faults K.follows result world.old world.new }
 {
     let Ok(()) = delivered.reach(world.packets().len() as usize) else {
         return Stepped::Memory;
@@ -60,23 +58,9 @@ pub(crate) fn deliver<K: Keeper>(
 ) -> Stepped
     ensures goes { (head : Head) (events : List Event) → IsAt head events world.old (K.content world.old.server.keeper) delivered.old
         → Goes result (play_event head (Event.Deliver packet) events) (λ es. IsAt head es world.new (K.content world.new.server.keeper) delivered.new) }
-    ensures faults { CountsFaults result (K.faults world.old.server.keeper) (K.faults world.new.server.keeper) }
-    ensures follows { K.follows world.old.server.keeper world.new.server.keeper }
-    ensures settings { HasSettings (length world.old.clients) world.old.skew.window world.old.term world.new }
+    ensures keeps { GoesOn K.faults K.follows result world.old world.new }
 {
     let event = Event::Deliver(packet);
-    take(world, delivered, &event)
-}
-
-/// Gives a tick of the server's clock to a world.
-fn tick_server<K: Keeper>(world: &mut World<K>, delivered: &mut Delivered) -> Stepped
-    ensures goes { (head : Head) (events : List Event) → IsAt head events world.old (K.content world.old.server.keeper) delivered.old
-        → Goes result (play_event head Event.ServerTick events) (λ es. IsAt head es world.new (K.content world.new.server.keeper) delivered.new) }
-    ensures faults { CountsFaults result (K.faults world.old.server.keeper) (K.faults world.new.server.keeper) }
-    ensures follows { K.follows world.old.server.keeper world.new.server.keeper }
-    ensures settings { HasSettings (length world.old.clients) world.old.skew.window world.old.term world.new }
-{
-    let event = Event::ServerTick;
     take(world, delivered, &event)
 }
 
@@ -90,9 +74,7 @@ pub(crate) fn take_times<K: Keeper>(
     requires { CanCome (length world.old.clients) world.old.skew.window event.now }
     ensures goes { (head : Head) (events : List Event) → IsAt head events world.old (K.content world.old.server.keeper) delivered.old
         → Goes result (repeated times (play_event head event.now) events) (λ es. IsAt head es world.new (K.content world.new.server.keeper) delivered.new) }
-    ensures faults { CountsFaults result (K.faults world.old.server.keeper) (K.faults world.new.server.keeper) }
-    ensures follows { K.follows world.old.server.keeper world.new.server.keeper }
-    ensures settings { HasSettings (length world.old.clients) world.old.skew.window world.old.term world.new }
+    ensures keeps { GoesOn K.faults K.follows result world.old world.new }
 {
     for turn in 0..times {
         match take(world, delivered, event) {
@@ -108,9 +90,7 @@ fn tick_hosts<K: Keeper>(world: &mut World<K>, delivered: &mut Delivered, hosts:
     requires { hosts ≤ length world.old.clients }
     ensures goes { (head : Head) (events : List Event) → IsAt head events world.old (K.content world.old.server.keeper) delivered.old
         → Goes result (play_ticks head 0 hosts events) (λ es. IsAt head es world.new (K.content world.new.server.keeper) delivered.new) }
-    ensures faults { CountsFaults result (K.faults world.old.server.keeper) (K.faults world.new.server.keeper) }
-    ensures follows { K.follows world.old.server.keeper world.new.server.keeper }
-    ensures settings { HasSettings (length world.old.clients) world.old.skew.window world.old.term world.new }
+    ensures keeps { GoesOn K.faults K.follows result world.old world.new }
 {
     for host in 0..hosts {
         let event = Event::ClientTick(Host(host));
@@ -127,12 +107,10 @@ fn round<K: Keeper>(world: &mut World<K>, delivered: &mut Delivered, hosts: u32)
     requires { hosts ≤ length world.old.clients }
     ensures goes { (head : Head) (events : List Event) → head.hosts ≡ hosts → IsAt head events world.old (K.content world.old.server.keeper) delivered.old
         → Goes result (play_round head events) (λ es. IsAt head es world.new (K.content world.new.server.keeper) delivered.new) }
-    ensures faults { CountsFaults result (K.faults world.old.server.keeper) (K.faults world.new.server.keeper) }
-    ensures follows { K.follows world.old.server.keeper world.new.server.keeper }
-    ensures settings { HasSettings (length world.old.clients) world.old.skew.window world.old.term world.new }
+    ensures keeps { GoesOn K.faults K.follows result world.old world.new }
 {
     match tick_hosts(world, delivered, hosts) {
-        Stepped::Done => tick_server(world, delivered),
+        Stepped::Done => take(world, delivered, &Event::ServerTick),
         other => other,
     }
 }
@@ -147,9 +125,7 @@ pub(crate) fn rounds<K: Keeper>(
     requires { hosts ≤ length world.old.clients }
     ensures goes { (head : Head) (events : List Event) → head.hosts ≡ hosts → IsAt head events world.old (K.content world.old.server.keeper) delivered.old
         → Goes result (repeated times (play_round head) events) (λ es. IsAt head es world.new (K.content world.new.server.keeper) delivered.new) }
-    ensures faults { CountsFaults result (K.faults world.old.server.keeper) (K.faults world.new.server.keeper) }
-    ensures follows { K.follows world.old.server.keeper world.new.server.keeper }
-    ensures settings { HasSettings (length world.old.clients) world.old.skew.window world.old.term world.new }
+    ensures keeps { GoesOn K.faults K.follows result world.old world.new }
 {
     for turn in 0..times {
         match round(world, delivered, hosts) {
@@ -165,9 +141,7 @@ pub(crate) fn rounds<K: Keeper>(
 pub(crate) fn flow<K: Keeper>(world: &mut World<K>, delivered: &mut Delivered, most: u32) -> Stepped
     ensures goes { (head : Head) (events : List Event) → IsAt head events world.old (K.content world.old.server.keeper) delivered.old
         → Goes result (play_flow head most events) (λ es. IsAt head es world.new (K.content world.new.server.keeper) delivered.new) }
-    ensures faults { CountsFaults result (K.faults world.old.server.keeper) (K.faults world.new.server.keeper) }
-    ensures follows { K.follows world.old.server.keeper world.new.server.keeper }
-    ensures settings { HasSettings (length world.old.clients) world.old.skew.window world.old.term world.new }
+    ensures keeps { GoesOn K.faults K.follows result world.old world.new }
 {
     for turn in 0..most {
         match delivered.next(world.packets().len() as usize) {

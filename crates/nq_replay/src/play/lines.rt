@@ -8,7 +8,7 @@ ghost use Rattle.nq_replay.specs.Going.{AreForWorld, Comes, Goes, IsAt, IsForWor
 ghost use Rattle.nq_replay.specs.Playing.{play_line, play_lines};
 ghost use Rattle.nq_replay.specs.declared.play.played.Played.{Played};
 ghost use Rattle.nq_script.specs.declared.lines.Line.{Line};
-ghost use Rattle.nq_world.specs.Playing.{CountsFaults, HasSettings, Plays};
+ghost use Rattle.nq_world.specs.Playing.{GoesOn, Plays};
 ghost use Rattle.nq_world.specs.declared.stepped.Stepped.{Stepped};
 
 use crate::play::delivered::Delivered;
@@ -31,9 +31,7 @@ fn play_line<K: Keeper>(
     requires can { IsForWorld (length world.old.clients) world.old.skew.window line.now }
     ensures goes { (head : Head) (events : List Event) → head.hosts ≡ hosts → IsAt head events world.old (K.content world.old.server.keeper) delivered.old
         → Goes result (play_line head most line.now events) (λ es. IsAt head es world.new (K.content world.new.server.keeper) delivered.new) }
-    ensures faults { CountsFaults result (K.faults world.old.server.keeper) (K.faults world.new.server.keeper) }
-    ensures follows { K.follows world.old.server.keeper world.new.server.keeper }
-    ensures settings { HasSettings (length world.old.clients) world.old.skew.window world.old.term world.new }
+    ensures keeps { GoesOn K.faults K.follows result world.old world.new }
 {
     match line {
         Line::Events { event, times } => take_times(world, delivered, event, *times),
@@ -58,9 +56,7 @@ fn play_second<K: Keeper>(
     ensures goes { (line : Line) → slice_get lines.now place ≡ Some line → (head : Head) (events : List Event) → head.hosts ≡ hosts
         → IsAt head events world.old (K.content world.old.server.keeper) delivered.old
         → Goes result (play_line head most line events) (λ es. IsAt head es world.new (K.content world.new.server.keeper) delivered.new) }
-    ensures faults { CountsFaults result (K.faults world.old.server.keeper) (K.faults world.new.server.keeper) }
-    ensures follows { K.follows world.old.server.keeper world.new.server.keeper }
-    ensures settings { HasSettings (length world.old.clients) world.old.skew.window world.old.term world.new }
+    ensures keeps { GoesOn K.faults K.follows result world.old world.new }
 {
     match lines.get(place) {
         Some(line) => play_line(world, delivered, hosts, most, &line),
@@ -83,9 +79,7 @@ fn play_at<K: Keeper>(
     ensures goes { (line : Line) → slice_get lines.now place ≡ Some line → (head : Head) (events : List Event) → head.hosts ≡ hosts
         → IsAt head events world.old (K.content world.old.server.keeper) delivered.old
         → Goes result (play_line head most line events) (λ es. IsAt head es world.new (K.content world.new.server.keeper) delivered.new) }
-    ensures faults { CountsFaults result (K.faults world.old.server.keeper) (K.faults world.new.server.keeper) }
-    ensures follows { K.follows world.old.server.keeper world.new.server.keeper }
-    ensures settings { HasSettings (length world.old.clients) world.old.skew.window world.old.term world.new }
+    ensures keeps { GoesOn K.faults K.follows result world.old world.new }
 {
     match lines.packet_at(place) {
         Some(packet) => deliver(world, delivered, packet),
@@ -106,7 +100,7 @@ fn stopped(first: u32, place: usize, answer: Stepped) -> Played
 
 /// Plays lines over a world of so many hosts, in which nothing was played before. The first line has this number in its text, and
 /// a flow may have so many deliveries.
-pub fn play<K: Keeper>(
+pub(crate) fn play<K: Keeper>(
     alloc: Global,
     world: &mut World<K>,
     hosts: u32,
@@ -120,8 +114,7 @@ pub fn play<K: Keeper>(
     ensures comes { (head : Head) → head.hosts ≡ hosts → Plays head [] world.old (K.content world.old.server.keeper)
         → Comes result (play_lines head most first lines.now []) (λ events. Plays head events world.new (K.content world.new.server.keeper)) }
     ensures stops { said result ≡ Stepped.Done → result ≡ Played.All }
-    ensures faults { CountsFaults (said result) (K.faults world.old.server.keeper) (K.faults world.new.server.keeper) }
-    ensures follows { K.follows world.old.server.keeper world.new.server.keeper }
+    ensures keeps { GoesOn K.faults K.follows (said result) world.old world.new }
 {
     let mut delivered = Delivered::new(alloc);
     for place in 0..lines.len() {

@@ -10,8 +10,8 @@ ghost use Rattle.nq_stage.specs.Staged.{new_stager};
 use crate::stager::acknowledged::{Acknowledged, find, note};
 use crate::{Pushed, Written, commit_bytes, is_unstaged, read_push, read_verifier, stage_bytes};
 use nq_base::{Block, Loss, NoMemory, Who};
-use nq_dirty::Dirty;
-use nq_rpc::Bytes;
+use nq_client_parts::dirty::Dirty;
+use nq_xdr::rpc::Bytes;
 use std::alloc::Global;
 use std::marker::Model;
 

@@ -1,11 +1,11 @@
 //! Reading the parts of arguments and results.
 
-ghost use Rattle.std.specs.Prelude.{◌≡◌, ◌↔◌, ◌++◌, [], true, IfSome, IfOk, IsOk};
+ghost use Rattle.std.specs.Prelude.{◌≡◌, ◌≤◌, ◌+◌, ◌↔◌, ◌++◌, [], Ok, true, length, IfSome, IfOk, IsOk};
 ghost use Rattle.nq_base.specs.Name.{IsName};
 ghost use Rattle.nq_xdr.specs.Item.{word, hyper, opaque};
 ghost use Rattle.nq_xdr.specs.Reading.{Gives, word_at, hyper_at};
 ghost use Rattle.nq_wire.specs.Parts.{head, tag_bytes, mode_number, grant_bytes, optional, IsWho, IsTag, IsGrant};
-ghost use Rattle.nq_wire.specs.Reading.{Reads, item, head_at, tag_at, wanted_mode, want_at, granted_mode, grant_at, base_at, optional_at, name_of, name_at, body_at};
+ghost use Rattle.nq_wire.specs.Reading.{Reads, head_at, tag_at, wanted_mode, want_at, granted_mode, grant_at, base_at, optional_at, name_of, name_at, body_at};
 
 use crate::PushBase;
 use crate::fault::Garbage;
@@ -13,20 +13,24 @@ use crate::lent::LentBlock;
 use nq_base::{Block, Grant, Host, Inc, Mode, Name, Rev, Spare, Tag, Want, Who};
 use nq_xdr::Reader;
 
-/// An unsigned integer.
-pub(crate) fn word(reader: &mut Reader) -> Result<u32, Garbage>
-    ensures found { IfOk result (λ n. reader.old ≡ word n ++ reader.new) }
-    ensures step { Gives (λ n. (n, reader.new)) result (item (word_at reader.old)) }
+/// An unsigned integer, whose bytes are left.
+pub(crate) fn word(reader: &mut Reader) -> u32
+    requires { 4 ≤ length reader.old }
+    ensures found { reader.old ≡ word result ++ reader.new }
+    ensures step { word_at reader.old ≡ Ok (result, reader.new) }
+    ensures left { length reader.old ≡ 4 + length reader.new }
 {
-    Ok(reader.u32()?)
+    reader.u32().unwrap()
 }
 
-/// An unsigned hyper integer.
-pub(crate) fn hyper(reader: &mut Reader) -> Result<u64, Garbage>
-    ensures found { IfOk result (λ n. reader.old ≡ hyper n ++ reader.new) }
-    ensures step { Gives (λ n. (n, reader.new)) result (item (hyper_at reader.old)) }
+/// An unsigned hyper integer, whose bytes are left.
+pub(crate) fn hyper(reader: &mut Reader) -> u64
+    requires { 8 ≤ length reader.old }
+    ensures found { reader.old ≡ hyper result ++ reader.new }
+    ensures step { hyper_at reader.old ≡ Ok (result, reader.new) }
+    ensures left { length reader.old ≡ 8 + length reader.new }
 {
-    Ok(reader.u64()?)
+    reader.u64().unwrap()
 }
 
 /// Who asks: a host and its incarnation.
@@ -39,8 +43,11 @@ pub fn who(reader: &mut Reader) -> Result<Who, Garbage>
     ensures found { Reads head IsWho reader.old reader.new result }
     ensures step { Gives (λ w. (w, reader.new)) result (head_at reader.old) }
 {
-    let host = word(reader)?;
-    let inc = word(reader)?;
+    if reader.rest().len() < 8 {
+        return Err(Garbage);
+    }
+    let host = word(reader);
+    let inc = word(reader);
     Ok(Who {
         host: Host(host),
         inc: Inc(inc),
@@ -52,14 +59,28 @@ pub fn who(reader: &mut Reader) -> Result<Who, Garbage>
 /// # Errors
 ///
 /// [`Garbage`] where the bytes end before.
-#[tactic(auto, unfolding(crate::specs::Reading::tag_at, crate::specs::Parts::tag_bytes))]
 pub fn tag(reader: &mut Reader) -> Result<Tag, Garbage>
     ensures found { Reads tag_bytes IsTag reader.old reader.new result }
     ensures step { Gives (λ t. (t, reader.new)) result (tag_at reader.old) }
 {
-    let boot = word(reader)?;
-    let number = hyper(reader)?;
-    Ok(Tag { boot, number })
+    if reader.rest().len() < 12 {
+        return Err(Garbage);
+    }
+    Ok(tag_there(reader))
+}
+
+/// A tag, whose bytes are left.
+#[tactic(auto, unfolding(crate::specs::Reading::tag_at, crate::specs::Parts::tag_bytes))]
+pub(crate) fn tag_there(reader: &mut Reader) -> Tag
+    requires { 12 ≤ length reader.old }
+    ensures fits { IsTag result }
+    ensures found { reader.old ≡ tag_bytes result ++ reader.new }
+    ensures step { tag_at reader.old ≡ Ok (result, reader.new) }
+    ensures left { length reader.old ≡ 12 + length reader.new }
+{
+    let boot = word(reader);
+    let number = hyper(reader);
+    Tag { boot, number }
 }
 
 /// The mode of a lease that is wanted.
@@ -78,9 +99,12 @@ fn wanted_mode(number: u32) -> Result<Mode, Garbage>
 pub(crate) fn want(reader: &mut Reader) -> Result<Want, Garbage>
     ensures { Gives (λ w. (w, reader.new)) result (want_at reader.old) }
 {
-    let number = word(reader)?;
+    if reader.rest().len() < 8 {
+        return Err(Garbage);
+    }
+    let number = word(reader);
     let mode = wanted_mode(number)?;
-    let term = word(reader)?;
+    let term = word(reader);
     Ok(Want { mode, term })
 }
 
@@ -103,17 +127,20 @@ fn grant(reader: &mut Reader) -> Result<Grant, Garbage>
     ensures found { Reads grant_bytes IsGrant reader.old reader.new result }
     ensures step { Gives (λ g. (g, reader.new)) result (grant_at reader.old) }
 {
-    let number = word(reader)?;
+    if reader.rest().len() < 44 {
+        return Err(Garbage);
+    }
+    let number = word(reader);
     let mode = granted_mode(number)?;
-    let term = word(reader)?;
-    let tag_of_grant = tag(reader)?;
-    let since = tag(reader)?;
-    let rev = hyper(reader)?;
-    let blocks = word(reader)?;
+    let term = word(reader);
+    let tag = tag_there(reader);
+    let since = tag_there(reader);
+    let rev = hyper(reader);
+    let blocks = word(reader);
     Ok(Grant {
         mode,
         term,
-        tag: tag_of_grant,
+        tag,
         since,
         rev: Rev(rev),
         blocks,
@@ -124,8 +151,11 @@ fn grant(reader: &mut Reader) -> Result<Grant, Garbage>
 fn push_base(reader: &mut Reader) -> Result<PushBase, Garbage>
     ensures { Gives (λ p. (p, reader.new)) result (base_at reader.old) }
 {
-    let boot = word(reader)?;
-    let base = hyper(reader)?;
+    if reader.rest().len() < 12 {
+        return Err(Garbage);
+    }
+    let boot = word(reader);
+    let base = hyper(reader);
     Ok(PushBase {
         boot,
         base: Rev(base),

@@ -1,8 +1,9 @@
 //! Reading results.
 
-ghost use Rattle.std.specs.Prelude.{◌≡◌, ◌≢◌, true, ◌<◌, ◌≤◌, ◌↔◌, IfOk};
+ghost use Rattle.std.specs.Prelude.{◌≡◌, ◌≢◌, Ok, true, ◌<◌, ◌≤◌, ◌↔◌, length, IfOk};
 ghost use Rattle.nq_base.specs.declared.Reply.{Reply};
 ghost use Rattle.nq_xdr.specs.Reading.{Gives};
+ghost use Rattle.nq_wire.specs.Least.{least_results};
 ghost use Rattle.nq_wire.specs.Reply.{IsResults};
 ghost use Rattle.nq_wire.specs.Lent.{lent_in};
 ghost use Rattle.nq_wire.specs.Reading.{found_at, created_at, attributes_at, block_at, written_at, lease_at, resized_at, results_at, answer_at, reply_at, reply_in};
@@ -15,48 +16,52 @@ use nq_base::{FileId, Inc, Rev, Spare};
 use nq_xdr::Reader;
 
 #[tactic(auto, unfolding(crate::specs::Reading::found_at))]
-fn found<'a>(inc: Inc, reader: &mut Reader<'a>) -> Result<LentReply<'a>, Garbage>
-    ensures { Gives (λ r. (r, reader.new)) (lent_in result) (found_at inc reader.old) }
+fn found(inc: Inc, reader: &mut Reader) -> Reply
+    requires { 8 ≤ length reader.old }
+    ensures { found_at inc reader.old ≡ Ok (result, reader.new) }
 {
-    let file = word(reader)?;
-    let blocks = word(reader)?;
-    Ok(LentReply::Plain(Reply::Lookup {
+    let file = word(reader);
+    let blocks = word(reader);
+    Reply::Lookup {
         inc,
         file: FileId(file),
         blocks,
-    }))
+    }
 }
 
 #[tactic(auto, unfolding(crate::specs::Reading::created_at))]
-fn created<'a>(inc: Inc, reader: &mut Reader<'a>) -> Result<LentReply<'a>, Garbage>
-    ensures { Gives (λ r. (r, reader.new)) (lent_in result) (created_at inc reader.old) }
+fn created(inc: Inc, reader: &mut Reader) -> Reply
+    requires { 4 ≤ length reader.old }
+    ensures { created_at inc reader.old ≡ Ok (result, reader.new) }
 {
-    let file = word(reader)?;
-    Ok(LentReply::Plain(Reply::Create {
+    let file = word(reader);
+    Reply::Create {
         inc,
         file: FileId(file),
-    }))
+    }
 }
 
 #[tactic(auto, unfolding(crate::specs::Reading::attributes_at))]
-fn attributes<'a>(inc: Inc, reader: &mut Reader<'a>) -> Result<LentReply<'a>, Garbage>
-    ensures { Gives (λ r. (r, reader.new)) (lent_in result) (attributes_at inc reader.old) }
+fn attributes(inc: Inc, reader: &mut Reader) -> Reply
+    requires { 12 ≤ length reader.old }
+    ensures { attributes_at inc reader.old ≡ Ok (result, reader.new) }
 {
-    let blocks = word(reader)?;
-    let rev = hyper(reader)?;
-    Ok(LentReply::Plain(Reply::GetAttr {
+    let blocks = word(reader);
+    let rev = hyper(reader);
+    Reply::GetAttr {
         inc,
         blocks,
         rev: Rev(rev),
-    }))
+    }
 }
 
 /// The results of READ, which lend the body.
 #[tactic(auto, unfolding(crate::specs::Reading::block_at))]
 fn block<'a>(inc: Inc, reader: &mut Reader<'a>) -> Result<LentReply<'a>, Garbage>
+    requires { 8 ≤ length reader.old }
     ensures { Gives (λ r. (r, reader.new)) (lent_in result) (block_at inc reader.old) }
 {
-    let rev = hyper(reader)?;
+    let rev = hyper(reader);
     let body = lent_body(reader)?;
     let grant = optional_grant(reader)?;
     Ok(LentReply::Read {
@@ -68,11 +73,12 @@ fn block<'a>(inc: Inc, reader: &mut Reader<'a>) -> Result<LentReply<'a>, Garbage
 }
 
 #[tactic(auto, unfolding(crate::specs::Reading::written_at))]
-fn written<'a>(inc: Inc, reader: &mut Reader<'a>) -> Result<LentReply<'a>, Garbage>
-    ensures { Gives (λ r. (r, reader.new)) (lent_in result) (written_at inc reader.old) }
+fn written(inc: Inc, reader: &mut Reader) -> Reply
+    requires { 8 ≤ length reader.old }
+    ensures { written_at inc reader.old ≡ Ok (result, reader.new) }
 {
-    let rev = hyper(reader)?;
-    Ok(LentReply::Plain(Reply::Write { inc, rev: Rev(rev) }))
+    let rev = hyper(reader);
+    Reply::Write { inc, rev: Rev(rev) }
 }
 
 #[tactic(auto, unfolding(crate::specs::Reading::lease_at))]
@@ -84,14 +90,33 @@ fn lease<'a>(inc: Inc, reader: &mut Reader<'a>) -> Result<LentReply<'a>, Garbage
 }
 
 #[tactic(auto, unfolding(crate::specs::Reading::resized_at))]
-fn resized<'a>(inc: Inc, reader: &mut Reader<'a>) -> Result<LentReply<'a>, Garbage>
-    ensures { Gives (λ r. (r, reader.new)) (lent_in result) (resized_at inc reader.old) }
+fn resized(inc: Inc, reader: &mut Reader) -> Reply
+    requires { 8 ≤ length reader.old }
+    ensures { resized_at inc reader.old ≡ Ok (result, reader.new) }
 {
-    let rev = hyper(reader)?;
-    Ok(LentReply::Plain(Reply::Resize { inc, rev: Rev(rev) }))
+    let rev = hyper(reader);
+    Reply::Resize { inc, rev: Rev(rev) }
+}
+
+/// How many bytes the items of fixed size take that stand in front, behind the incarnation and the status OK.
+fn least_results(procedure: Procedure) -> usize
+    ensures { result ≡ least_results procedure }
+{
+    match procedure {
+        Procedure::Create => 4,
+        Procedure::Lookup | Procedure::Read | Procedure::Write | Procedure::Resize => 8,
+        Procedure::GetAttr => 12,
+        Procedure::Null
+        | Procedure::Attach
+        | Procedure::GetLease
+        | Procedure::Vacated
+        | Procedure::Evicted
+        | Procedure::Remove => 0,
+    }
 }
 
 /// The results of a procedure, behind the incarnation and the status OK.
+#[tactic(auto, using(crate::proofs::Short::results_short))]
 fn results<'a>(
     procedure: Procedure,
     inc: Inc,
@@ -99,15 +124,18 @@ fn results<'a>(
 ) -> Result<LentReply<'a>, Garbage>
     ensures { Gives (λ r. (r, reader.new)) (lent_in result) (results_at procedure inc reader.old) }
 {
+    if reader.rest().len() < least_results(procedure) {
+        return Err(Garbage);
+    }
     match procedure {
         Procedure::Attach => Ok(LentReply::Plain(Reply::Attach { inc })),
-        Procedure::Lookup => found(inc, reader),
-        Procedure::Create => created(inc, reader),
-        Procedure::GetAttr => attributes(inc, reader),
+        Procedure::Lookup => Ok(LentReply::Plain(found(inc, reader))),
+        Procedure::Create => Ok(LentReply::Plain(created(inc, reader))),
+        Procedure::GetAttr => Ok(LentReply::Plain(attributes(inc, reader))),
         Procedure::Read => block(inc, reader),
-        Procedure::Write => written(inc, reader),
+        Procedure::Write => Ok(LentReply::Plain(written(inc, reader))),
         Procedure::GetLease => lease(inc, reader),
-        Procedure::Resize => resized(inc, reader),
+        Procedure::Resize => Ok(LentReply::Plain(resized(inc, reader))),
         Procedure::Remove => Ok(LentReply::Plain(Reply::Remove { inc })),
         Procedure::Null | Procedure::Vacated | Procedure::Evicted => Err(Garbage),
     }
@@ -118,8 +146,11 @@ fn results<'a>(
 fn answer<'a>(procedure: Procedure, reader: &mut Reader<'a>) -> Result<LentReply<'a>, Garbage>
     ensures { Gives (λ r. (r, reader.new)) (lent_in result) (answer_at procedure reader.old) }
 {
-    let inc = Inc(word(reader)?);
-    let number = word(reader)?;
+    if reader.rest().len() < 8 {
+        return Err(Garbage);
+    }
+    let inc = Inc(word(reader));
+    let number = word(reader);
     if number == status::OK {
         return results(procedure, inc, reader);
     }

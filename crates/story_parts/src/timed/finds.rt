@@ -1,9 +1,9 @@
 //! A host that keeps the names of a directory, and finds names among them.
 
 use nq_base::{FileId, Grant, Host, Inc, Mode, Name, Rev, Tag, Ticks, Who};
+use nq_directory::listing::{BegunPage, MOST_NAMES};
+use nq_directory::name_cache::{Found, NameCache};
 use nq_directory::{FileName, Prefix};
-use nq_listing::{BegunPage, MOST_NAMES};
-use nq_name_cache::{Found, NameCache};
 use std::alloc::Global;
 
 /// The term of the lease, in ticks. No clock ticks here, so it runs.

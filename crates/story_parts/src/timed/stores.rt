@@ -1,7 +1,7 @@
 //! What a server keeps: requests that are decided over it, in lists or on a disk.
 
 ghost use Rattle.std.specs.Prelude.{◌≡◌, true};
-ghost use Rattle.nq_files.specs.Deciding.{IsOfHost};
+ghost use Rattle.nq_keeper.specs.Deciding.{IsOfHost};
 ghost use Rattle.nq_model.specs.Decided.{is_decided_once};
 
 use crate::timed::disks;
@@ -9,7 +9,7 @@ use nq_base::{
     Block, BlockNo, Decided, FileId, Gate, Host, Inc, Name, Number, Request, Seq, Verdict, Who,
 };
 use nq_disk::{FileDisk, MemDisk, Room};
-use nq_files::{ReadOut, decide, read_block};
+use nq_keeper::requests::{ReadOut, decide, read_block};
 use nq_keeper::{Keeper, ListKeeper};
 use std::alloc::Global;
 

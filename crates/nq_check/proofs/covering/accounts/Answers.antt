@@ -8,9 +8,9 @@ returns-in-S c =
     stored_ok c.covers_anew.result 18446744073709551615 (reverse c.args.whole.now) c.args.entry.now s.who s.file s.block s.first s.last s.now c.own_key.result
     c.args.reach.now c.covers_anew.new.reach s.is c.own_key.ensures c.covers_anew.ensures
 
-pub returns-else-not-covers_at : goal.returns-else-not-covers_at
-returns-else-not-covers_at c =
+pub returns-else-not-is_there : goal.returns-else-not-is_there
+returns-else-not-is_there c =
     let s = c.in-L in
-    let found : c.covers_at.result ≡ true = search rules in
+    let found : c.is_there.result ≡ true = search rules in
     lost_ok c.covers_anew-in-L.result 18446744073709551615 (reverse c.args.whole.now) c.args.entry.now s.who s.file s.block s.first s.last
-    c.own_key-in-L.result c.args.reach.now c.covers_anew-in-L.new.reach s.is c.own_key-in-L.ensures (c.covers_at.ensures found) c.covers_anew-in-L.ensures
+    c.own_key-in-L.result c.args.reach.now c.covers_anew-in-L.new.reach s.is c.own_key-in-L.ensures (c.is_there.ensures found) c.covers_anew-in-L.ensures

@@ -2,7 +2,7 @@ use Rattle.std.proofs.Common.{rules, sym}
 use Rattle.std.specs.Prelude.{IsTrue}
 use Rattle.nq_check.proofs.legal.is_lost.Goals as goal
 
-pub returns-then-is_lost_at : goal.returns-then-is_lost_at
-returns-then-is_lost_at c =
-    let yes : IsTrue c.is_lost_at.result = search rules in
-    sym (c.is_lost_at.ensures yes)
+pub returns-then-is_there : goal.returns-then-is_there
+returns-then-is_there c =
+    let yes : IsTrue c.is_there.result = search rules in
+    sym (c.is_there.ensures yes)

@@ -4,15 +4,15 @@ use Rattle.nq_check.proofs.Standing.{cut_value, hit_value, zero_value}
 use Rattle.nq_model.specs.StandsTest.{stands}
 use Rattle.nq_check.proofs.legal.standing_value.Goals as goal
 
-pub returns-then-is_cut_since : goal.returns-then-is_cut_since
-returns-then-is_cut_since c =
+pub returns-then-is_between : goal.returns-then-is_between
+returns-then-is_between c =
     let whole = c.args.whole.now in
     let place = c.args.place in
     let read = c.args.read.now in
     let within : place < length whole = c.requires.within in
     let upto : place ≤ length whole = omega arith in
     sym (cut_value (stands (reverse whole) (reverse (take place whole)) read.who.now read.file read.block) read.file read.block whole
-    c.last_standing-at.result place upto c.last_standing-at.ensures.none (c.is_cut_since.ensures.yes c.if-is_cut_since.true))
+    c.last_standing-at.result place upto c.last_standing-at.ensures.none (c.is_between.ensures.yes c.if-is_between.true))
 
 pub returns-then-at-eq0 : goal.returns-then-at-eq0
 returns-then-at-eq0 c =
@@ -23,7 +23,7 @@ returns-then-at-eq0 c =
     let upto : place ≤ length whole = omega arith in
     let zero : c.last_standing-at.result ≡ 0 = search rules in
     sym (zero_value (stands (reverse whole) (reverse (take place whole)) read.who.now read.file read.block) read.file read.block whole
-    c.last_standing-at.result place zero upto c.last_standing-at.ensures.none (c.is_cut_since.ensures.no c.if-is_cut_since.false))
+    c.last_standing-at.result place zero upto c.last_standing-at.ensures.none (c.is_between.ensures.no c.if-is_between.false))
 
 pub returns : goal.returns
 returns c =
@@ -40,4 +40,4 @@ returns c =
     let there = slice_get_read whole (length whole) (at - 1) x refl (omega arith) c.index-whole-at.is in
     c.value_written.ensures
     ∙ sym (hit_value (reverse whole) (reverse (take place whole)) read.who.now read.file read.block whole at place x up low upto there
-    (c.last_standing-at.ensures.there up x there) c.last_standing-at.ensures.none (c.is_cut_since.ensures.no c.if-is_cut_since.false))
+    (c.last_standing-at.ensures.there up x there) c.last_standing-at.ensures.none (c.is_between.ensures.no c.if-is_between.false))

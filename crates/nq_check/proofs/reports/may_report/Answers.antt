@@ -3,9 +3,9 @@ use Rattle.nq_model.specs.ReportedTest.{must_report}
 use Rattle.nq_check.proofs.Reporting.{busy_key}
 use Rattle.nq_check.proofs.reports.may_report.Goals as goal
 
-pub returns-then-is_busy_behind : goal.returns-then-is_busy_behind
-returns-then-is_busy_behind c =
+pub returns-then-is_there : goal.returns-then-is_there
+returns-then-is_there c =
     let whole = reverse c.args.whole.now in
     let s = c.in-C in
-    λ who file h. busy_key whole s.who s.q s.told (c.is_busy_behind.ensures c.if-is_busy_behind.true) who file
+    λ who file h. busy_key whole s.who s.q s.told (c.is_there.ensures c.if-is_there.true) who file
     (subst (λ e. must_report whole who file e ≡ true) s.is h)

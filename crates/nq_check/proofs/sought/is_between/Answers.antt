@@ -5,6 +5,26 @@ use Rattle.nq_check.proofs.Climbs.{sought_here}
 use Rattle.nq_check.proofs.Standing.{none_first, none_more}
 use Rattle.nq_check.proofs.sought.is_between.Goals as goal
 
+pub returns-then-passes : goal.returns-then-passes
+returns-then-passes c =
+    let whole = c.args.whole.now in
+    let at = c.loop-at.at in
+    let past : c.args.from < at = c.loop-at-test.true in
+    let within : c.args.place ≤ length whole = c.requires.within in
+    let below : at ≤ c.args.place = c.loop-at.invariant.0 in
+    let there = slice_get_read whole (length whole) (at - 1) c.index-whole-at.result refl (omega arith) c.index-whole-at.is in
+    record {
+      yes = λ t. record {
+        place = at - 1;
+        entry = c.index-whole-at.result;
+        low = omega arith;
+        below = omega arith;
+        there = there;
+        passes = sym c.passes.ensures ∙ c.if-passes.true;
+      };
+      no = λ e. absurd (cc);
+    }
+
 pub loop-at-init : goal.loop-at-init
 loop-at-init c =
     let s = c.args.sought in (

@@ -59,21 +59,17 @@ finish-requires-clause-room c =
     let room : most_entries old ≤ c.room_for_heard.new.log.spare = c.in_ok-room_for_heard.ensures.supplied.room.entries_told in
     subst (λ es. length es ≤ c.room_for_heard.new.log.spare) (sym e) (omega arith)
 
-pub returns-clause-client : goal.returns-clause-client
-returns-clause-client c =
-    ap client_of c.finish.ensures.state
-    ∙ ap (λ (r : ClientStep). r.client) c.in_ok-hears.ensures.heard
-    ∙ ap (λ (x : Client). (on_heard x c.args.packet c.args.heard.now).client) c.room_for_heard.ensures.kept.client
-
-pub returns-clause-grows : goal.returns-clause-grows
-returns-clause-grows c =
-    let t = on_heard (client_of c.args.step.now.state) c.args.packet c.args.heard.now in
-    let made : step_of c.hears.new.self ≡ t = c.in_ok-hears.ensures.heard ∙ ap (λ (x : Client). on_heard x c.args.packet c.args.heard.now) c.room_for_heard.ensures.kept.client in
-    grows_from t c.args.out.now c.room_for_heard.new.out c.finish.new.out c.args.log.now c.room_for_heard.new.log c.finish.new.log c.room_for_heard.ensures.kept.first c.room_for_heard.ensures.kept.datagrams c.room_for_heard.ensures.kept.entries
-    (subst (λ (s : ClientStep). Grows s c.room_for_heard.new.out c.finish.new.out c.room_for_heard.new.log c.finish.new.log) made c.finish.ensures.grows)
-
-pub returns-clause-answer : goal.returns-clause-answer
-returns-clause-answer c =
-    ap (option_map plain_answer) c.finish.ensures.answer
-    ∙ ap (λ (r : ClientStep). r.answer) c.in_ok-hears.ensures.heard
-    ∙ ap (λ (x : Client). (on_heard x c.args.packet c.args.heard.now).answer) c.room_for_heard.ensures.kept.client
+pub returns : goal.returns
+returns c =
+    let client = client_of c.args.step.now.state in
+    let kept = c.room_for_heard.ensures.kept in
+    let t = on_heard client c.args.packet c.args.heard.now in
+    let made : step_of c.hears.new.self ≡ t = c.in_ok-hears.ensures.heard ∙ ap (λ (x : Client). on_heard x c.args.packet c.args.heard.now) kept.client in
+    record {
+      begun = c.finish.ensures.begun;
+      client = ap client_of c.finish.ensures.state ∙ ap (λ (r : ClientStep). r.client) made;
+      grows =
+          grows_from t c.args.out.now c.room_for_heard.new.out c.finish.new.out c.args.log.now c.room_for_heard.new.log c.finish.new.log kept.first kept.datagrams kept.entries
+          (subst (λ (s : ClientStep). Grows s c.room_for_heard.new.out c.finish.new.out c.room_for_heard.new.log c.finish.new.log) made c.finish.ensures.grows);
+      answer = ap (option_map plain_answer) c.finish.ensures.answer ∙ ap (λ (r : ClientStep). r.answer) made;
+    }

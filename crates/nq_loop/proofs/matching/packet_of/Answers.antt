@@ -1,6 +1,6 @@
 use Rattle.std.proofs.Common.{◌∙◌, arith, sym}
 use Rattle.nq_loop.proofs.Finding.{found-more, is-found, is-fresh, none-more}
-use Rattle.nq_net.specs.Packets.{Datagram}
+use Rattle.nq_link.specs.Packets.{Datagram}
 use Rattle.nq_loop.proofs.matching.packet_of.Goals as goal
 
 pub loop-number-init : goal.loop-number-init

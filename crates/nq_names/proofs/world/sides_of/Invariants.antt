@@ -1,5 +1,5 @@
 use Rattle.std.proofs.Common.{◌≡◌, map, take}
-use Rattle.nq_name_cache.specs.Names.{new_names}
+use Rattle.nq_directory.specs.NameCacheNames.{new_names}
 use Rattle.nq_names.proofs.world.sides_of.Given as goal
 
 -- the sides of the hosts before this one

@@ -1,6 +1,6 @@
 use Rattle.std.proofs.Common.{◌∙◌, subst, sym}
 use Rattle.nq_io.specs.Whole.{IsAll}
-use Rattle.nq_journal.specs.Fault.{IsFaultyAt, IsJournal}
+use Rattle.nq_script.specs.Fault.{IsFaultyAt, IsJournal}
 use Rattle.nq_replay.proofs.Endings.{over_unless, told_text}
 use Rattle.nq_replay.proofs.Judgements.{judges_over, judges_text, script_said, verdict_said}
 use Rattle.nq_replay.specs.Ending.{TellsOver}

@@ -15,6 +15,6 @@ unfolding play
 returns g c = record {
   comes = λ plays. rw (← c.requires.ready.first) (c.play.ensures.comes (beginning c.args.script.now.head) refl plays);
   stops = c.play.ensures.stops;
-  counts = c.play.ensures.faults;
-  follows = c.play.ensures.follows;
+  counts = c.play.ensures.keeps.counts;
+  follows = c.play.ensures.keeps.keeper;
 }

@@ -3,8 +3,8 @@ use Rattle.std.proofs.lemmas.Result.{on_ok_weaker}
 use Rattle.nq_base.specs.declared.Told.{Told}
 use Rattle.nq_script.proofs.CallWords.{call_fits, call_spaced}
 use Rattle.nq_script.proofs.print.append_call.Goals as goal
-use Rattle.nq_words.specs.Forms.{FitsTold, told_words}
-use Rattle.nq_words.specs.Words.{joined}
+use Rattle.nq_script.specs.Forms.{FitsTold, told_words}
+use Rattle.nq_script.specs.Words.{joined}
 use Rattle.nq_base.specs.Calls.{told}
 
 pub returns-clause-written : goal.returns-clause-written

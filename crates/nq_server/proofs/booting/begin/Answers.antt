@@ -1,5 +1,5 @@
 use Rattle.std.proofs.Common.{◌+◌, ◌∙◌, arith}
-use Rattle.nq_boot.proofs.HeadsChange.{is-last}
+use Rattle.nq_keeper.proofs.HeadsChange.{is-last}
 use Rattle.nq_keeper.proofs.Leaving.{two-of}
 use Rattle.nq_model.specs.ServerStep.{booted}
 use Rattle.nq_server.proofs.Booted.{own-boot}

@@ -1,5 +1,5 @@
 use Rattle.std.proofs.Common.{◌≡◌, ◌∙◌, ap}
-use Rattle.nq_boot.specs.Booting.{ended_at}
+use Rattle.nq_keeper.specs.Booting.{ended_at}
 use Rattle.nq_keeper.proofs.Leaving.{two-of}
 use Rattle.nq_server.proofs.Ticked.{or-as}
 use Rattle.nq_server.proofs.ticks.open.Goals as goal

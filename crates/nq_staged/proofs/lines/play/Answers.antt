@@ -2,10 +2,11 @@ use Rattle.std.proofs.Common.{◌≡◌, ◌+◌, ◌<◌, ◌≤◌, ◌∙◌,
 use Rattle.nq_replay.proofs.Mixing.{mixed-length}
 use Rattle.nq_replay.specs.Text.{HoldsOfAsides, mixed}
 use Rattle.nq_replay.proofs.AsidesOnward.{comes-here, is-there, line-on, lines-end, lines-step, ran-here, stops-line}
-use Rattle.nq_staged.proofs.Steps.{faults-on, settings-on}
+use Rattle.nq_staged.proofs.Steps.{keeps-on}
 use Rattle.nq_replay.specs.Going.{AreForWorld, said}
 use Rattle.nq_staged.specs.Playing.{play_line, play_lines}
 use Rattle.nq_staged.specs.Text.{IsOfHost}
+use Rattle.nq_world.specs.declared.Stepped.{Stepped}
 use Rattle.nq_staged.proofs.lines.play.Goals as goal
 
 pub loop-place-init : goal.loop-place-init
@@ -18,18 +19,16 @@ loop-place-init g c = record {
         here = record { plays = plays; marks = c.new-delivered.ensures };
         same = ap (λ n. play_lines head c.args.most n (mixed c.args.script.now.asides.items c.args.script.now.script.lines) []) same;
       };
-  faults = refl;
-  follows = g.met.K.Keeper.follows_itself c.args.world.now.inner.server.keeper;
-  settings = record { hosts_are = refl; longest_is = refl; term_is = refl };
+  keeps = record { counts = refl; keeper = g.met.K.Keeper.follows_itself c.args.world.now.inner.server.keeper; settings = record { hosts_are = refl; longest_is = refl; term_is = refl } };
 }
 
 pub play_at-requires-clause-asides : goal.play_at-requires-clause-asides
 play_at-requires-clause-asides g c =
-    subst (λ n. HoldsOfAsides (IsOfHost n) c.args.script.now.asides.items) (sym c.loop-place.invariant.settings.hosts_are) c.requires.asides
+    subst (λ n. HoldsOfAsides (IsOfHost n) c.args.script.now.asides.items) (sym c.loop-place.invariant.keeps.settings.hosts_are) c.requires.asides
 
 pub play_at-requires-clause-can : goal.play_at-requires-clause-can
 play_at-requires-clause-can g c =
-    let settings = c.loop-place.invariant.settings in
+    let settings = c.loop-place.invariant.keeps.settings in
     subst (λ n. AreForWorld n c.loop-place.world.inner.skew.window c.args.script.now.script.lines) (sym settings.hosts_are)
     (subst (λ l. AreForWorld (length c.args.world.now.inner.clients) l c.args.script.now.script.lines) (sym settings.longest_is) c.requires.can)
 
@@ -46,8 +45,7 @@ returns-in_default g c = record {
       comes-here _ _ _ _ _ c.stopped.ensures (lines-step (play_line head c.args.most) c.args.script.now.script.first c.loop-place.place all there.line on.reached _ there.split on.same)
       (stops-line (c.args.script.now.script.first + c.loop-place.place) _ (play_line head c.args.most there.line on.reached) _ c.play_at.result _ _ refl (c.play_at.ensures.goes there.line there.here head on.reached hosts on.here) c.in_default.not-Done);
   stops = λ done. absurd (c.in_default.not-Done (ap said (sym c.stopped.ensures) ∙ done));
-  faults = rw c.stopped.ensures (faults-on c.play_at.result (g.K.Keeper.faults c.args.world.now.inner.server.keeper) (g.K.Keeper.faults c.loop-place.world.inner.server.keeper) (g.K.Keeper.faults c.play_at.new.world.inner.server.keeper) c.loop-place.invariant.faults c.play_at.ensures.faults);
-  follows = g.met.K.Keeper.follows_on _ _ _ c.loop-place.invariant.follows c.play_at.ensures.follows;
+  keeps = rw c.stopped.ensures (keeps-on g.K.Keeper.faults g.K.Keeper.follows c.play_at.result c.args.world.now.inner c.loop-place.world.inner c.play_at.new.world.inner g.met.K.Keeper.follows_on c.loop-place.invariant.keeps c.play_at.ensures.keeps);
 }
 
 pub loop-place-preserved : goal.loop-place-preserved
@@ -62,9 +60,7 @@ loop-place-preserved g c = record {
       let there = is-there all c.loop-place.place below in
       line-on (c.args.script.now.script.first + c.loop-place.place) (play_line head c.args.most there.line on.reached) _ _ _ (c.in-Done.ensures.goes there.line there.here head on.reached hosts on.here)
       (lines-step (play_line head c.args.most) c.args.script.now.script.first c.loop-place.place all there.line on.reached _ there.split on.same);
-  faults = c.in-Done.ensures.faults ∙ c.loop-place.invariant.faults;
-  follows = g.met.K.Keeper.follows_on _ _ _ c.loop-place.invariant.follows c.play_at.ensures.follows;
-  settings = settings-on _ _ _ _ _ c.loop-place.invariant.settings c.play_at.ensures.settings;
+  keeps = keeps-on g.K.Keeper.faults g.K.Keeper.follows Stepped.Done c.args.world.now.inner c.loop-place.world.inner c.play_at.new.world.inner g.met.K.Keeper.follows_on c.loop-place.invariant.keeps c.in-Done.ensures.keeps;
 }
 
 pub returns-clause-comes : goal.returns-clause-comes

@@ -1,5 +1,5 @@
 use Rattle.std.proofs.Common.{[], subst, sym}
-use Rattle.nq_commit.specs.Playing.{PlaysOutside}
+use Rattle.nq_staged.specs.Worlds.{PlaysOutside}
 use Rattle.nq_replay.specs.Playing.{beginning}
 use Rattle.nq_world.specs.Playing.{WorldOver}
 use Rattle.nq_staged.proofs.running.begin_staged.Goals as goal

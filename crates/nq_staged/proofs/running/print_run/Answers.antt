@@ -1,6 +1,6 @@
 use Rattle.std.proofs.Common.{◌≡◌, ◌∙◌, inl, map, subst, sym}
 use Rattle.std.specs.List.{AllByRecursion}
-use Rattle.nq_commit.specs.Around.{counts_of}
+use Rattle.nq_staged.specs.Around.{counts_of}
 use Rattle.nq_replay.specs.Playing.{beginning}
 use Rattle.nq_script.specs.Lines.{once}
 use Rattle.nq_script.specs.Schedule.{SpellsSchedule}

@@ -1,5 +1,5 @@
 use Rattle.std.proofs.Common.{List}
-use Rattle.nq_commit.specs.Playing.{PlaysOutside}
+use Rattle.nq_staged.specs.Worlds.{PlaysOutside}
 use Rattle.nq_replay.specs.Playing.{beginning}
 use Rattle.nq_staged.proofs.Outcomes.{run_ends, stop_ends}
 use Rattle.nq_stage.specs.declared.run.event.StagedEvent.{StagedEvent}

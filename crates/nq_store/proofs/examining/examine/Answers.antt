@@ -3,9 +3,9 @@ use Rattle.std.specs.List.{sum_by}
 use Rattle.nq_image.specs.Image.{◌>>=◌, image_one, reached}
 use Rattle.nq_image.specs.Rows.{blocks_of}
 use Rattle.nq_image.specs.declared.ImageOne.{ImageOne}
-use Rattle.law_image.specs.Head.{head_one, if_reached}
-use Rattle.law_image.specs.Migrated.{blocks_in}
-use Rattle.law_image.proofs.Saying.{as-head}
+use Rattle.nq_store.specs.Head.{head_one, if_reached}
+use Rattle.nq_store.specs.Migrated.{blocks_in}
+use Rattle.nq_store.proofs.Saying.{as-head}
 use Rattle.nq_store.specs.Examining.{Examines, Tests}
 use Rattle.nq_store.specs.Telling.{fault_of}
 use Rattle.nq_store.specs.declared.fault.Fault.{Fault}

@@ -1,5 +1,5 @@
 use Rattle.std.proofs.Common.{sym, ap, ◌∙◌}
-use Rattle.law_image.specs.Migrated.{blocks_in, files_in}
+use Rattle.nq_store.specs.Migrated.{blocks_in, files_in}
 use Rattle.nq_store.proofs.migrating.batch_of.Goals as goal
 
 pub returns : goal.returns

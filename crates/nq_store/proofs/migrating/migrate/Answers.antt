@@ -1,7 +1,7 @@
 use Rattle.std.proofs.Common.{◌≡◌, ℕ, Result, Err, refl, sym, ap, subst, ◌∙◌, inr, rules}
 use Rattle.nq_image.specs.Image.{image_one}
 use Rattle.nq_image.specs.Seen.{seen_one}
-use Rattle.law_image.proofs.Saying.{right-one, wrong-one}
+use Rattle.nq_store.proofs.Saying.{right-one, wrong-one}
 use Rattle.nq_store.specs.Migrating.{IsFoundIn, IsOldImage, Migrates}
 use Rattle.nq_store.specs.Opening.{CountsFault}
 use Rattle.nq_store.specs.Storing.{kept_on}

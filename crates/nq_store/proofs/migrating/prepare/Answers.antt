@@ -5,8 +5,8 @@ use Rattle.nq_image.specs.Kept.{numbers_from}
 use Rattle.nq_image.specs.Layout.{block_place}
 use Rattle.nq_image.specs.Writing.{table_of_blocks}
 use Rattle.nq_disk.specs.Saying.{Each}
-use Rattle.law_image.specs.Migrated.{blocks_in}
-use Rattle.law_image.specs.Prepared.{SameBelow, tabled}
+use Rattle.nq_store.specs.Migrated.{blocks_in}
+use Rattle.nq_store.specs.Prepared.{SameBelow, tabled}
 use Rattle.nq_store.proofs.Migrated.{torn-below}
 use Rattle.nq_store.proofs.Zeroing.{through}
 use Rattle.nq_store.proofs.migrating.prepare.Goals as goal

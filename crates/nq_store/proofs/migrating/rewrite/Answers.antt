@@ -1,13 +1,13 @@
 use Rattle.std.proofs.Common.{◌≡◌, ◌≤◌, ◌⊎◌, List, Option, length, sym, ap, subst, inr}
-use Rattle.nq_plan.specs.Standing.{image_area}
+use Rattle.nq_image.specs.PlanStanding.{image_area}
 use Rattle.nq_image.specs.Layout.{block_place}
 use Rattle.nq_image.specs.declared.Slot.{Slot}
 use Rattle.nq_disk.specs.Batch.{IsFit}
 use Rattle.nq_disk.specs.Ranges.{Range}
 use Rattle.nq_disk.specs.Saying.{Each}
 use Rattle.nq_disk.specs.Whole.{IsClosed, OpensAfter, OpensAsOne, Settled, after}
-use Rattle.law_image.specs.Migrated.{blocks_in}
-use Rattle.law_image.specs.Prepared.{SameBelow, prepared}
+use Rattle.nq_store.specs.Migrated.{blocks_in}
+use Rattle.nq_store.specs.Prepared.{SameBelow, prepared}
 use Rattle.nq_store.specs.Storing.{kept_on}
 use Rattle.nq_store.proofs.Migrated.{all-closed, below-kept, either-kept, is-fit, migrated-so, on-ok, reach, then-ok}
 use Rattle.nq_store.proofs.Zeroing.{through}

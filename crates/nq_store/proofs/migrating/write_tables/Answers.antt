@@ -6,7 +6,7 @@ use Rattle.nq_image.specs.Kept.{numbers_from}
 use Rattle.nq_image.specs.Layout.{block_place}
 use Rattle.nq_image.specs.Rows.{blocks_of}
 use Rattle.nq_image.specs.Writing.{table_of_blocks}
-use Rattle.law_image.specs.Prepared.{SameBelow, tabled}
+use Rattle.nq_store.specs.Prepared.{SameBelow, tabled}
 use Rattle.nq_store.proofs.Migrated.{no-table-left, same-itself, sum-drop, tabled-passes, torn-below}
 use Rattle.nq_store.proofs.Zeroing.{through}
 use Rattle.nq_store.proofs.migrating.write_tables.Goals as goal

@@ -3,7 +3,7 @@ use Rattle.std.specs.List.{sum_by}
 use Rattle.nq_image.specs.Layout.{block_place}
 use Rattle.nq_image.specs.Rows.{blocks_of}
 use Rattle.nq_disk.specs.Saying.{Each, Only}
-use Rattle.law_image.specs.Prepared.{SameBelow, tabled}
+use Rattle.nq_store.specs.Prepared.{SameBelow, tabled}
 use Rattle.nq_store.proofs.migrating.write_tables.Given as goal
 
 abbrev pub invariant-loop-slot : goal.invariant-loop-slot

@@ -3,7 +3,7 @@ use Rattle.nq_disk.specs.Batch.{IsFit}
 use Rattle.nq_disk.specs.Saying.{Each}
 use Rattle.nq_disk.specs.Whole.{IsClosed, OpensAfter, OpensAsOne, Settled, after}
 use Rattle.nq_disk.specs.declared.redo.area.Area.{Area}
-use Rattle.law_image.specs.Changing.{zeroed}
+use Rattle.nq_store.specs.Changing.{zeroed}
 use Rattle.nq_store.specs.Storing.{OpensWhole, StandsStill}
 use Rattle.nq_store.proofs.Zeroing.{on-ok, then-ok, through}
 use Rattle.nq_store.proofs.writing.carry_out.Goals as goal

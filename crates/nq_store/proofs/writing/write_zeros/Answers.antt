@@ -2,7 +2,7 @@ use Rattle.std.proofs.Common.{get_or, ◌≡◌, ◌+◌, ℕ, List, Some, lengt
 use Rattle.nq_disk.specs.Bytes.{Torn, written}
 use Rattle.nq_disk.specs.Calling.{told_after}
 use Rattle.nq_image.specs.Layout.{block_place}
-use Rattle.law_image.specs.Changing.{zeroed}
+use Rattle.nq_store.specs.Changing.{zeroed}
 use Rattle.nq_store.specs.Storing.{StandsStill}
 use Rattle.nq_store.proofs.Zeroing.{free-at, no-block-left, size-of, still-itself, still-torn, through, zeroed-passes}
 use Rattle.nq_store.proofs.writing.write_zeros.Goals as goal

@@ -1,7 +1,7 @@
 use Rattle.std.proofs.Common.{◌≡◌, ℕ, List, Some, drop}
 use Rattle.nq_image.specs.Standing.{Standing}
 use Rattle.nq_disk.specs.Saying.{Each}
-use Rattle.law_image.specs.Changing.{zeroed}
+use Rattle.nq_store.specs.Changing.{zeroed}
 use Rattle.nq_store.specs.Storing.{IsReady, StandsStill}
 use Rattle.nq_store.proofs.writing.write_zeros.Given as goal
 

@@ -1,4 +1,4 @@
-use Rattle.std.proofs.Common.{sym, ◌∙◌}
+use Rattle.std.proofs.Common.{sym, ◌∙◌, inl}
 use Rattle.nq_model.proofs.FreshFits.{orderly-within}
 use Rattle.nq_lease.proofs.Fencing.{fencing-can, fencing-is-within, fences-by, leaves-by}
 use Rattle.nq_lease.proofs.expire.ending.fence_file.Goals as goal
@@ -41,3 +41,18 @@ returns-clause-leaves g c =
     (g.met.K.Keeper.parts _ c.file.new.self _ found c.file.ensures.follows c.commit.ensures.follows left)
     (c.file.ensures.leaves kept e found)
     (c.commit.ensures.leaves kept (c.in_ok-row.ensures.reads.0 ∙ e) found)
+
+pub returns-in_err-row-clause-leaves : goal.returns-in_err-row-clause-leaves
+returns-in_err-row-clause-leaves g c = λ kept e found left. inl (c.file.ensures.leaves kept e found left)
+
+pub returns-in_default-clause-leaves : goal.returns-in_default-clause-leaves
+returns-in_default-clause-leaves g c = λ kept e found left. inl (c.file.ensures.leaves kept e found left)
+
+pub returns-then-not-can_rise-clause-leaves : goal.returns-then-not-can_rise-clause-leaves
+returns-then-not-can_rise-clause-leaves g c = λ kept e found left. inl (c.file.ensures.leaves kept e found left)
+
+pub returns-in_err-commit-clause-follows : goal.returns-in_err-commit-clause-follows
+returns-in_err-commit-clause-follows g c = g.met.K.Keeper.follows_on _ c.file.new.self _ c.file.ensures.follows c.commit.ensures.follows
+
+pub returns-clause-follows : goal.returns-clause-follows
+returns-clause-follows g c = g.met.K.Keeper.follows_on _ c.file.new.self _ c.file.ensures.follows c.commit.ensures.follows

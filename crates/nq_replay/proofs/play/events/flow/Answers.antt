@@ -1,9 +1,10 @@
 use Rattle.std.proofs.Common.{◌+◌, ◌-◌, ◌∙◌, ap, length}
 use Rattle.nq_base.specs.declared.Event.{Event}
 use Rattle.nq_replay.proofs.Onward.{done-here, flow-none, flow-some, goes-on, stops-here}
-use Rattle.nq_replay.proofs.Steps.{next-is, faults-on, settings-on}
+use Rattle.nq_replay.proofs.Steps.{keeps-on, next-is}
 use Rattle.nq_replay.specs.Going.{IsAt}
 use Rattle.nq_replay.specs.Playing.{play_event, play_flow}
+use Rattle.nq_world.specs.declared.stepped.Stepped.{Stepped}
 use Rattle.nq_replay.proofs.play.events.flow.Goals as goal
 
 pub returns-in-None-clause-goes : goal.returns-in-None-clause-goes
@@ -20,9 +21,7 @@ returns-in_default g c = record {
       let next = next-is head on.events c.loop-turn.world _ c.loop-turn.delivered c.len.result c.next.result on.here (c.len.ensures ∙ ap length c.packets.ensures) c.next.ensures.next in
       stops-here (play_event head (Event.Deliver c.in-Some.packet) on.events) (λ es. play_flow head (c.args.most - (c.loop-turn.turn + 1)) es) c.deliver.result _ _ _ (c.deliver.ensures.goes head on.events (rw c.next.ensures.same on.here)) c.in_default.not-Done
       (flow-some head c.args.most c.loop-turn.turn c.in-Some.packet on.events _ c.next.result c.loop-turn-test.true on.same next c.in-Some.is);
-  faults = faults-on c.deliver.result (g.K.Keeper.faults c.args.world.now.server.keeper) (g.K.Keeper.faults c.loop-turn.world.server.keeper) (g.K.Keeper.faults c.deliver.new.world.server.keeper) c.loop-turn.invariant.faults c.deliver.ensures.faults;
-  follows = g.met.K.Keeper.follows_on _ _ _ c.loop-turn.invariant.follows c.deliver.ensures.follows;
-  settings = settings-on _ _ _ _ _ c.loop-turn.invariant.settings c.deliver.ensures.settings;
+  keeps = keeps-on g.K.Keeper.faults g.K.Keeper.follows c.deliver.result c.args.world.now c.loop-turn.world c.deliver.new.world g.met.K.Keeper.follows_on c.loop-turn.invariant.keeps c.deliver.ensures.keeps;
 }
 
 pub loop-turn-preserved : goal.loop-turn-preserved
@@ -32,7 +31,5 @@ loop-turn-preserved g c = record {
       let next = next-is head on.events c.loop-turn.world _ c.loop-turn.delivered c.len.result c.next.result on.here (c.len.ensures ∙ ap length c.packets.ensures) c.next.ensures.next in
       goes-on (play_event head (Event.Deliver c.in-Some.packet) on.events) (λ es. play_flow head (c.args.most - (c.loop-turn.turn + 1)) es) _ _ (c.in-Done.ensures.goes head on.events (rw c.next.ensures.same on.here))
       (flow-some head c.args.most c.loop-turn.turn c.in-Some.packet on.events _ c.next.result c.loop-turn-test.true on.same next c.in-Some.is);
-  faults = c.in-Done.ensures.faults ∙ c.loop-turn.invariant.faults;
-  follows = g.met.K.Keeper.follows_on _ _ _ c.loop-turn.invariant.follows c.deliver.ensures.follows;
-  settings = settings-on _ _ _ _ _ c.loop-turn.invariant.settings c.deliver.ensures.settings;
+  keeps = keeps-on g.K.Keeper.faults g.K.Keeper.follows Stepped.Done c.args.world.now c.loop-turn.world c.deliver.new.world g.met.K.Keeper.follows_on c.loop-turn.invariant.keeps c.in-Done.ensures.keeps;
 }

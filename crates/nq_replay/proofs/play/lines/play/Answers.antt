@@ -1,8 +1,9 @@
 use Rattle.std.proofs.Common.{◌+◌, ◌<◌, ◌∙◌, length, refl, sym, ap, arith}
 use Rattle.nq_replay.proofs.Onward.{comes-here, is-there, line-on, lines-step, stops-line}
-use Rattle.nq_replay.proofs.Steps.{faults-on, settings-on}
+use Rattle.nq_replay.proofs.Steps.{keeps-on}
 use Rattle.nq_replay.specs.Going.{said}
 use Rattle.nq_replay.specs.Playing.{play_line}
+use Rattle.nq_world.specs.declared.stepped.Stepped.{Stepped}
 use Rattle.nq_replay.proofs.play.lines.play.Goals as goal
 
 pub returns-in_default : goal.returns-in_default
@@ -16,8 +17,7 @@ returns-in_default g c = record {
       comes-here _ _ _ _ _ c.stopped.ensures (lines-step head c.args.most c.args.first c.loop-place.place c.args.lines.now there.line on.events _ there.split on.same)
       (stops-line (c.args.first + c.loop-place.place) _ (play_line head c.args.most there.line on.events) _ c.play_at.result _ _ refl (c.play_at.ensures.goes there.line there.here head on.events hosts on.here) c.in_default.not-Done);
   stops = λ done. absurd (c.in_default.not-Done (ap said (sym c.stopped.ensures) ∙ done));
-  faults = rw c.stopped.ensures (faults-on c.play_at.result (g.K.Keeper.faults c.args.world.now.server.keeper) (g.K.Keeper.faults c.loop-place.world.server.keeper) (g.K.Keeper.faults c.play_at.new.world.server.keeper) c.loop-place.invariant.faults c.play_at.ensures.faults);
-  follows = g.met.K.Keeper.follows_on _ _ _ c.loop-place.invariant.follows c.play_at.ensures.follows;
+  keeps = rw c.stopped.ensures (keeps-on g.K.Keeper.faults g.K.Keeper.follows c.play_at.result c.args.world.now c.loop-place.world c.play_at.new.world g.met.K.Keeper.follows_on c.loop-place.invariant.keeps c.play_at.ensures.keeps);
 }
 
 pub loop-place-preserved : goal.loop-place-preserved
@@ -30,7 +30,5 @@ loop-place-preserved g c = record {
       let there = is-there c.args.lines.now c.loop-place.place below in
       line-on (c.args.first + c.loop-place.place) (play_line head c.args.most there.line on.events) _ _ _ (c.in-Done.ensures.goes there.line there.here head on.events hosts on.here)
       (lines-step head c.args.most c.args.first c.loop-place.place c.args.lines.now there.line on.events _ there.split on.same);
-  faults = c.in-Done.ensures.faults ∙ c.loop-place.invariant.faults;
-  follows = g.met.K.Keeper.follows_on _ _ _ c.loop-place.invariant.follows c.play_at.ensures.follows;
-  settings = settings-on _ _ _ _ _ c.loop-place.invariant.settings c.play_at.ensures.settings;
+  keeps = keeps-on g.K.Keeper.faults g.K.Keeper.follows Stepped.Done c.args.world.now c.loop-place.world c.play_at.new.world g.met.K.Keeper.follows_on c.loop-place.invariant.keeps c.in-Done.ensures.keeps;
 }

@@ -1,11 +1,12 @@
 use Rattle.std.proofs.Common.{◌≤◌, ◌^◌, arith, refl, subst, ◌∙◌}
 use Rattle.nq_base.specs.declared.Event.{Event}
 use Rattle.nq_base.specs.declared.Party.{Party}
-use Rattle.nq_world.proofs.Taken.{crash-takes, world}
-use Rattle.nq_world.proofs.Unspent.{server-in-time}
+use Rattle.nq_world.proofs.Taken.{crash-takes, late-takes, world}
 use Rattle.nq_world.specs.Counting.{IsLastTime}
 use Rattle.nq_world.specs.Moving.{Ends}
 use Rattle.nq_world.specs.Playing.{TakesIn, WorldOver}
+use Rattle.nq_world.specs.declared.stepped.Limit.{Limit}
+use Rattle.nq_world.specs.declared.stepped.Stepped.{Stepped}
 use Rattle.nq_world.proofs.world.World.crash.Goals as goal
 
 pub returns-clause-takes : goal.returns-clause-takes
@@ -24,5 +25,4 @@ returns-in_default-shown-clause-takes g c =
     let i = c.self.inside in
     let late : 2 ^ 62 ≤ c.time.result = c.in_default-shown.ensures.late refl in
     let last : IsLastTime i.server.beside.time = omega (arith, late, c.time.ensures) in
-    λ head events plays passes.
-    absurd (server-in-time head events c.args.self.now (g.K.Keeper.content c.args.self.now.server.keeper) plays (subst (λ (v : WorldOver g.row.K.Denot). IsLastTime v.server.beside.time) c.self.view_is last))
+    late-takes g.K.Keeper.content (Event.Crash c.args.longest) (Stepped.Limit Limit.Events) c.args.self.now _ (subst (λ (v : WorldOver g.row.K.Denot). IsLastTime v.server.beside.time) c.self.view_is last)

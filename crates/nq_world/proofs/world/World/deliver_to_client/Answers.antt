@@ -2,7 +2,7 @@ use Rattle.std.proofs.Common.{◌≡◌, Some, refl, subst, arith}
 use Rattle.std.specs.Prelude.{slice_get}
 use Rattle.nq_base.specs.declared.Event.{Event}
 use Rattle.nq_base.specs.declared.Party.{Party}
-use Rattle.nq_net.specs.Packets.{Datagram}
+use Rattle.nq_link.specs.Packets.{Datagram}
 use Rattle.nq_world.proofs.Taken.{hear-takes, world}
 use Rattle.nq_world.specs.Playing.{TakesIn, WorldOver}
 use Rattle.nq_world.proofs.world.World.deliver_to_client.Goals as goal

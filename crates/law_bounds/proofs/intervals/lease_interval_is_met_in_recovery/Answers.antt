@@ -1,5 +1,0 @@
-use Rattle.law_bounds.proofs.SomeLease.{is-met-in-recovery}
-use Rattle.law_bounds.proofs.intervals.lease_interval_is_met_in_recovery.Goals as goal
-
-pub returns : goal.returns
-returns c = is-met-in-recovery

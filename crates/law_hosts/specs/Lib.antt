@@ -1,9 +1,0 @@
-pub mod InTime
-pub mod LoopTurns
-pub mod LoopsAreAnswered
-pub mod Met
-pub mod PrintedLoops
-pub mod PrintedMet
-pub mod ServedRowsAreMet
-pub mod Serving
-pub mod ToldAnswers

@@ -1,5 +1,0 @@
-use Rattle.law_image.proofs.Seats.{new-are-free}
-use Rattle.law_image.proofs.free.new_blocks_are_free.Goals as goal
-
-pub returns : goal.returns
-returns c bytes held row placed is_held is = new-are-free bytes held is_held row placed is

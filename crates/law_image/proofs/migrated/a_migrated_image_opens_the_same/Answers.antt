@@ -1,5 +1,0 @@
-use Rattle.law_image.proofs.Two.{migrated-opens}
-use Rattle.law_image.proofs.migrated.a_migrated_image_opens_the_same.Goals as goal
-
-pub returns : goal.returns
-returns c found old new is m = migrated-opens found old new is m

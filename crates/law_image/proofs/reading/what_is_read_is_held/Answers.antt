@@ -1,5 +1,0 @@
-use Rattle.law_image.proofs.Closed.{read-held}
-use Rattle.law_image.proofs.reading.what_is_read_is_held.Goals as goal
-
-pub returns : goal.returns
-returns c bytes found is = read-held bytes found is

@@ -1,2 +1,0 @@
-pub mod ReplyWorlds
-pub mod ServerReplies

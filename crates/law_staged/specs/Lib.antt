@@ -1,4 +1,0 @@
-pub mod Boots
-pub mod Lawful
-pub mod Met
-pub mod NotStored

@@ -1,7 +1,0 @@
-use Rattle.law_rounds.proofs.IdleWorlds.{answers-stay}
-use Rattle.law_answered.proofs.Leaseless.{leaseless-answered}
-use Rattle.law_waits.proofs.Theorem.{writeless-in-time}
-use Rattle.law_waits.proofs.writeless_in_time.Goals as goal
-
-pub returns : goal.returns
-returns c = writeless-in-time (leaseless-answered answers-stay)

@@ -1,4 +1,0 @@
-pub mod Cached
-pub mod Entries
-pub mod Granting
-pub mod Revisions

@@ -1,9 +1,0 @@
-use Rattle.std.proofs.Common.{reverse, take}
-use Rattle.nq_check.specs.Losses.{PassBetween, is_naming}
-use Rattle.nq_check.specs.Namings.{IsNamed}
-use Rattle.nq_model.specs.Journal.{Each}
-use Rattle.nq_check.proofs.namings.find_names.Given as goal
-
-abbrev pub invariant-loop-place : goal.invariant-loop-place
-invariant-loop-place l =
-    Each (IsNamed l.names.named.entries) (reverse (take l.place l.whole)) × PassBetween (is_naming l.whole) l.whole 0 l.place

@@ -1,5 +1,0 @@
-pub mod Answers
-pub mod Commands
-pub mod Lines
-pub mod Pieces
-pub mod Starts

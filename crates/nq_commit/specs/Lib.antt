@@ -1,4 +1,0 @@
-pub mod Line
-pub mod Around
-pub mod Taking
-pub mod Playing

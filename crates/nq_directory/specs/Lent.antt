@@ -1,0 +1,26 @@
+-- What the types of the code are to the definitions.
+use Rattle.std.specs.Prelude.{ℕ, List, Option, Some, None}
+use Rattle.nq_directory.specs.declared.listing.messages.Page.{Page}
+use Rattle.nq_directory.specs.declared.listing.messages.Told.{Told}
+use Rattle.nq_directory.specs.declared.listing.messages.Told.TheVariants as told
+use Rattle.nq_directory.specs.declared.listing.reading.Asked.{Asked}
+use Rattle.nq_directory.specs.Messages.{Listing, Answer, page, wait}
+
+-- a call: its number and its arguments
+abbrev pub lent_call : Option Asked → Option (ℕ × List ℕ)
+lent_call None = None
+lent_call (Some called) = Some (called.xid, called.arguments.now)
+
+-- a page
+abbrev pub listing_of : Page → Listing
+listing_of p = record { names = p.names.items; more = p.more; grant = p.grant }
+
+-- what a reply says
+abbrev pub answer_of : Told → Answer
+answer_of (told.Page p) = page (listing_of p)
+answer_of told.Later = wait
+
+-- the same, where there is one
+abbrev pub answers_of : Option Told → Option Answer
+answers_of None = None
+answers_of (Some t) = Some (answer_of t)

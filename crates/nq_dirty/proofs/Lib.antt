@@ -1,4 +1,0 @@
-pub mod Counts
-pub mod KeyLaws
-pub mod OfEntries
-pub mod Renewals

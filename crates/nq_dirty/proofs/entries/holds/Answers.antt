@@ -1,6 +1,0 @@
-use Rattle.std.proofs.Common.{sym, ◌∙◌}
-use Rattle.nq_dirty.proofs.OfEntries.{is_there}
-use Rattle.nq_dirty.proofs.entries.holds.Goals as goal
-
-pub returns : goal.returns
-returns c = c.contains_key.ensures ∙ sym (is_there c.args.key.now c.args.entries.now.entries)

@@ -1,4 +1,0 @@
-pub mod Capped
-pub mod Deciding
-pub mod Reading
-pub mod Repeats

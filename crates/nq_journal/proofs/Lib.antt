@@ -1,8 +1,0 @@
-mod Again
-mod Clean
-mod Faulty
-mod Pieces
-mod Rests
-mod Tails
-mod TextLines
-mod Whole

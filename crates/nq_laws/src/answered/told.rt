@@ -1,0 +1,49 @@
+//! What replies and answers tell. Each law stands on a function with an empty body, whose clause is the law and whose proof stands
+//! in `proofs/`.
+
+ghost use Rattle.nq_laws.specs.ToldMet.{NoRoomIsMet, RefusalsAreMet, TellingsAreMet};
+ghost use Rattle.nq_laws.specs.RefusalsHaveCauses.{AnswersHaveCauses, RefusalsHaveCauses};
+ghost use Rattle.nq_model.specs.AnswersTellWhatWas.{AnswersTellWhatWas};
+ghost use Rattle.nq_model.specs.RepliesTellWhatWas.{RepliesTellWhatWas};
+
+/// After every schedule, what a reply to LOOKUP, CREATE or GETATTR tells of a file was so at the server at some moment when the
+/// request had been sent: the file of that name had that id, or the file had that length and that revision.
+pub fn replies_tell_what_was()
+    ensures { RepliesTellWhatWas }
+{}
+
+/// After every schedule within skew, what an `ok` to `lookup`, `create` or `attr` tells was so at the server at some moment, and that
+/// not after the answer: the file of that name had that id, or the file had that length.
+pub fn answers_tell_what_was()
+    ensures { AnswersTellWhatWas }
+{}
+
+/// After every schedule, what a refusal says stood at the server at some moment when the request had been sent: NOENT that no file of
+/// that name was kept, STALE that no file of that id was, EXIST that one of that name was, INVAL that the file had no such block,
+/// or that no file can have such a length, and NOSPC that there was no room: too many files, blocks or ids.
+pub fn refusals_have_causes()
+    ensures { RefusalsHaveCauses }
+{}
+
+/// After every schedule within skew, what an answer that refuses says stood at the server at some moment, and that not after the answer:
+/// `noentry` that no file of the name was kept, `stale` that no file of the id was, `exists` that one of the name was, and `nospace` that
+/// there was no room. `range` is said to a call that reads or writes a block where the file had no such block, and to `create` and `resize`
+/// with a length that no file can have.
+pub fn answers_have_causes()
+    ensures { AnswersHaveCauses }
+{}
+
+/// There is such a schedule: a client makes a file, looks it up and asks for its attributes.
+pub fn tellings_are_met()
+    ensures { TellingsAreMet }
+{}
+
+/// There is such a schedule: a client asks for a file where there are as many as can be kept.
+pub fn no_room_is_met()
+    ensures { NoRoomIsMet }
+{}
+
+/// There is such a schedule: a client asks for a name and a file that are not there, makes a file twice, and asks for one of no block.
+pub fn refusals_are_met()
+    ensures { RefusalsAreMet }
+{}

@@ -1,4 +1,0 @@
-pub mod Messages
-pub mod Reading
-pub mod Lent
-pub mod Laws

@@ -1,6 +1,0 @@
-use Rattle.std.proofs.Common.{sym}
-use Rattle.nq_name_cache.proofs.Pages.{last_is}
-use Rattle.nq_name_cache.proofs.asking.last_id.Goals as goal
-
-pub returns-in-Some : goal.returns-in-Some
-returns-in-Some c = sym (last_is c.args.after c.args.names.now c.in-Some.entry.now (sym c.in-Some.ensures.value))

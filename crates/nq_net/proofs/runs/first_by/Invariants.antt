@@ -1,9 +1,0 @@
-use Rattle.std.proofs.Common.{◌-◌, ◌≤◌}
-use Rattle.nq_net.specs.Runs.{IsRepeated}
-use Rattle.nq_net.proofs.runs.first_by.Given as goal
-
-abbrev pub invariant-loop-at : goal.invariant-loop-at
-invariant-loop-at l = (l.at ≤ l.place) × IsRepeated l.bytes l.at (l.place - l.at)
-
-abbrev pub decreases-loop-at : goal.decreases-loop-at
-decreases-loop-at l = l.at

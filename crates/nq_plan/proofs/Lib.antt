@@ -1,8 +1,0 @@
-pub mod Blank
-pub mod FormatReading
-pub mod Formatting
-pub mod Founding
-pub mod Joining
-pub mod Shifting
-pub mod Sizes
-pub mod Walking

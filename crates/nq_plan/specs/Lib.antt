@@ -1,8 +1,0 @@
-pub mod Finding
-pub mod Formatted
-pub mod Held
-pub mod Placing
-pub mod Ranges
-pub mod Reading
-pub mod Settling
-pub mod Standing

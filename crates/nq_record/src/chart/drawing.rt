@@ -1,0 +1,42 @@
+//! Charts as pages.
+
+ghost use Rattle.nq_record.specs.Page.{Extends};
+
+use crate::chart::NoMemory;
+use crate::chart::chart::Chart;
+use crate::chart::frame::{legend, open, parties};
+use crate::chart::layout::Layout;
+use crate::chart::notes::{names, notes};
+use crate::chart::packets::{bars, packets};
+use crate::chart::pages::Page;
+use crate::chart::parts::Part;
+use std::alloc::Global;
+
+/// Appends a chart as one file of SVG (SVG 2), which needs no other file. What stood in the page before stays in front of it.
+///
+/// # Errors
+///
+/// Only want of memory. Then nothing was appended.
+pub fn draw(alloc: Global, chart: &Chart, page: &mut Vec<u8>) -> Result<(), NoMemory>
+    ensures { Extends page.old.items page.new.items }
+{
+    let layout = Layout::of(alloc, chart);
+    if layout.is_short() {
+        return Err(NoMemory::Memory);
+    }
+    let mut drawn = Page::new(alloc);
+    open(&mut drawn, chart, &layout);
+    legend(&mut drawn, &layout);
+    names(&mut drawn, chart, &layout);
+    content(&mut drawn, chart, &layout);
+    drawn.close(page)
+}
+
+/// What stands in the chart, from the back to the front.
+fn content(page: &mut Page, chart: &Chart, layout: &Layout) {
+    parties(page, chart, layout);
+    bars(page, chart, layout);
+    packets(page, chart, layout);
+    notes(page, chart, layout);
+    page.put(&[Part::Text("</svg>\n")]);
+}

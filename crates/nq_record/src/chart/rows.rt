@@ -1,0 +1,59 @@
+//! Where the moments stand.
+
+use crate::chart::chart::{Chart, Row, Side};
+use crate::chart::style::LINE;
+use crate::lists::Growing;
+use std::alloc::Global;
+
+/// A moment on the page. All is in pixels from the upper edge.
+#[derive(Clone, Copy)]
+pub(crate) struct Step {
+    /// Where it begins.
+    pub(crate) top: u64,
+    /// Where packets arrive.
+    pub(crate) arrive: u64,
+    /// Where packets are sent.
+    pub(crate) send: u64,
+}
+
+/// The moments on the page.
+#[derive(Drop)]
+pub(crate) struct Steps {
+    pub(crate) steps: Growing<Step>,
+    /// Where the last one ends.
+    pub(crate) end: u64,
+}
+
+impl Steps {
+    /// Gives each moment its place, the first one below the head: so high that its notes stand one below the other.
+    pub(crate) fn of(alloc: Global, chart: &Chart, head: u64) -> Steps {
+        let mut steps = Growing::new(alloc);
+        let mut top = head;
+        for row in &chart.rows {
+            let arrive = top.saturating_add(6);
+            let send = arrive.saturating_add(height(row));
+            steps.push(Step { top, arrive, send });
+            top = send.saturating_add(6);
+        }
+        Steps { steps, end: top }
+    }
+
+    /// A moment.
+    pub(crate) fn get(&self, row: usize) -> Option<Step> {
+        match self.steps.get(row) {
+            Some(step) => Some(*step),
+            None => None,
+        }
+    }
+}
+
+/// How high the notes of a row are, in pixels.
+fn height(row: &Row) -> u64 {
+    let lines = lines(row, Side::Left).max(lines(row, Side::Right)).max(1);
+    (lines as u64).saturating_mul(LINE).saturating_add(4)
+}
+
+/// How many notes of a row stand on a side.
+fn lines(row: &Row, side: Side) -> usize {
+    row.notes.iter().filter(|note| note.side == side).count()
+}

@@ -1,4 +1,0 @@
-pub mod Message
-pub mod Lent
-pub mod Reading
-pub mod Fault

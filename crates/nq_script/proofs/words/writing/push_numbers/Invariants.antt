@@ -1,0 +1,9 @@
+use Rattle.std.proofs.Common.{◌≡◌, ◌++◌, take}
+use Rattle.std.specs.Fmt.{decimal}
+use Rattle.std.specs.List.{flat_map}
+use Rattle.nq_script.specs.Words.{spaced}
+use Rattle.nq_script.proofs.words.writing.push_numbers.Given as goal
+
+abbrev pub invariant-loop-number : goal.invariant-loop-number
+invariant-loop-number l =
+    l.out.items ≡ l.fn.out.items ++ flat_map (λ n. spaced (decimal n)) (take l.number-index l.numbers)

@@ -1,0 +1,5 @@
+use Rattle.nq_wire.proofs.Short.{want_short, too_few}
+use Rattle.nq_wire.proofs.parts.decoding.want.Goals as goal
+
+pub returns-then-rest-lt8 : goal.returns-then-rest-lt8
+returns-then-rest-lt8 c = want_short c.args.reader.now (too_few 8 c.rest.result.now c.args.reader.now c.rest.ensures c.if-rest-lt8.true)

@@ -1,9 +1,0 @@
-use Rattle.std.proofs.Common.{◌≡◌, ◌++◌, take}
-use Rattle.std.specs.Fmt.{decimal}
-use Rattle.std.specs.List.{flat_map}
-use Rattle.nq_words.specs.Words.{spaced}
-use Rattle.nq_words.proofs.writing.push_numbers.Given as goal
-
-abbrev pub invariant-loop-number : goal.invariant-loop-number
-invariant-loop-number l =
-    l.out.items ≡ l.fn.out.items ++ flat_map (λ n. spaced (decimal n)) (take l.number-index l.numbers)
