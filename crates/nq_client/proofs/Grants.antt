@@ -1,7 +1,7 @@
 -- Grants that are taken: the loss that they may bring leaves the cache as it was.
 use Rattle.std.proofs.Common.{◌≡◌, ℕ, Bool, true, false, not, ◌&&◌, List, Option, Some, None, if◌then◌else◌, refl, sym, ap, ◌∙◌}
 use Rattle.nq_base.specs.declared.Grant.{Grant}
-use Rattle.nq_client_parts.specs.Granting.{clean_after_reply}
+use Rattle.nq_cache.specs.Granting.{clean_after_reply}
 use Rattle.nq_client.specs.Granting.{keeps, with_clean}
 use Rattle.nq_client_parts.specs.Takes.{is_broken, taking}
 use Rattle.nq_model.specs.Client.{Clean, ClientStep, Lease, Notice, Revision, UnderWay, is_clean, lease_on, notice_on}

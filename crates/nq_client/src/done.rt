@@ -11,7 +11,7 @@ ghost use Rattle.nq_client.specs.Step.{step_of};
 
 use crate::step::Step;
 use nq_base::{Block, BlockNo, FileId, Grant, NoMemory, Reply, Request, Rev, Ticks, Value};
-use nq_client_parts::cache::lets_cache;
+use nq_cache::lets_cache;
 
 /// What answers the call under way where its request brings a value alone.
 fn brought(request: &Request, reply: &Reply) -> Option<Value>

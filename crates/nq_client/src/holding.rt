@@ -9,8 +9,8 @@ ghost use Rattle.nq_client.specs.Step.{step_of};
 
 use crate::step::Step;
 use nq_base::{FileId, Grant, Mode, Ticks};
+use nq_cache::cleans;
 use nq_client_parts::Leases;
-use nq_client_parts::cache::cleans;
 use nq_client_parts::holding::Held;
 
 /// Puts what is held in the place of another lease of its file, in room that is there.

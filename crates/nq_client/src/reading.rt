@@ -7,7 +7,7 @@ ghost use Rattle.nq_client.specs.State.{client_of};
 
 use crate::state::State;
 use nq_base::{Block, BlockNo, FileId, Spare};
-use nq_client_parts::cache::Cache;
+use nq_cache::Cache;
 use nq_client_parts::dirty::Dirty;
 
 /// A copy of a block that is delayed, under way or clean, in room that is there. A clean one comes to the front.

@@ -13,7 +13,7 @@ use crate::asked::Asked;
 use crate::settling::called_body;
 use crate::step::Step;
 use nq_base::{BlockNo, FileId, Number, PushBase, Request, Seq, Spare};
-use nq_client_parts::cache::Cache;
+use nq_cache::Cache;
 use nq_client_parts::{Job, Leases};
 
 /// What a push of a file rests on.

@@ -6,7 +6,7 @@ ghost use Rattle.nq_client.specs.State.{client_of};
 
 use crate::asked::Asked;
 use nq_base::{Call, NoMemory, Number, Seq, Ticks, Who};
-use nq_client_parts::cache::Cache;
+use nq_cache::Cache;
 use nq_client_parts::dirty::Dirty;
 use nq_client_parts::{Leases, Notices, Unreported};
 use std::alloc::Global;

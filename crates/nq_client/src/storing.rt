@@ -8,7 +8,7 @@ ghost use Rattle.nq_client.specs.Step.{step_of};
 
 use crate::step::Step;
 use nq_base::{Block, BlockNo, FileId, NoMemory, Rev, Value};
-use nq_client_parts::cache::{Cache, caches_written};
+use nq_cache::{Cache, caches_written};
 use nq_client_parts::dirty::Dirty;
 use std::alloc::Global;
 

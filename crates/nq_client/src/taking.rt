@@ -10,8 +10,8 @@ use crate::losing::ready_to_lose;
 use crate::state::State;
 use crate::step::Step;
 use nq_base::{Block, BlockNo, FileId, Grant, NoMemory, Ticks};
+use nq_cache::caches_read;
 use nq_client_parts::Losing;
-use nq_client_parts::cache::caches_read;
 use nq_client_parts::holding::{Held, Taken};
 
 /// A grant that is to be taken, and what this needs, made before anything changes.

@@ -4,9 +4,6 @@ pub mod Marks
 pub mod NoticeList
 pub mod Places
 pub mod Spans
-pub mod Kept
-pub mod KeyLaws
-pub mod CachePlaces
 pub mod Counts
 pub mod DirtyKeyLaws
 pub mod OfEntries

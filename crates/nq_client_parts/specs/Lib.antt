@@ -8,9 +8,5 @@ pub mod Leave
 pub mod Lost
 pub mod Notices
 pub mod Takes
-pub mod Cached
-pub mod CacheEntries
-pub mod Granting
-pub mod Revisions
 pub mod Delayed
 pub mod DirtyEntries

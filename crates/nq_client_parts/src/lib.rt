@@ -1,11 +1,10 @@
 //! What a client has: the leases that it holds, the notices that wait, which reply counts for its request under way, the losses that no
-//! call was told yet, and the entries that a step makes (Macklem 1994); its clean blocks (`cache`) and its delayed writes (`dirty`).
+//! call was told yet, and the entries that a step makes (Macklem 1994); and its delayed writes (`dirty`).
 //!
 //! Nothing here reads a datagram. Each value takes room for what it is given before it is given.
 #![tactic(auto)]
 
 mod answers;
-pub mod cache;
 mod calls;
 mod counting;
 pub mod dirty;

@@ -1,6 +1,5 @@
 pub mod Agreeing
 pub mod Allotting
-pub mod Blank
 pub mod Bodying
 pub mod Changing
 pub mod Checks
@@ -9,14 +8,10 @@ pub mod Entering
 pub mod FileRows
 pub mod Filing
 pub mod Finding
-pub mod FormatReading
-pub mod Formatting
-pub mod Founding
 pub mod Gathering
 pub mod Giving
 pub mod Holding
 pub mod Imaging
-pub mod Joining
 pub mod KeptWalks
 pub mod Names
 pub mod Numbering
@@ -30,10 +25,7 @@ pub mod ReadBack
 pub mod Replacing
 pub mod Retaining
 pub mod Rowing
-pub mod Shifting
-pub mod Sizes
 pub mod Sorting
 pub mod Tabling
-pub mod Walking
 pub mod Walks
 pub mod Within

@@ -1,6 +1,5 @@
 //! The image of what a server keeps, as a disk has it: which bytes are one, which field is wrong where they are not, and
-//! for what they stand; and what a store has in memory of its image (`plan`). But for `plan::format` no disk is in it: each function
-//! reads one part of an image from bytes that it is given.
+//! for what they stand. No disk is in it: each function reads one part of an image from bytes that it is given.
 #![tactic(auto)]
 
 mod bounds;
@@ -13,7 +12,6 @@ mod ids;
 mod image;
 mod kept;
 mod order;
-pub mod plan;
 mod ranges;
 mod rows;
 mod spelling;

@@ -6,7 +6,7 @@ use Rattle.nq_base.specs.Plain.{plain}
 use Rattle.nq_base.specs.declared.Entry.{Entry}
 use Rattle.nq_base.specs.declared.Event.{Event}
 use Rattle.nq_base.specs.declared.ending.ending.Ending.{Ending}
-use Rattle.nq_script.specs.JournalText.{journal_text}
+use Rattle.nq_journal.specs.Text.{journal_text}
 use Rattle.nq_loop.proofs.Counting.{same-answer, same-call, same-count}
 use Rattle.nq_loop.specs.Counts.{is_answer, is_call, loop_line}
 use Rattle.nq_loop.specs.Printed.{PrintsRan, counts_of, loop_text}

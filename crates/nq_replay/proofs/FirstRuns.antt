@@ -12,7 +12,7 @@ use Rattle.law_runs.proofs.OrderedCalls.{ordered-in-every-run}
 use Rattle.nq_replay.proofs.Tells.{AllTell, Tells, tell-more, server-tells, client-tells}
 use Rattle.nq_replay.specs.Versions.{FirstTellsItsRuns, IsOfFirst}
 use Rattle.nq_script.specs.Forms.{HasTold}
-use Rattle.nq_script.specs.JournalText.{Has}
+use Rattle.nq_journal.specs.Text.{Has}
 use Rattle.nq_model.specs.Client.{Client, ClientStep, Ticket}
 use Rattle.nq_model.specs.ClientStep.{client_call, client_tick, restart}
 use Rattle.nq_model.specs.Hear.{hear}

@@ -5,7 +5,7 @@ use Rattle.nq_base.specs.Plain.{plain, plain_said}
 use Rattle.nq_base.specs.declared.Entry.{Entry}
 use Rattle.nq_base.specs.declared.Said.{Said}
 use Rattle.nq_script.specs.Forms.{said_words}
-use Rattle.nq_script.specs.JournalText.{entry_line, journal_text, of_who}
+use Rattle.nq_journal.specs.Text.{entry_line, journal_text, of_who}
 use Rattle.nq_script.specs.Words.{line}
 use Rattle.std.specs.Fmt.{decimal}
 use Rattle.std.specs.Prelude.{codes}

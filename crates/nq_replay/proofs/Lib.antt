@@ -1,5 +1,5 @@
 mod Appending
-mod Endings
+pub mod Endings
 mod Joining
 pub mod AsidesOnward
 pub mod Dropping
@@ -9,7 +9,6 @@ pub mod Flags
 pub mod Grammar
 pub mod Heads
 pub mod Journals
-pub mod Judgements
 pub mod Keeping
 pub mod Lawfully
 pub mod Limits

@@ -11,7 +11,7 @@ use Rattle.nq_base.specs.declared.Entry.{Entry}
 use Rattle.nq_base.specs.declared.Event.{Event}
 use Rattle.nq_base.specs.declared.Told.{Told}
 use Rattle.nq_script.specs.Forms.{HasTold}
-use Rattle.nq_script.specs.JournalText.{Has}
+use Rattle.nq_journal.specs.Text.{Has}
 use Rattle.nq_model.proofs.Lists.{each-append}
 use Rattle.nq_base.specs.Calls.{told}
 use Rattle.nq_model.specs.Journal.{Each}

@@ -3,7 +3,6 @@ pub mod AsidesPlaying
 pub mod Delivering
 pub mod Ending
 pub mod Going
-pub mod Judging
 pub mod Lawful
 pub mod Lines
 pub mod Playing

@@ -5,7 +5,7 @@ use Rattle.nq_base.specs.declared.ending.ending.Ending.{Ending}
 use Rattle.nq_io.specs.Faults.{Rose}
 use Rattle.nq_io.specs.Sink.{AppendsFront}
 use Rattle.nq_io.specs.Told.{with_end}
-use Rattle.nq_script.specs.JournalText.{journal_text}
+use Rattle.nq_journal.specs.Text.{journal_text}
 use Rattle.nq_model.specs.Kept.{Kept}
 use Rattle.nq_replay.specs.Going.{RanTo}
 use Rattle.nq_replay.specs.Playing.{Ended, ran, stopped}

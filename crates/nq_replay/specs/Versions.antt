@@ -3,7 +3,7 @@ use Rattle.std.specs.Prelude.{◌≡◌, ℕ, List}
 use Rattle.std.specs.List.{AllByRecursion}
 use Rattle.nq_base.specs.declared.Event.{Event}
 use Rattle.nq_script.specs.Forms.{HasTold}
-use Rattle.nq_script.specs.JournalText.{Has}
+use Rattle.nq_journal.specs.Text.{Has}
 use Rattle.nq_base.specs.Calls.{told}
 use Rattle.nq_model.specs.Journal.{Each}
 use Rattle.nq_model.specs.Skew.{IsWithinSkew}

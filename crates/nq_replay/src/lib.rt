@@ -1,9 +1,8 @@
-//! Reading and playing schedules, and judging journals: what is read, played and printed, and how it ends.
+//! Reading and playing schedules: what is read, played and printed, and how it ends.
 #![tactic(auto)]
 
 pub mod asides;
 mod finished;
-mod judging;
 mod parts;
 pub mod play;
 mod printing;
@@ -13,10 +12,9 @@ mod texts;
 pub mod version_one;
 
 pub use finished::Finished;
-pub use judging::judge;
 pub use nq_base::NoMemory;
 pub use parts::print_parts;
-pub use printing::{Bound, put_line, tell_over};
+pub use printing::{Bound, put_line, script_text, tell_over};
 pub use reading::read_script;
 pub use schedules::{replay, tell_limit, tell_script, tell_stop};
 pub use texts::schedule_text;

@@ -1,13 +1,13 @@
 //! Printing a journal between two texts.
 
 ghost use Rattle.std.specs.Prelude.{◌++◌};
-ghost use Rattle.nq_script.specs.JournalText.{IsVersion, journal_text};
+ghost use Rattle.nq_journal.specs.Text.{IsVersion, journal_text};
 ghost use Rattle.nq_replay.specs.Schedules.{PrintsBytes};
 
 use nq_base::Journal;
 use nq_base::ending::Ending;
 use nq_io::{Put, Sink};
-use nq_script::journal::{Printed, is_in, print};
+use nq_journal::{Printed, is_in, print};
 use std::alloc::Global;
 
 /// Prints a text, a journal in a version of its text, 1 or 2, and another text. How it ends:

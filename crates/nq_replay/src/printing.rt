@@ -30,8 +30,12 @@ pub fn put_line<K: Sink>(out: &mut K, line: &[u8])
 }
 
 /// The line that tells the number of a faulty line.
+///
+/// # Errors
+///
+/// Only want of memory.
 #[tactic(auto, unfolding(crate::specs::Lines::script_line))]
-pub(crate) fn script_text(alloc: Global, number: usize) -> Result<String, NoMemory>
+pub fn script_text(alloc: Global, number: usize) -> Result<String, NoMemory>
     ensures { IfOk result (λ line. string_bytes line ≡ script_line number) }
 {
     match format!(in alloc; "script line {number}\n") {

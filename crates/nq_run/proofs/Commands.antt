@@ -1,7 +1,7 @@
 -- What the words of one word say, and what a command keeps.
 use Rattle.std.proofs.Common.{◌≡◌, ℕ, Bool, true, false, List, Some, refl}
-use Rattle.nq_script.specs.Commands.{IsCheck, IsFormat, IsNames, IsReplay, IsStaged, alone_of, command_of}
-use Rattle.nq_script.specs.declared.command.commands.Command.{Command}
+use Rattle.nq_command.specs.Commands.{IsCheck, IsFormat, IsNames, IsReplay, IsStaged, alone_of, command_of}
+use Rattle.nq_command.specs.declared.commands.Command.{Command}
 use Rattle.nq_run.specs.Frames.{Unless}
 
 pub says_replay : (words : List (List ℕ)) → IsReplay words → command_of words ≡ Some Command.Replay

@@ -1,6 +1,6 @@
 -- What each command does.
 use Rattle.std.specs.Prelude.{ℕ, List, Option, Some, None, ⊤}
-use Rattle.nq_script.specs.declared.command.commands.Command.{Command}
+use Rattle.nq_command.specs.declared.commands.Command.{Command}
 use Rattle.nq_storm.specs.Kinds.{LackKind, TellOthers}
 use Rattle.nq_storm.specs.Rules.{Rule}
 

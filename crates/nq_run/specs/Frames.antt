@@ -1,6 +1,6 @@
 -- What each command uses. All else that `run` is handed stays as it was.
 use Rattle.std.specs.Prelude.{Bool, true, false, Option, Some, ⊤}
-use Rattle.nq_script.specs.declared.command.commands.Command.{Command}
+use Rattle.nq_command.specs.declared.commands.Command.{Command}
 
 -- a replay, a judgement and a client read the input
 abbrev pub reads_input : Option Command → Bool

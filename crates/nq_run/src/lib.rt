@@ -4,6 +4,7 @@
 mod checking;
 mod fates;
 mod hosting;
+mod judging;
 mod looping;
 mod naming;
 mod replaying;
@@ -12,7 +13,8 @@ mod storming;
 mod top;
 mod usage;
 
-pub use nq_script::command::{Command, NoMemory, Words};
+pub use judging::judge;
+pub use nq_command::{Command, NoMemory, Words};
 pub use nq_service::Ended;
 pub use nq_storm::fates::{CutFate, Fate, HostileFate, LossyFate, SteadyFate};
 pub use top::run;

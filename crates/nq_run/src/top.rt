@@ -1,8 +1,8 @@
 //! Running what the words say over a disk.
 
 ghost use Rattle.std.specs.Prelude.{◌≡◌, ◌+◌, ℕ, List, Some, false, true, length, map};
-ghost use Rattle.nq_script.specs.Commands.{IsCheck, IsFormat, IsNames, IsReplay, IsStaged, command_of};
-ghost use Rattle.nq_script.specs.declared.command.commands.Command.{Command};
+ghost use Rattle.nq_command.specs.Commands.{IsCheck, IsFormat, IsNames, IsReplay, IsStaged, command_of};
+ghost use Rattle.nq_command.specs.declared.commands.Command.{Command};
 ghost use Rattle.nq_run.specs.Commands.{Does, NeverSays, SaysNothing};
 ghost use Rattle.nq_run.specs.Running.{LoopsOn, ReplaysOn, StormsOn};
 ghost use Rattle.nq_base.specs.Status.{status_of};
@@ -30,10 +30,10 @@ use crate::staged::staged;
 use crate::storming::stormed;
 use crate::usage::usage;
 use nq_clock::Clock;
+use nq_command::{Command, Words};
 use nq_disk::Disk;
 use nq_io::{Sink, Source};
 use nq_link::Link;
-use nq_script::command::{Command, Words};
 use nq_service::{Ended, format_disk, serve_disk};
 use nq_storm::fates::Fate;
 use std::alloc::Global;

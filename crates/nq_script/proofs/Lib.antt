@@ -28,14 +28,3 @@ pub mod SpanWords
 pub mod Splitting
 pub mod Whole
 pub mod WordsCuts
-pub mod Joining
-pub mod Ranges
-pub mod Rounds
-mod JournalAgain
-mod JournalClean
-mod Faulty
-mod Pieces
-mod Rests
-mod Tails
-mod TextLines
-mod JournalWhole

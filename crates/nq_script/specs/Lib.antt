@@ -11,14 +11,3 @@ pub mod Schedule
 pub mod Text
 pub mod Words
 pub mod WordsReading
-pub mod Answers
-pub mod Commands
-pub mod CommandLines
-pub mod Pieces
-pub mod Starts
-pub mod Fault
-pub mod Groups
-pub mod Parsing
-pub mod Printing
-pub mod ReadingEntries
-pub mod JournalText

@@ -1,5 +1,4 @@
-//! The text of schedules, read and printed; beside it that of journals (`journal`), what the words of a command line mean (`command`), and
-//! the words of calls and answers, which all of them have (`words`).
+//! The text of schedules, read and printed; beside it the words of calls and answers, which journals and command lines have too (`words`).
 //!
 //! The grammar is in `specs/`: `Text` (words and lines), `Calls`, `Lines`, `Heads`, and `Schedule`, which says what the
 //! text of a schedule is and at which line another text first goes wrong. A further form of a line is one more case of
@@ -8,11 +7,9 @@
 #![tactic(auto)]
 
 mod calls;
-pub mod command;
 mod faults;
 mod fields;
 mod heads;
-pub mod journal;
 mod laws;
 mod lines;
 mod print;

@@ -4,8 +4,8 @@ use Rattle.std.specs.Option.{ForSome}
 use Rattle.nq_hosts.specs.DaemonLeaving.{IsLeftInRuns}
 use Rattle.nq_hosts.specs.DaemonServing.{Runs}
 use Rattle.nq_base.specs.declared.ending.halt.Halt.{Halt}
-use Rattle.nq_image.specs.Formatted.{StandsForNothing, TellsNothing}
-use Rattle.nq_image.specs.PlanStanding.{stands_as}
+use Rattle.nq_plan.specs.Formatted.{StandsForNothing, TellsNothing}
+use Rattle.nq_plan.specs.Standing.{stands_as}
 use Rattle.nq_image.specs.Nothing.{nothing_kept}
 use Rattle.nq_io.specs.Faults.{Rose}
 use Rattle.nq_model.specs.Kept.{Kept}

@@ -1,6 +1,6 @@
 -- What is kept on a disk on which nothing is kept is what an empty keeper keeps.
 use Rattle.std.proofs.Common.{◌≡◌, ℕ, List, Option, Some, refl, ap, ◌∙◌}
-use Rattle.nq_image.specs.Formatted.{TellsNothing}
+use Rattle.nq_plan.specs.Formatted.{TellsNothing}
 use Rattle.nq_image.specs.Nothing.{nothing_kept}
 use Rattle.nq_keeper.specs.StoredKeeper.{empty_kept}
 use Rattle.nq_model.specs.Kept.{Kept}

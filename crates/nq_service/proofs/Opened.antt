@@ -1,6 +1,6 @@
 -- What the opening of a disk tells of its store.
 use Rattle.std.proofs.Common.{◌≡◌, ℕ, List, Option, Some, Result, Ok, Err, IfOk, inl, inr, ◌∙◌}
-use Rattle.nq_image.specs.Formatted.{TellsNothing}
+use Rattle.nq_plan.specs.Formatted.{TellsNothing}
 use Rattle.nq_image.specs.Nothing.{nothing_kept}
 use Rattle.nq_store.proofs.Emptied.{nothing_told}
 use Rattle.nq_service.specs.Opening.{OpensOrMakes, OpensReady}

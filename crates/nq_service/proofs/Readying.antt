@@ -3,7 +3,7 @@ use Rattle.std.proofs.Common.{◌≡◌, ℕ, List, [], Option, Result, Ok, Err,
 use Rattle.std.specs.Option.{ForSome}
 use Rattle.nq_disk.specs.Calling.{Counts, LeavesNoMore}
 use Rattle.nq_disk.specs.declared.disk.DiskFault.{DiskFault}
-use Rattle.nq_image.specs.Formatted.{StandsForNothing, TellsNothing}
+use Rattle.nq_plan.specs.Formatted.{StandsForNothing, TellsNothing}
 use Rattle.nq_io.specs.Faults.{Rose}
 use Rattle.nq_service.specs.Opening.{FailsEarly, IsReady, Readies}
 use Rattle.nq_disk.specs.Saying.{Each}

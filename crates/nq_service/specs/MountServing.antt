@@ -6,7 +6,7 @@ use Rattle.std.specs.Prelude.{◌≡◌, ◌<◌, ℕ, List, [], Option, Some, N
 use Rattle.nq_hosts.specs.DaemonLeaving.{IsLeftInRuns, LeavesServing}
 use Rattle.nq_hosts.specs.DaemonServing.{EndsBy}
 use Rattle.nq_base.specs.declared.ending.halt.Halt.{Halt}
-use Rattle.nq_image.specs.PlanStanding.{stands_as}
+use Rattle.nq_plan.specs.Standing.{stands_as}
 use Rattle.nq_image.specs.Nothing.{nothing_kept}
 use Rattle.nq_io.specs.Faults.{Rose}
 use Rattle.nq_model.specs.Kept.{Kept}

@@ -4,7 +4,7 @@
 use Rattle.std.specs.Option.{ForSome}
 use Rattle.std.specs.Prelude.{◌≡◌, ◌⊎◌, ◌<◌, ℕ, List, [], Option, Some, Result, Ok, Err, IfOk, OnOk, length}
 use Rattle.nq_disk.specs.Calling.{LeavesNoMore}
-use Rattle.nq_image.specs.Formatted.{StandsForNothing, TellsNothing}
+use Rattle.nq_plan.specs.Formatted.{StandsForNothing, TellsNothing}
 use Rattle.nq_io.specs.Faults.{Rose}
 use Rattle.nq_disk.specs.Saying.{Each}
 use Rattle.nq_store.specs.Opening.{AnswersOpen, FollowsOpen, LeavesLike, SaysWrong, StaysRefused, disk_of}

@@ -7,7 +7,7 @@ use Rattle.std.specs.Prelude.{◌≡◌, ◌⊎◌, ◌++◌, ℕ, List, Option,
 use Rattle.nq_base.specs.Status.{status_of}
 use Rattle.nq_base.specs.declared.ending.ending.Ending.{Ending}
 use Rattle.nq_base.specs.declared.ending.halt.Halt.{Halt}
-use Rattle.nq_image.specs.PlanStanding.{stands_as}
+use Rattle.nq_plan.specs.Standing.{stands_as}
 use Rattle.nq_hosts.specs.ServerLeaving.{IsLeftInRuns, LeavesServing}
 use Rattle.nq_hosts.specs.Serving.{EndsBy, Tells}
 use Rattle.nq_io.specs.Faults.{Rose}

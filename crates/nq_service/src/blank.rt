@@ -2,7 +2,7 @@
 
 ghost use Rattle.std.specs.Prelude.{◌≡◌, ℕ, List, Some, IfErr, IfOk};
 ghost use Rattle.nq_service.specs.Emptying.{EmptiesNot, disk_in};
-ghost use Rattle.nq_image.specs.Formatted.{TellsNothing};
+ghost use Rattle.nq_plan.specs.Formatted.{TellsNothing};
 ghost use Rattle.nq_keeper.specs.StoredKeeper.{empty_kept};
 ghost use Rattle.nq_store.specs.Storing.{IsFresh, content_of};
 

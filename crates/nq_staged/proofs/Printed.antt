@@ -5,7 +5,7 @@ use Rattle.nq_base.specs.Plain.{plain}
 use Rattle.nq_base.specs.declared.Entry.{Entry}
 use Rattle.nq_base.specs.declared.Event.{Event}
 use Rattle.nq_staged.specs.Worlds.{PlaysOutside, StagedOver}
-use Rattle.nq_script.specs.JournalText.{journal_text}
+use Rattle.nq_journal.specs.Text.{journal_text}
 use Rattle.nq_model.specs.Kept.{Kept}
 use Rattle.nq_model.specs.World.{Head as Beginning}
 use Rattle.nq_replay.specs.Lawful.{IsLawful}

@@ -19,11 +19,11 @@ use Rattle.nq_image.proofs.Placing.{cleared-stands}
 use Rattle.nq_image.proofs.Sorting.{OfRow}
 use Rattle.nq_model.specs.Change.{HasBlock, IsBody, with_block}
 use Rattle.nq_model.specs.Kept.{File, Kept, blocks_of, drop_file, find_file, with_files}
-use Rattle.nq_image.specs.Finding.{file_in, slot_of}
-use Rattle.nq_image.specs.Held.{HeldTables}
-use Rattle.nq_image.specs.Placing.{IsPlaced, is_unused, placed_slot}
-use Rattle.nq_image.specs.Ranges.{blocks_then, body_range, removal_ranges}
-use Rattle.nq_image.specs.declared.plan.placing.Placed.{Placed}
+use Rattle.nq_plan.specs.Finding.{file_in, slot_of}
+use Rattle.nq_plan.specs.Held.{HeldTables}
+use Rattle.nq_plan.specs.Placing.{IsPlaced, is_unused, placed_slot}
+use Rattle.nq_plan.specs.Ranges.{blocks_then, body_range, removal_ranges}
+use Rattle.nq_plan.specs.declared.placing.Placed.{Placed}
 use Rattle.nq_disk.specs.Ranges.{applied}
 use Rattle.nq_store.proofs.Files.{HasId, each-file, found-at, known-file, none-at, position-none, position-some, row-has-not, unknown-files}
 use Rattle.nq_store.proofs.Filing.{of-row}

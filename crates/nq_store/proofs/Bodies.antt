@@ -12,8 +12,8 @@ use Rattle.nq_keeper.specs.Keeping.{body_at}
 use Rattle.nq_keeper.specs.declared.keeper.KeepFault.{KeepFault}
 use Rattle.nq_model.specs.Change.{HasBlock, IsBody, IsFileWithin, IsWithinBounds}
 use Rattle.nq_model.specs.Kept.{File, Kept, find_file}
-use Rattle.nq_image.specs.Finding as said
-use Rattle.nq_image.specs.Held.{HeldTables}
+use Rattle.nq_plan.specs.Finding as said
+use Rattle.nq_plan.specs.Held.{HeldTables}
 use Rattle.nq_store.specs.Storing.{IsSound, content_while}
 use Rattle.nq_store.proofs.Keeping.{apart-in, known}
 use Rattle.nq_store.proofs.Rows.{body-is}

@@ -3,7 +3,7 @@ use Rattle.std.proofs.Common.{◌≡◌, ◌⊎◌, ◌≤◌, ◌<◌, ◌+◌,
 use Rattle.std.specs.Cmp.Lexicographic.{pointwise}
 use Rattle.std.specs.Prelude.{nat_eq, nat_le, slice_index_or}
 use Rattle.std.proofs.lemmas.List.{ext_get_or, get_or-drop}
-use Rattle.nq_image.specs.PlanStanding.{begins_as_image, image_area, settled_as, stands_as}
+use Rattle.nq_plan.specs.Standing.{begins_as_image, image_area, settled_as, stands_as}
 use Rattle.nq_image.specs.Check.{tested}
 use Rattle.nq_image.specs.Heads.{front_checks, front_of, version_of}
 use Rattle.nq_image.specs.Image.{FoundTwo, ◌>>=◌, image_two, no_marks, rows_in, tables_in}
@@ -18,8 +18,8 @@ use Rattle.nq_image.specs.declared.Version.{Version}
 use Rattle.nq_image.proofs.Agreeing.{agree-stands}
 use Rattle.nq_image.proofs.Finding.{read-stands}
 use Rattle.nq_image.proofs.Pieces.{piece-same}
-use Rattle.nq_image.specs.Held.{HeldTables, IsHeldOf}
-use Rattle.nq_image.specs.PlanReading.{ArePartsOf, HoldsIn, held_in}
+use Rattle.nq_plan.specs.Held.{HeldTables, IsHeldOf}
+use Rattle.nq_plan.specs.Reading.{ArePartsOf, HoldsIn, held_in}
 use Rattle.nq_disk.specs.Whole.{found}
 use Rattle.nq_disk.proofs.Opening.{blanked-outside, length-blanked, opened-closed}
 use Rattle.nq_store.specs.Reading.{IsClosedImage, ReadsImage}

@@ -3,17 +3,17 @@ use Rattle.std.proofs.Common.{◌≡◌, ◌⊎◌, ℕ, List, Option, Some, Non
 use Rattle.std.specs.List.{All}
 use Rattle.std.specs.Option.{ForSome}
 use Rattle.nq_base.specs.declared.Change.{Change}
-use Rattle.nq_image.specs.PlanStanding.{image_area}
+use Rattle.nq_plan.specs.Standing.{image_area}
 use Rattle.nq_image.specs.Standing.{Agree, IsFree, Standing, kept_at}
 use Rattle.nq_keeper.specs.Keeping.{LeavesTwo, told_after}
 use Rattle.nq_model.specs.Change.{Fits, IsChangeWithin, IsWithinBounds, applied}
 use Rattle.nq_model.specs.Kept.{Kept}
 use Rattle.nq_model.proofs.WithinBounds.{within-applied}
-use Rattle.nq_image.specs.Held.{HeldTables}
-use Rattle.nq_image.specs.Placing.{IsPlacedFor}
-use Rattle.nq_image.specs.Ranges.{ranges_of}
-use Rattle.nq_image.specs.Settling.{settled}
-use Rattle.nq_image.specs.declared.plan.placing.Placed.{Placed}
+use Rattle.nq_plan.specs.Held.{HeldTables}
+use Rattle.nq_plan.specs.Placing.{IsPlacedFor}
+use Rattle.nq_plan.specs.Ranges.{ranges_of}
+use Rattle.nq_plan.specs.Settling.{settled}
+use Rattle.nq_plan.specs.declared.placing.Placed.{Placed}
 use Rattle.nq_disk.specs.Batch.{IsFit}
 use Rattle.nq_disk.specs.Ranges.{Range}
 use Rattle.nq_disk.specs.Saying.{Each}

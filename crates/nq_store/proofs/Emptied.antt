@@ -1,6 +1,6 @@
 -- What an image stands for in which nothing is kept.
 use Rattle.std.proofs.Common.{◌≡◌, ℕ, List, Option, Some, Ok, refl, ap, ◌∙◌}
-use Rattle.nq_image.specs.Formatted.{StandsForNothing, TellsNothing}
+use Rattle.nq_plan.specs.Formatted.{StandsForNothing, TellsNothing}
 use Rattle.nq_image.specs.Nothing.{nothing_kept}
 use Rattle.nq_keeper.specs.StoredKeeper.{is_within}
 use Rattle.nq_store.specs.Storing.{kept_of, kept_on, kept_told}

@@ -18,11 +18,11 @@ use Rattle.nq_image.proofs.Retaining.{new-kept, same-kept}
 use Rattle.nq_image.proofs.Sorting.{OfRow}
 use Rattle.nq_model.specs.Change.{with_file}
 use Rattle.nq_model.specs.Kept.{File, Kept, blocks_in_all, find_file, find_name, with_files}
-use Rattle.nq_image.specs.Finding.{blocks_of, file_in, row_if, row_of, slot_of}
-use Rattle.nq_image.specs.Held.{HeldTables, IsHeldOf}
-use Rattle.nq_image.specs.Placing.{IsPlaced, file_for, free_blocks, is_unused, placed_blocks, placed_slot}
-use Rattle.nq_image.specs.Ranges.{file_ranges, whole_ranges, row_range}
-use Rattle.nq_image.specs.declared.plan.placing.Placed.{Placed}
+use Rattle.nq_plan.specs.Finding.{blocks_of, file_in, row_if, row_of, slot_of}
+use Rattle.nq_plan.specs.Held.{HeldTables, IsHeldOf}
+use Rattle.nq_plan.specs.Placing.{IsPlaced, file_for, free_blocks, is_unused, placed_blocks, placed_slot}
+use Rattle.nq_plan.specs.Ranges.{file_ranges, whole_ranges, row_range}
+use Rattle.nq_plan.specs.declared.placing.Placed.{Placed}
 use Rattle.nq_disk.specs.Ranges.{Range, applied}
 use Rattle.nq_store.specs.Changing.{HasZeros, new_blocks}
 use Rattle.nq_store.proofs.Files.{HasId, each-row, found-at, known-file, name-of, none-at, position-some, unknown-files, unnamed-files}

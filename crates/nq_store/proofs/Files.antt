@@ -12,7 +12,7 @@ use Rattle.nq_image.specs.Standing.{AreNumbered, CanStand, PlacedFile, Standing,
 use Rattle.nq_image.proofs.Owning.{rows-of, standing-apart}
 use Rattle.nq_image.proofs.Retaining.{apart-ids, files-some, find-none, find-put, kept-files, others-apart, other-files}
 use Rattle.nq_image.proofs.Sorting.{OfRow, of-rows}
-use Rattle.nq_image.specs.Finding.{has_id, slot_of}
+use Rattle.nq_plan.specs.Finding.{has_id, slot_of}
 
 -- ---- the first place at which a test passes
 

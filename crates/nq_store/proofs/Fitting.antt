@@ -13,7 +13,7 @@ use Rattle.nq_base.specs.declared.Change.{Change}
 use Rattle.nq_base.specs.declared.FileRow.{FileRow}
 use Rattle.nq_base.specs.declared.Heads.{Heads}
 use Rattle.nq_base.specs.declared.HostChange.{HostChange}
-use Rattle.nq_image.specs.PlanStanding.{image_area}
+use Rattle.nq_plan.specs.Standing.{image_area}
 use Rattle.nq_image.specs.Heads.{front_checks, front_of}
 use Rattle.nq_image.specs.Layout.{block_place, piece, word_in}
 use Rattle.nq_image.specs.Standing.{IsFileBlock, PlacedFile, Standing, Stands, blocks_in, found_of, front_for, row_at, row_blocks}
@@ -29,12 +29,12 @@ use Rattle.nq_image.proofs.Parting.{parts-of}
 use Rattle.nq_image.proofs.ReadBack.{Hold, length-zeros}
 use Rattle.nq_model.specs.Change.{FitsFile, IsBody}
 use Rattle.nq_model.specs.Kept.{Kept}
-use Rattle.nq_image.proofs.Sizes.{length-heads, length-host}
-use Rattle.nq_image.specs.Finding.{blocks_of, file_in, has_id, row_of, slot_of}
-use Rattle.nq_image.specs.Held.{HeldTables, IsHeldOf}
-use Rattle.nq_image.specs.Placing.{IsPlaced, IsPlacedFor, free_blocks}
-use Rattle.nq_image.specs.Ranges.{blocks_then, body_range, body_ranges, file_ranges, heads_ranges, host_ranges, id_range, placed_ranges, range, ranges_of, removal_ranges, removed_ranges, row_range, table_range, whole_ranges}
-use Rattle.nq_image.specs.declared.plan.placing.Placed.{Placed}
+use Rattle.nq_plan.proofs.Sizes.{length-heads, length-host}
+use Rattle.nq_plan.specs.Finding.{blocks_of, file_in, has_id, row_of, slot_of}
+use Rattle.nq_plan.specs.Held.{HeldTables, IsHeldOf}
+use Rattle.nq_plan.specs.Placing.{IsPlaced, IsPlacedFor, free_blocks}
+use Rattle.nq_plan.specs.Ranges.{blocks_then, body_range, body_ranges, file_ranges, heads_ranges, host_ranges, id_range, placed_ranges, range, ranges_of, removal_ranges, removed_ranges, row_range, table_range, whole_ranges}
+use Rattle.nq_plan.specs.declared.placing.Placed.{Placed}
 use Rattle.nq_disk.specs.Batch.{AreAllowed, IsFit, body_of, spelled}
 use Rattle.nq_disk.specs.Ranges.{Range}
 use Rattle.nq_disk.specs.Record.{is_misplaced}

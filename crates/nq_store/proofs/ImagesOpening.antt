@@ -8,7 +8,7 @@ use Rattle.std.proofs.lemmas.Bool.Decides.{nat_tests}
 use Rattle.std.proofs.lemmas.List.{get_or_past, length-replicate}
 use Rattle.nq_base.specs.declared.Change.{Change}
 use Rattle.nq_disk.specs.Bytes.{written}
-use Rattle.nq_image.specs.PlanStanding.{begins_as_image, image_area, settled_as, stands_as}
+use Rattle.nq_plan.specs.Standing.{begins_as_image, image_area, settled_as, stands_as}
 use Rattle.nq_image.specs.Kept.{opened}
 use Rattle.nq_image.specs.Layout.{block_place, piece}
 use Rattle.nq_image.specs.Standing.{Agree, IsInBlock, IsUsed, Standing, Stands, found_of, kept_at, overwritten}
@@ -20,10 +20,10 @@ use Rattle.nq_image.proofs.Parting.{parts-of}
 use Rattle.nq_image.proofs.Pieces.{piece-same}
 use Rattle.nq_model.specs.Change.{Fits, IsChangeWithin, applied as changed}
 use Rattle.nq_model.specs.Kept.{Kept}
-use Rattle.nq_image.specs.Held.{HeldTables, IsHeldOf}
-use Rattle.nq_image.specs.Ranges.{ranges_of}
-use Rattle.nq_image.specs.Settling.{settled}
-use Rattle.nq_image.specs.declared.plan.placing.Placed.{Placed}
+use Rattle.nq_plan.specs.Held.{HeldTables, IsHeldOf}
+use Rattle.nq_plan.specs.Ranges.{ranges_of}
+use Rattle.nq_plan.specs.Settling.{settled}
+use Rattle.nq_plan.specs.declared.placing.Placed.{Placed}
 use Rattle.nq_disk.specs.Ranges.{applied}
 use Rattle.nq_disk.specs.Record.{blanked}
 use Rattle.nq_disk.specs.Whole.{IsClosed, after, found}

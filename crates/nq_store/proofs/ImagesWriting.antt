@@ -15,7 +15,7 @@ use Rattle.nq_image.proofs.Overwriting.{block-behind, length-of-table, long-enou
 use Rattle.nq_image.proofs.Pieces.{length-over}
 use Rattle.nq_image.proofs.ReadBack.{length-zeros}
 use Rattle.nq_disk.specs.Ranges.{Range, applied}
-use Rattle.nq_image.specs.Ranges.{id_range, range, removal_ranges, whole_ranges}
+use Rattle.nq_plan.specs.Ranges.{id_range, range, removal_ranges, whole_ranges}
 use Rattle.nq_store.specs.Changing.{HasZeros}
 use Rattle.nq_store.proofs.ImagesZeroing.{zeros-held}
 

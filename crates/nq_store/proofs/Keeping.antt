@@ -3,7 +3,7 @@ use Rattle.std.proofs.Common.{◌≡◌, ◌<◌, ◌+◌, ◌-◌, ◌^◌, ℕ
 use Rattle.std.specs.Prelude.{IfOk}
 use Rattle.std.specs.Option.{ForSome}
 use Rattle.std.proofs.lemmas.Bool.{cases_lt}
-use Rattle.nq_image.specs.PlanStanding.{stands_as}
+use Rattle.nq_plan.specs.Standing.{stands_as}
 use Rattle.nq_image.specs.Standing.{kept_at}
 use Rattle.nq_io.specs.Faults.{Rose, count_up}
 use Rattle.nq_keeper.specs.Bounds.{within-decides}
@@ -11,7 +11,7 @@ use Rattle.nq_keeper.specs.Keeping.{LeavesOne}
 use Rattle.nq_keeper.specs.declared.keeper.KeepFault.{KeepFault}
 use Rattle.nq_model.specs.Change.{IsWithinBounds}
 use Rattle.nq_model.specs.Kept.{Kept}
-use Rattle.nq_image.specs.Held.{HeldTables, IsHeldOf}
+use Rattle.nq_plan.specs.Held.{HeldTables, IsHeldOf}
 use Rattle.nq_store.specs.Laws.{tells-bytes}
 use Rattle.nq_store.specs.Storing.{IsKeptOn, IsSound, LeavesKept, answered, content_while, counted, if_within, kept_of, kept_on}
 use Rattle.nq_image.proofs.Owning.{rows-of, standing-apart}

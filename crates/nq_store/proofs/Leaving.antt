@@ -6,7 +6,7 @@ use Rattle.std.specs.Prelude.{nat_eq, nat_le, nat_lt}
 use Rattle.std.proofs.lemmas.Bool.Decides.{nat_tests}
 use Rattle.nq_disk.specs.Bytes.{written}
 use Rattle.nq_disk.specs.BytesLaws.{length-written, written-outside}
-use Rattle.nq_image.specs.PlanStanding.{begins_as_image, image_area, settled_as, stands_as}
+use Rattle.nq_plan.specs.Standing.{begins_as_image, image_area, settled_as, stands_as}
 use Rattle.nq_image.specs.Image.{FoundOne}
 use Rattle.nq_image.specs.Kept.{opened}
 use Rattle.nq_image.specs.Layout.{block_place, piece}

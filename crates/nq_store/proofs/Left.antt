@@ -3,7 +3,7 @@ use Rattle.std.proofs.Common.{◌≡◌, ◌≤◌, ◌<◌, ◌+◌, ◌&&◌, 
 use Rattle.std.specs.Prelude.{nat_le}
 use Rattle.std.proofs.lemmas.Bool.Decides.{nat_tests}
 use Rattle.nq_disk.specs.Calling.{IsAllThatIsLeft}
-use Rattle.nq_image.specs.PlanStanding.{begins_as_image, image_area, settled_as, stands_as}
+use Rattle.nq_plan.specs.Standing.{begins_as_image, image_area, settled_as, stands_as}
 use Rattle.nq_image.specs.Whole.{has_image_name}
 use Rattle.nq_image.proofs.Pieces.{piece-same}
 use Rattle.nq_disk.specs.Opens.{disk_in}

@@ -12,7 +12,7 @@ use Rattle.nq_image.proofs.Agreeing.{all-front, all-rest}
 use Rattle.nq_image.proofs.Allotting.{all-given, apart-back, distinct-apart, distinct-behind, each-given, length-with}
 use Rattle.nq_image.proofs.Giving.{IsGiven}
 use Rattle.nq_image.proofs.Imaging.{length-marks, no-marks}
-use Rattle.nq_image.specs.Settling.{marked_all}
+use Rattle.nq_plan.specs.Settling.{marked_all}
 
 -- ---- marks that say the same
 

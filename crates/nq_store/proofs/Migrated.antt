@@ -5,7 +5,7 @@ use Rattle.std.specs.Prelude.{OnOk}
 use Rattle.std.proofs.lemmas.List.{at_drop_all, at_drop_more}
 use Rattle.std.proofs.lemmas.List.Sums.{sum_by-cons}
 use Rattle.nq_disk.specs.Bytes.{Torn, written}
-use Rattle.nq_image.specs.PlanStanding.{image_area, stands_as}
+use Rattle.nq_plan.specs.Standing.{image_area, stands_as}
 use Rattle.nq_image.specs.Image.{FoundOne, ◌>>=◌, reached}
 use Rattle.nq_image.specs.Kept.{kept_in, kept_one, numbers_from}
 use Rattle.nq_image.specs.Layout.{block_place}

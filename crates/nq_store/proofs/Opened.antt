@@ -1,9 +1,9 @@
 -- What an opened store keeps.
 use Rattle.std.proofs.Common.{◌≡◌, ℕ, List, Option, Some, None, Result, Ok, Err, refl, sym, ap, subst, ◌∙◌}
 use Rattle.std.specs.Option.{ForSome}
-use Rattle.nq_image.specs.PlanStanding.{stands_as}
+use Rattle.nq_plan.specs.Standing.{stands_as}
 use Rattle.nq_image.specs.Standing.{kept_at}
-use Rattle.nq_image.specs.Held.{HeldTables}
+use Rattle.nq_plan.specs.Held.{HeldTables}
 use Rattle.nq_store.specs.Loading.{IsShut, IsShutAs, OpensTables}
 use Rattle.nq_store.specs.Opening.{SaysWrong, open_fault}
 use Rattle.nq_store.specs.Storing.{IsKept, IsKeptOn, kept_of, kept_on, kept_told}

@@ -3,7 +3,7 @@ use Rattle.std.proofs.Common.{◌≡◌, ◌≤◌, ◌&&◌, ℕ, Bool, true, f
 use Rattle.std.specs.Cmp.Lexicographic.{pointwise}
 use Rattle.std.specs.Prelude.{nat_eq, nat_le, slice_index_or, sum_by}
 use Rattle.nq_base.specs.declared.HostRow.{HostRow}
-use Rattle.nq_image.specs.PlanStanding.{begins_as_image, image_area, stands_as}
+use Rattle.nq_plan.specs.Standing.{begins_as_image, image_area, stands_as}
 use Rattle.nq_image.specs.Check.{tested}
 use Rattle.nq_image.specs.Heads.{boots_checks, boots_of, version_of}
 use Rattle.nq_image.specs.Hosts.{hosts_checks, hosts_of}

@@ -14,10 +14,10 @@ use Rattle.nq_image.proofs.Giving.{IsGiven}
 use Rattle.nq_image.proofs.Imaging.{length-marks}
 use Rattle.nq_image.proofs.Parting.{parts-of}
 use Rattle.nq_image.proofs.Replacing.{all-once}
-use Rattle.nq_image.specs.Finding.{blocks_of}
-use Rattle.nq_image.specs.Held.{HeldTables, IsHeldOf}
-use Rattle.nq_image.specs.Placing.{IsPlaced, IsPlacedFor, file_for, free_blocks, is_free, placed_blocks}
-use Rattle.nq_image.specs.declared.plan.placing.Placed.{Placed}
+use Rattle.nq_plan.specs.Finding.{blocks_of}
+use Rattle.nq_plan.specs.Held.{HeldTables, IsHeldOf}
+use Rattle.nq_plan.specs.Placing.{IsPlaced, IsPlacedFor, file_for, free_blocks, is_free, placed_blocks}
+use Rattle.nq_plan.specs.declared.placing.Placed.{Placed}
 use Rattle.nq_store.specs.Changing.{new_blocks}
 
 -- ---- numbers that pass a test

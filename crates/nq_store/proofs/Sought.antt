@@ -9,7 +9,7 @@ use Rattle.std.proofs.lemmas.List.Folds.{find_at}
 use Rattle.std.proofs.lemmas.List.Sums.{sum_by-cons}
 use Rattle.std.proofs.lemmas.Option.{slice_get_past}
 use Rattle.nq_image.specs.Standing.{PlacedFile, put_file, with_rows}
-use Rattle.nq_image.specs.Finding.{file_in, nearer, nearest}
+use Rattle.nq_plan.specs.Finding.{file_in, nearer, nearest}
 
 -- ---- a row that is found
 

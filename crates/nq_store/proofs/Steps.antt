@@ -15,8 +15,8 @@ use Rattle.nq_image.proofs.Changing.{heads-kept, heads-stand, host-kept, host-st
 use Rattle.nq_image.proofs.Overwriting.{long-enough, rows-written}
 use Rattle.nq_model.specs.Change.{AreHeadsWithin, IsHostWithin, heads_of, heads_with, hosts_with, kept_as}
 use Rattle.nq_model.specs.Kept.{Kept, with_row}
-use Rattle.nq_image.proofs.Sizes.{length-heads, length-host}
-use Rattle.nq_image.specs.Ranges.{heads_ranges, host_ranges}
+use Rattle.nq_plan.proofs.Sizes.{length-heads, length-host}
+use Rattle.nq_plan.specs.Ranges.{heads_ranges, host_ranges}
 use Rattle.nq_disk.specs.Ranges.{applied}
 use Rattle.nq_store.specs.Changing.{HasZeros}
 use Rattle.nq_store.proofs.ImagesWriting.{written-over, zeros-behind}

@@ -7,7 +7,7 @@ use Rattle.std.proofs.lemmas.Bool.Decides.{nat_tests}
 use Rattle.std.proofs.lemmas.List.{length-drop, take_all}
 use Rattle.nq_disk.specs.Bytes.{AreBytes}
 use Rattle.nq_disk.specs.Calling.{LeavesNoMore, ReadsFront}
-use Rattle.nq_image.specs.PlanStanding.{begins_as_image, image_area, settled_as, stands_as}
+use Rattle.nq_plan.specs.Standing.{begins_as_image, image_area, settled_as, stands_as}
 use Rattle.nq_image.specs.Check.{tested}
 use Rattle.nq_image.specs.Heads.{front_checks, front_of, version_of}
 use Rattle.nq_image.specs.Image.{image_two, no_marks}
@@ -22,8 +22,8 @@ use Rattle.nq_image.proofs.Gathering.{stands-opens}
 use Rattle.nq_image.proofs.Holding.{test-le}
 use Rattle.nq_image.proofs.Pieces.{at-piece, length-piece, piece-of-first, piece-same}
 use Rattle.nq_image.proofs.Within.{opened-within}
-use Rattle.nq_image.specs.Held.{HeldTables, IsHeldOf}
-use Rattle.nq_image.specs.PlanReading.{ArePartsOf, HoldsIn}
+use Rattle.nq_plan.specs.Held.{HeldTables, IsHeldOf}
+use Rattle.nq_plan.specs.Reading.{ArePartsOf, HoldsIn}
 use Rattle.nq_disk.specs.Opens.{Opens}
 use Rattle.nq_disk.specs.Whole.{IsClosed, Settled, found}
 use Rattle.nq_disk.specs.declared.redo.redo.Redo.{Redo}

@@ -21,12 +21,12 @@ use Rattle.nq_image.proofs.Parting.{parts-of}
 use Rattle.nq_image.proofs.Sorting.{OfRow}
 use Rattle.nq_model.specs.Change.{AreHeadsWithin, IsHostWithin, FitsFile, FitsRemoval, HasBlock, IsBody, IsRowOf, RaisesNext, applied as changed, blocks_with, files_with, files_without, heads_of, heads_with, hosts_with, kept_as, with_file}
 use Rattle.nq_model.specs.Kept.{File, Kept, blocks_in_all, find_file, find_name, with_files}
-use Rattle.nq_image.specs.Finding.{blocks_of, file_in, slot_of}
-use Rattle.nq_image.specs.Held.{HeldTables, IsHeldOf}
-use Rattle.nq_image.specs.Placing.{IsPlacedFor}
-use Rattle.nq_image.specs.Ranges.{blocks_then, body_ranges, heads_ranges, host_ranges, placed_ranges, ranges_of, removal_ranges, removed_ranges}
-use Rattle.nq_image.specs.Settling.{marked_all, settled, with_file_at, with_file_if, with_rows, without, without_at, without_slot}
-use Rattle.nq_image.specs.declared.plan.placing.Placed.{Placed}
+use Rattle.nq_plan.specs.Finding.{blocks_of, file_in, slot_of}
+use Rattle.nq_plan.specs.Held.{HeldTables, IsHeldOf}
+use Rattle.nq_plan.specs.Placing.{IsPlacedFor}
+use Rattle.nq_plan.specs.Ranges.{blocks_then, body_ranges, heads_ranges, host_ranges, placed_ranges, ranges_of, removal_ranges, removed_ranges}
+use Rattle.nq_plan.specs.Settling.{marked_all, settled, with_file_at, with_file_if, with_rows, without, without_at, without_slot}
+use Rattle.nq_plan.specs.declared.placing.Placed.{Placed}
 use Rattle.nq_disk.specs.Ranges.{applied}
 use Rattle.nq_store.specs.Changing.{CanBeWritten, HasZeros, IsWritten, new_blocks}
 use Rattle.nq_store.proofs.BlockStep.{IsBlockEnd, IsOf, IsRemovalEnd, block-end, of-known, of-other, of-placed, removal-end}

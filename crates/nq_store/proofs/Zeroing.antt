@@ -7,7 +7,7 @@ use Rattle.nq_base.specs.Block.{filled, repeated, zeros}
 use Rattle.nq_disk.specs.Bytes.{Torn, written}
 use Rattle.nq_disk.specs.Calling.{ReadsFront}
 use Rattle.nq_disk.specs.declared.DiskFault.{DiskFault}
-use Rattle.nq_image.specs.PlanStanding.{image_area}
+use Rattle.nq_plan.specs.Standing.{image_area}
 use Rattle.nq_image.specs.Kept.{body_in}
 use Rattle.nq_image.specs.Layout.{block_place, piece}
 use Rattle.nq_image.specs.Standing.{IsFree, Standing, Stands}

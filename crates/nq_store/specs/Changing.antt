@@ -7,10 +7,10 @@ use Rattle.nq_image.specs.Kept.{body_in}
 use Rattle.nq_image.specs.Layout.{block_place}
 use Rattle.nq_image.specs.Standing.{kept_at}
 use Rattle.nq_model.specs.Change.{Fits, IsChangeWithin, applied}
-use Rattle.nq_image.specs.Held.{HeldTables, IsHeldOf}
-use Rattle.nq_image.specs.Placing.{IsPlacedFor}
-use Rattle.nq_image.specs.Settling.{settled}
-use Rattle.nq_image.specs.declared.plan.placing.Placed.{Placed}
+use Rattle.nq_plan.specs.Held.{HeldTables, IsHeldOf}
+use Rattle.nq_plan.specs.Placing.{IsPlacedFor}
+use Rattle.nq_plan.specs.Settling.{settled}
+use Rattle.nq_plan.specs.declared.placing.Placed.{Placed}
 
 -- the blocks that a file gets by a change
 abbrev pub new_blocks : Option Placed → List ℕ

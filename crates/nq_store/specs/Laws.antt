@@ -2,7 +2,7 @@
 use Rattle.std.proofs.Common.{◌≡◌, ◌⊎◌, ◌<◌, ◌≤◌, ◌-◌, ◌^◌, ℕ, Bool, true, false, List, Option, Some, None, Result, Ok, Err, if◌then◌else◌, refl, sym, subst, ◌∙◌, inl, inr, ⊎_elim, arith}
 use Rattle.std.proofs.lemmas.Bool.{cases_lt}
 use Rattle.nq_io.specs.Faults.{Rose}
-use Rattle.nq_image.specs.PlanStanding.{stands_as}
+use Rattle.nq_plan.specs.Standing.{stands_as}
 use Rattle.nq_keeper.specs.Bounds.{within-decides}
 use Rattle.nq_keeper.specs.StoredKeeper.{is_within}
 use Rattle.nq_model.specs.Change.{IsWithinBounds}

@@ -1,14 +1,14 @@
 -- What a read of the image on a disk answers, whose record is closed.
 use Rattle.std.specs.Prelude.{◌≡◌, ◌∷◌, [], ℕ, Bool, true, List, Option, Some, None, Result, Ok, Err, nat_eq}
 use Rattle.std.specs.Cmp.Lexicographic.{pointwise}
-use Rattle.nq_image.specs.PlanStanding.{begins_as_image, image_area, stands_as}
+use Rattle.nq_plan.specs.Standing.{begins_as_image, image_area, stands_as}
 use Rattle.nq_image.specs.Check.{tested}
 use Rattle.nq_image.specs.Heads.{front_checks, front_of}
 use Rattle.nq_image.specs.Layout.{piece}
 use Rattle.nq_image.specs.Standing.{kept_at}
 use Rattle.nq_image.specs.declared.Front.{Front}
 use Rattle.nq_model.specs.Change.{IsWithinBounds}
-use Rattle.nq_image.specs.Held.{HeldTables, IsHeldOf}
+use Rattle.nq_plan.specs.Held.{HeldTables, IsHeldOf}
 use Rattle.nq_disk.specs.Calling.{LeavesNoMore}
 use Rattle.nq_disk.specs.Saying.{Only}
 use Rattle.nq_disk.specs.Whole.{IsClosed}

@@ -1,6 +1,6 @@
 -- What a migration makes of an image of version 1.
 use Rattle.std.specs.Prelude.{◌≡◌, ℕ, List, Option, Some, true, Result, Ok, Err, slice_index}
-use Rattle.nq_image.specs.PlanStanding.{begins_as_image, image_area, stands_as}
+use Rattle.nq_plan.specs.Standing.{begins_as_image, image_area, stands_as}
 use Rattle.nq_image.specs.Image.{FoundOne}
 use Rattle.nq_image.specs.Layout.{piece}
 use Rattle.nq_image.specs.Whole.{image_in, of_one}

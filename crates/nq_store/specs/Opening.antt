@@ -1,7 +1,7 @@
 -- What the opening of a store answers.
 use Rattle.std.specs.Prelude.{◌≡◌, ◌⊎◌, ℕ, true, List, Option, Some, None, Result, Ok, Err, slice_index}
 use Rattle.std.specs.Option.{ForSome}
-use Rattle.nq_image.specs.PlanStanding.{begins_as_image, image_area, stands_as}
+use Rattle.nq_plan.specs.Standing.{begins_as_image, image_area, stands_as}
 use Rattle.nq_io.specs.Faults.{Rose}
 use Rattle.nq_disk.specs.Saying.{Each}
 use Rattle.nq_disk.specs.Whole.{found}

@@ -1,11 +1,11 @@
 -- What a read of an image answers whose record is closed.
 use Rattle.std.specs.Prelude.{◌≡◌, ℕ, true, List, Some, Result, Ok, Err, slice_index}
-use Rattle.nq_image.specs.PlanStanding.{begins_as_image, image_area, stands_as}
+use Rattle.nq_plan.specs.Standing.{begins_as_image, image_area, stands_as}
 use Rattle.nq_image.specs.Heads.{version_of}
 use Rattle.nq_image.specs.declared.ImageFault.{ImageFault}
 use Rattle.nq_image.specs.declared.ImageFault.TheVariants.{NotAnImage, BadField, Memory}
 use Rattle.nq_image.specs.declared.Version.{Version}
-use Rattle.nq_image.specs.Held.{HeldTables, IsHeldOf}
+use Rattle.nq_plan.specs.Held.{HeldTables, IsHeldOf}
 use Rattle.nq_disk.specs.Whole.{IsClosed}
 
 -- bytes that begin as an image whose record is closed

@@ -7,10 +7,10 @@ use Rattle.nq_image.specs.Standing.{Agree, IsFree, Standing, Stands, kept_at, ro
 use Rattle.nq_keeper.specs.declared.KeepFault.{KeepFault}
 use Rattle.nq_keeper.specs.declared.KeepFault.TheVariants.{Failed, Memory}
 use Rattle.nq_keeper.specs.StoredKeeper.{is_within}
-use Rattle.nq_image.specs.PlanStanding.{image_area, stands_as}
+use Rattle.nq_plan.specs.Standing.{image_area, stands_as}
 use Rattle.nq_model.specs.Change.{IsWithinBounds}
 use Rattle.nq_model.specs.Kept.{Kept}
-use Rattle.nq_image.specs.Held.{HeldTables, IsHeldOf}
+use Rattle.nq_plan.specs.Held.{HeldTables, IsHeldOf}
 use Rattle.nq_disk.specs.Saying.{Each, Only}
 use Rattle.nq_disk.specs.Ranges.{Range}
 use Rattle.nq_disk.specs.Whole.{IsClosed, OpensAfter, OpensAs}

@@ -11,5 +11,5 @@ mod store;
 mod writing;
 
 pub use fault::OpenFault;
-pub use nq_image::plan::format::format;
+pub use nq_plan::format::format;
 pub use store::Store;

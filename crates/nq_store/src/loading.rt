@@ -8,8 +8,8 @@ ghost use Rattle.nq_store.specs.Opening.{CountsFault};
 
 use crate::fault::Fault;
 use nq_disk::Disk;
-use nq_image::plan::Tables;
 use nq_image::{Front, block_place, piece, read_front};
+use nq_plan::Tables;
 use std::alloc::Global;
 
 /// How long the rows are.

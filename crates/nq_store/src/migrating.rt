@@ -4,7 +4,7 @@ ghost use Rattle.std.specs.Prelude.{◌≡◌, ◌≤◌, ◌<◌, ◌+◌, ◌�
 ghost use Rattle.std.specs.Option.{ForSome};
 ghost use Rattle.nq_store.specs.Migrated.{blocks_in as blocks_at_all, files_in as files_at, numbers_then};
 ghost use Rattle.nq_store.specs.Prepared.{SameBelow, change_of, prepared, tabled};
-ghost use Rattle.nq_image.specs.PlanStanding.{image_area};
+ghost use Rattle.nq_plan.specs.Standing.{image_area};
 ghost use Rattle.nq_image.specs.Image.{FoundOne};
 ghost use Rattle.nq_image.specs.Kept.{numbers_from as numbers_at};
 ghost use Rattle.nq_image.specs.Layout.{block_place as place_of_block};

@@ -3,7 +3,7 @@
 ghost use Rattle.std.specs.Prelude.{◌≡◌, ◌≤◌, true, IfOk, OnOk, length, slice_index};
 ghost use Rattle.std.specs.Option.{ForSome};
 ghost use Rattle.nq_disk.specs.Calling.{IsAllThatIsLeft};
-ghost use Rattle.nq_image.specs.PlanStanding.{begins_as_image, image_area};
+ghost use Rattle.nq_plan.specs.Standing.{begins_as_image, image_area};
 ghost use Rattle.nq_image.specs.Heads.{version_of as version_at};
 ghost use Rattle.nq_image.specs.Layout.{piece};
 ghost use Rattle.nq_disk.specs.Saying.{Only};
@@ -16,8 +16,8 @@ use crate::loading::{ROWS_SIZE, load, read_piece};
 use crate::migrating::migrate;
 use nq_disk::Disk;
 use nq_disk::redo::{Area, Redo, RedoOpen};
-use nq_image::plan::Tables;
 use nq_image::{Version, version_of};
+use nq_plan::Tables;
 use std::alloc::Global;
 
 /// The record of a change, and the end of the largest image.

@@ -9,9 +9,9 @@ ghost use Rattle.nq_model.specs.Kept.{find_file, find_name, fresh_row, host_row}
 ghost use Rattle.nq_model.specs.Profile.{most_hosts};
 ghost use Rattle.nq_image.specs.Kept.{body_in};
 ghost use Rattle.nq_image.specs.Layout.{block_place as place_of_block};
-ghost use Rattle.nq_image.specs.Finding.{row_behind, row_named, row_of};
-ghost use Rattle.nq_image.specs.Placing.{IsPlacedFor};
-ghost use Rattle.nq_image.specs.Ranges.{ranges_of};
+ghost use Rattle.nq_plan.specs.Finding.{row_behind, row_named, row_of};
+ghost use Rattle.nq_plan.specs.Placing.{IsPlacedFor};
+ghost use Rattle.nq_plan.specs.Ranges.{ranges_of};
 ghost use Rattle.nq_store.specs.Laws.{goes-further, goes-itself, goes-rising, leaves-parts, may-leave, told-is-within};
 ghost use Rattle.nq_store.specs.Opening.{AnswersOpen, FollowsOpen, LeavesLike, SaysWrong, StaysRefused, disk_of};
 ghost use Rattle.nq_store.specs.Storing.{GoesOn, IsFresh, IsKept, IsSound, LeavesKept, StaysForMemory, after_asking, answered, content_of, faults_of, kept_told, space_in};
@@ -22,9 +22,9 @@ use crate::writing::{carry_out, fresh_blocks, read_body};
 use nq_base::{Block, BlockNo, Change, FileId, FileRow, Heads, Host, HostRow, Name, Space};
 use nq_disk::redo::Redo;
 use nq_disk::{Disk, DiskFault};
-use nq_image::plan::{Plan, Tables};
 use nq_keeper::{KeepFault, Keeper};
 use nq_memory::NoMemory;
+use nq_plan::{Plan, Tables};
 use std::alloc::Global;
 use std::marker::Model;
 
@@ -46,7 +46,7 @@ pub struct Store<D: Disk> {
 
 impl<D: Disk> Model for Store<D> {
     ghost use Rattle.std.specs.Prelude.{◌≡◌};
-    ghost use Rattle.nq_image.specs.PlanStanding.{image_area};
+    ghost use Rattle.nq_plan.specs.Standing.{image_area};
     ghost use Rattle.nq_store.specs.Storing.{IsSound, StoredStore};
 
     ghost Value = { StoredStore D };

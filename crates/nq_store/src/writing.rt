@@ -4,7 +4,7 @@ ghost use Rattle.std.specs.Prelude.{◌≡◌, ◌≤◌, ◌+◌, List, IfOk, O
 ghost use Rattle.std.specs.Option.{ForSome};
 ghost use Rattle.nq_base.specs.Block.{zeros as block_of_zeros};
 ghost use Rattle.nq_disk.specs.Calling.{Counts};
-ghost use Rattle.nq_image.specs.PlanStanding.{image_area};
+ghost use Rattle.nq_plan.specs.Standing.{image_area};
 ghost use Rattle.nq_image.specs.Kept.{body_in};
 ghost use Rattle.nq_image.specs.Layout.{block_place as place_of_block};
 ghost use Rattle.nq_image.specs.Standing.{Standing};
@@ -19,8 +19,8 @@ use nq_base::Block;
 use nq_disk::redo::{Batch, Redo};
 use nq_disk::{Disk, DiskFault};
 use nq_image::block_place;
-use nq_image::plan::Placed;
 use nq_keeper::KeepFault;
+use nq_plan::Placed;
 use std::alloc::Global;
 
 /// Reads the body of a physical block. What the disk does not hold of it is zeros.

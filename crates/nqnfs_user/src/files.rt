@@ -5,7 +5,7 @@ ghost use Rattle.std.specs.Prelude.{◌<◌};
 use crate::desk::UserDesk;
 use nq_base::ending::Halt;
 use nq_base::{Answer, Block, BlockNo, Call, FileId, Name, NoMemory, Value};
-use nq_script::command::prompt::{
+use nq_command::prompt::{
     MOST_BYTES, blocks_for, cut_to, first_block, length_in, piece, push_body,
 };
 use std::alloc::Global;

@@ -5,7 +5,7 @@ use crate::files::{FileFault, get_file, put_file};
 use crate::starts::write_synced;
 use nq_base::ending::Halt;
 use nq_base::{Answer, Call, FileId, Name};
-use nq_script::command::prompt::{Line, MOST_BYTES, answer_text, line_of};
+use nq_command::prompt::{Line, MOST_BYTES, answer_text, line_of};
 use std::fs::{self, File};
 use std::io::{BufRead, BufReader, ErrorKind};
 use std::str;

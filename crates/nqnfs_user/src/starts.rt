@@ -1,7 +1,7 @@
 //! The number of a host's start, its incarnation, which rises with each: a small file keeps the last one.
 
 use nq_base::{Host, Inc};
-use nq_script::command::prompt::{FIRST_START, next_start, start_text};
+use nq_command::prompt::{FIRST_START, next_start, start_text};
 use std::fs::{self, File};
 use std::io::{self, ErrorKind, Write};
 

@@ -1,8 +1,8 @@
 //! The parts of a scene.
 
 ghost use Rattle.std.specs.Prelude.{◌≡◌, ◌+◌, ℕ, Some, IfOk, vec_len};
-ghost use Rattle.nq_script.specs.Commands.{command_of};
-ghost use Rattle.nq_script.specs.declared.command.commands.Command.{Command};
+ghost use Rattle.nq_command.specs.Commands.{command_of};
+ghost use Rattle.nq_command.specs.declared.commands.Command.{Command};
 
 use nq_base::{Host, Party, Ticks};
 use nq_clock::MemClock;

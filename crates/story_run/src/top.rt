@@ -1,8 +1,8 @@
 //! The top call, over anything.
 
 ghost use Rattle.std.specs.Prelude.{◌≡◌, ◌+◌, ℕ, List, Some, true, length};
-ghost use Rattle.nq_script.specs.Commands.{command_of};
-ghost use Rattle.nq_script.specs.declared.command.commands.Command.{Command};
+ghost use Rattle.nq_command.specs.Commands.{command_of};
+ghost use Rattle.nq_command.specs.declared.commands.Command.{Command};
 ghost use Rattle.nq_run.specs.Frames.{makes_a_run};
 
 use nq_clock::Clock;

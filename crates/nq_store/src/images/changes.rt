@@ -2,10 +2,10 @@
 
 ghost use Rattle.std.specs.Prelude.{ℕ, List, Option, length};
 ghost use Rattle.nq_base.specs.declared.Change.{Change};
-ghost use Rattle.nq_image.specs.PlanStanding.{image_area};
-ghost use Rattle.nq_image.specs.Held.{HeldTables};
-ghost use Rattle.nq_image.specs.Ranges.{ranges_of};
-ghost use Rattle.nq_image.specs.declared.plan.placing.Placed.{Placed};
+ghost use Rattle.nq_plan.specs.Standing.{image_area};
+ghost use Rattle.nq_plan.specs.Held.{HeldTables};
+ghost use Rattle.nq_plan.specs.Ranges.{ranges_of};
+ghost use Rattle.nq_plan.specs.declared.placing.Placed.{Placed};
 ghost use Rattle.nq_disk.specs.Batch.{IsFit};
 ghost use Rattle.nq_disk.specs.Ranges.{applied};
 ghost use Rattle.nq_store.specs.Changing.{CanBeWritten, IsWritten};

@@ -5,9 +5,9 @@ ghost use Rattle.nq_base.specs.declared.FileRow.{FileRow};
 ghost use Rattle.nq_disk.specs.Bytes.{Torn, written};
 ghost use Rattle.nq_image.specs.Layout.{block_place};
 ghost use Rattle.nq_image.specs.Standing.{Agree, IsFree, Standing, Stands};
-ghost use Rattle.nq_image.specs.Held.{HeldTables, IsHeldOf};
-ghost use Rattle.nq_image.specs.Placing.{IsPlacedFor};
-ghost use Rattle.nq_image.specs.declared.plan.placing.Placed.{Placed};
+ghost use Rattle.nq_plan.specs.Held.{HeldTables, IsHeldOf};
+ghost use Rattle.nq_plan.specs.Placing.{IsPlacedFor};
+ghost use Rattle.nq_plan.specs.declared.placing.Placed.{Placed};
 ghost use Rattle.nq_store.specs.Changing.{HasZeros, new_blocks, zeroed};
 
 /// The blocks that a file gets are free.

@@ -1,7 +1,7 @@
 //! An image of version 1 is what its first bytes say, where the disk holds its blocks.
 
 ghost use Rattle.std.specs.Prelude.{◌≡◌, ℕ, List, Err, Ok, Some, true, length, slice_index};
-ghost use Rattle.nq_image.specs.PlanStanding.{begins_as_image, image_area, stands_as};
+ghost use Rattle.nq_plan.specs.Standing.{begins_as_image, image_area, stands_as};
 ghost use Rattle.nq_image.specs.Image.{FoundOne, image_one};
 ghost use Rattle.nq_image.specs.Layout.{piece};
 ghost use Rattle.nq_image.specs.Whole.{image_in, of_one};

@@ -1,7 +1,7 @@
 //! What is read of an image whose record is closed.
 
 ghost use Rattle.std.specs.Prelude.{◌≡◌, ℕ, List, Some, None, Result, Ok, Err, slice_index};
-ghost use Rattle.nq_image.specs.PlanStanding.{stands_as};
+ghost use Rattle.nq_plan.specs.Standing.{stands_as};
 ghost use Rattle.nq_image.specs.Check.{tested};
 ghost use Rattle.nq_image.specs.Heads.{front_checks, front_of, version_of};
 ghost use Rattle.nq_image.specs.Image.{FoundTwo, image_two, no_marks};
@@ -9,8 +9,8 @@ ghost use Rattle.nq_image.specs.Layout.{piece};
 ghost use Rattle.nq_image.specs.Whole.{image_in, of_two};
 ghost use Rattle.nq_image.specs.declared.Front.{Front};
 ghost use Rattle.nq_image.specs.declared.ImageFault.{ImageFault};
-ghost use Rattle.nq_image.specs.Held.{HeldTables, IsHeldOf};
-ghost use Rattle.nq_image.specs.PlanReading.{ArePartsOf, HoldsIn, held_in};
+ghost use Rattle.nq_plan.specs.Held.{HeldTables, IsHeldOf};
+ghost use Rattle.nq_plan.specs.Reading.{ArePartsOf, HoldsIn, held_in};
 ghost use Rattle.nq_store.specs.Reading.{IsClosedImage, IsClosedTwo, ReadsImage};
 
 /// What is read in an image is held of it: it stands there, and the marks are those of the blocks that files have.

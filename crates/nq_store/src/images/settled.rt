@@ -2,12 +2,12 @@
 
 ghost use Rattle.std.specs.Prelude.{◌≡◌, ◌≤◌, ℕ, List, Option, Some, Ok, length};
 ghost use Rattle.nq_base.specs.declared.Change.{Change};
-ghost use Rattle.nq_image.specs.PlanStanding.{image_area, stands_as};
+ghost use Rattle.nq_plan.specs.Standing.{image_area, stands_as};
 ghost use Rattle.nq_image.specs.Standing.{Standing, Stands, kept_at};
 ghost use Rattle.nq_model.specs.Change.{applied};
-ghost use Rattle.nq_image.specs.Held.{HeldTables};
-ghost use Rattle.nq_image.specs.Ranges.{ranges_of};
-ghost use Rattle.nq_image.specs.declared.plan.placing.Placed.{Placed};
+ghost use Rattle.nq_plan.specs.Held.{HeldTables};
+ghost use Rattle.nq_plan.specs.Ranges.{ranges_of};
+ghost use Rattle.nq_plan.specs.declared.placing.Placed.{Placed};
 ghost use Rattle.nq_disk.specs.Whole.{IsClosed, after, found};
 ghost use Rattle.nq_store.specs.Changing.{CanBeWritten, IsWritten};
 

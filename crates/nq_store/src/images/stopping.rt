@@ -1,7 +1,7 @@
 //! What a stop leaves of a migration, and what is there behind it.
 
 ghost use Rattle.std.specs.Prelude.{◌≡◌, ◌≤◌, ℕ, List, Ok, Some, true, length, slice_index};
-ghost use Rattle.nq_image.specs.PlanStanding.{begins_as_image, image_area, stands_as};
+ghost use Rattle.nq_plan.specs.Standing.{begins_as_image, image_area, stands_as};
 ghost use Rattle.nq_image.specs.Image.{FoundOne};
 ghost use Rattle.nq_image.specs.Layout.{block_place};
 ghost use Rattle.nq_image.specs.Whole.{image_in, of_one};

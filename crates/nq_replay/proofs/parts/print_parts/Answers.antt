@@ -1,5 +1,5 @@
 use Rattle.std.proofs.Common.{◌∙◌}
-use Rattle.nq_script.specs.JournalText.{journal_text}
+use Rattle.nq_journal.specs.Text.{journal_text}
 use Rattle.nq_replay.proofs.Joining.{last_cut, rose_at_last, second_cut}
 use Rattle.nq_replay.proofs.parts.print_parts.Goals as goal
 

@@ -1,4 +1,4 @@
-use Rattle.nq_script.specs.Commands.{command_of}
+use Rattle.nq_command.specs.Commands.{command_of}
 use Rattle.nq_run.proofs.Commands.{left_so, says_check, says_format, says_names, says_replay, says_staged}
 use Rattle.nq_run.specs.Frames.{reads_clock, reads_input, uses_disk, uses_fates, uses_link, uses_links}
 use Rattle.nq_run.proofs.top.run.Goals as goal

@@ -1,5 +1,5 @@
 use Rattle.std.proofs.Common.{rules, ◌≡◌, Result, Ok, Err, sym, subst, inr}
-use Rattle.nq_image.specs.Held.{HeldTables}
+use Rattle.nq_plan.specs.Held.{HeldTables}
 use Rattle.nq_store.specs.Loading.{OpensTables}
 use Rattle.nq_store.specs.declared.fault.Fault.{Fault}
 use Rattle.nq_store.specs.declared.fault.Fault.TheVariants.{BadField}

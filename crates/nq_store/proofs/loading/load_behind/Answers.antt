@@ -1,6 +1,6 @@
 use Rattle.std.proofs.Common.{rules, ◌≡◌, ℕ, Result, Ok, Err, sym, ap, subst, ◌∙◌}
 use Rattle.nq_image.specs.Layout.{piece}
-use Rattle.nq_image.specs.Held.{HeldTables}
+use Rattle.nq_plan.specs.Held.{HeldTables}
 use Rattle.nq_store.specs.Loading.{Loads}
 use Rattle.nq_store.specs.Telling.{fault_of}
 use Rattle.nq_store.specs.declared.fault.Fault.{Fault}

@@ -1,5 +1,5 @@
 use Rattle.std.proofs.Common.{◌⊎◌, ℕ, List, length, refl, subst, ◌∙◌, inl, inr, arith}
-use Rattle.nq_image.specs.PlanStanding.{image_area}
+use Rattle.nq_plan.specs.Standing.{image_area}
 use Rattle.nq_disk.specs.Batch.{IsFit}
 use Rattle.nq_disk.specs.Saying.{Each}
 use Rattle.nq_disk.specs.Whole.{IsClosed, OpensAfter, OpensAsOne, Settled, after}

@@ -1,5 +1,5 @@
 use Rattle.std.proofs.Common.{◌≡◌, ◌≤◌, ◌⊎◌, List, Option, length, sym, ap, subst, inr}
-use Rattle.nq_image.specs.PlanStanding.{image_area}
+use Rattle.nq_plan.specs.Standing.{image_area}
 use Rattle.nq_image.specs.Layout.{block_place}
 use Rattle.nq_image.specs.declared.Slot.{Slot}
 use Rattle.nq_disk.specs.Batch.{IsFit}

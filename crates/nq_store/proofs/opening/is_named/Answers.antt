@@ -1,5 +1,5 @@
 use Rattle.std.proofs.Common.{rules, ◌≡◌, Bool, Result, Err, sym, subst, ◌∙◌, inr}
-use Rattle.nq_image.specs.PlanStanding.{begins_as_image}
+use Rattle.nq_plan.specs.Standing.{begins_as_image}
 use Rattle.nq_store.specs.Loading.{Gives}
 use Rattle.nq_store.specs.declared.fault.Fault.{Fault}
 use Rattle.nq_store.proofs.Left.{only-still}

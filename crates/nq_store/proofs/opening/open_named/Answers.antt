@@ -1,5 +1,5 @@
 use Rattle.std.proofs.Common.{◌≡◌, true, Err, ap, ◌∙◌, arith}
-use Rattle.nq_image.specs.PlanStanding.{begins_as_image}
+use Rattle.nq_plan.specs.Standing.{begins_as_image}
 use Rattle.nq_disk.specs.Opens.{disk_in}
 use Rattle.nq_store.proofs.Left.{left-named, left-same}
 use Rattle.nq_store.proofs.Staying.{stays-named}

@@ -1,5 +1,5 @@
 use Rattle.std.proofs.Common.{rules, ◌≡◌, true, false, refl, sym, subst, ◌∙◌, inl, inr, ⊎_elim}
-use Rattle.nq_image.specs.PlanStanding.{begins_as_image}
+use Rattle.nq_plan.specs.Standing.{begins_as_image}
 use Rattle.nq_disk.specs.declared.redo.redo.Redo.{Redo}
 use Rattle.nq_store.specs.Opening.{disk_of}
 use Rattle.nq_store.proofs.Left.{back-given, follows-of}

@@ -1,7 +1,7 @@
 use Rattle.std.proofs.Common.{◌≡◌, ◌&&◌, not, is_some, ap, arith}
-use Rattle.nq_client_parts.specs.Cached.{Cached}
+use Rattle.nq_cache.specs.Cached.{Cached}
 use Rattle.nq_client.proofs.Grants.{read_taken}
-use Rattle.nq_client_parts.specs.Granting.{clean_after_reply}
+use Rattle.nq_cache.specs.Granting.{clean_after_reply}
 use Rattle.nq_client.specs.Granting.{with_clean}
 use Rattle.nq_client.specs.Step.{step_of}
 use Rattle.nq_model.specs.Client.{is_clean, lease_on}

@@ -1,9 +1,9 @@
 use Rattle.std.proofs.Common.{true, refl, sym, ap, subst, ◌∙◌, inl, inr}
 use Rattle.std.specs.Option.{ForSome}
 use Rattle.nq_model.specs.Change.{Fits, IsChangeWithin}
-use Rattle.nq_image.specs.Held.{HeldTables}
-use Rattle.nq_image.specs.Placing.{IsPlacedFor}
-use Rattle.nq_image.specs.Ranges.{ranges_of}
+use Rattle.nq_plan.specs.Held.{HeldTables}
+use Rattle.nq_plan.specs.Placing.{IsPlacedFor}
+use Rattle.nq_plan.specs.Ranges.{ranges_of}
 use Rattle.nq_store.specs.Storing.{IsKeptOn}
 use Rattle.nq_store.proofs.Carrying.{asked-in, commits-failed, commits-ok, follows-so, goes-in, leaves-so, stored, tables-in}
 use Rattle.nq_store.proofs.Committing.{leaves-then, settles-as, sound-then, told-then, whole-as}

@@ -1,7 +1,7 @@
 use Rattle.std.proofs.Common.{◌≡◌, true, sym, ap, ◌∙◌}
 use Rattle.std.specs.List.{slice_get}
-use Rattle.nq_image.specs.Finding.{blocks_of}
-use Rattle.nq_image.specs.Held.{HeldTables}
+use Rattle.nq_plan.specs.Finding.{blocks_of}
+use Rattle.nq_plan.specs.Held.{HeldTables}
 use Rattle.nq_store.proofs.Bodies.{block-there, block-told, ended-told}
 use Rattle.nq_store.proofs.store.StoreKeeper.block.Goals as goal
 

@@ -1,9 +1,9 @@
 use Rattle.std.proofs.Common.{ap, ◌∙◌}
 use Rattle.nq_model.specs.Change.{row_of_found}
 use Rattle.nq_model.specs.Kept.{find_file}
-use Rattle.nq_image.specs.Finding.{row_of}
+use Rattle.nq_plan.specs.Finding.{row_of}
 use Rattle.nq_store.proofs.Rows.{row-is}
-use Rattle.nq_image.specs.Held.{HeldTables}
+use Rattle.nq_plan.specs.Held.{HeldTables}
 use Rattle.nq_store.proofs.Keeping.{apart-in, told-answer}
 use Rattle.nq_store.proofs.store.StoreKeeper.file.Goals as goal
 

@@ -1,8 +1,8 @@
 use Rattle.std.proofs.Common.{ap, ◌∙◌}
 use Rattle.nq_model.specs.Change.{file_after, row_of_found}
-use Rattle.nq_image.specs.Finding.{row_behind}
+use Rattle.nq_plan.specs.Finding.{row_behind}
 use Rattle.nq_store.proofs.Rows.{behind-is}
-use Rattle.nq_image.specs.Held.{HeldTables}
+use Rattle.nq_plan.specs.Held.{HeldTables}
 use Rattle.nq_store.proofs.Keeping.{apart-in, told-answer}
 use Rattle.nq_store.proofs.store.StoreKeeper.next_file.Goals as goal
 

@@ -4,7 +4,7 @@ use Rattle.nq_image.specs.Standing.{row_blocks}
 use Rattle.std.specs.Prelude.{count_by, is_some, length, sum_by}
 use Rattle.nq_store.specs.Storing.{answered}
 use Rattle.nq_store.proofs.Rows.{space-in, space-is}
-use Rattle.nq_image.specs.Held.{HeldTables}
+use Rattle.nq_plan.specs.Held.{HeldTables}
 use Rattle.nq_store.proofs.Keeping.{told-answer}
 use Rattle.nq_store.proofs.store.StoreKeeper.space.Goals as goal
 

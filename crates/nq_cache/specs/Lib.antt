@@ -1,0 +1,4 @@
+pub mod Cached
+pub mod Entries
+pub mod Granting
+pub mod Revisions

@@ -1,0 +1,76 @@
+//! What a line at a prompt says.
+
+ghost use Rattle.std.specs.Prelude.{◌≡◌, IfSome, IsNone};
+ghost use Rattle.nq_command.specs.Lines.{NamesNoFile, Says};
+
+use nq_base::{Call, Name};
+use nq_script::parse_call;
+use nq_script::words::{Words, is};
+use std::alloc::Global;
+
+/// What a line at a prompt says.
+#[derive(Drop)]
+pub enum Line<'a> {
+    /// Nothing stands in it.
+    Empty,
+    /// Say what there is to say.
+    Help,
+    /// End.
+    Quit,
+    /// Make this call.
+    Call(Call),
+    /// Put the file of the machine at this path under this name.
+    Put { path: &'a [u8], name: Name },
+    /// Get the file of this name, as a new file of the machine at this path.
+    Get { name: Name, path: &'a [u8] },
+    /// It says nothing that can be done.
+    Unknown,
+}
+
+/// What this line says, which has no end of line: the words of a call of version 2, `put PATH NAME`, `get NAME PATH`, `help`, `quit`, or
+/// nothing. One blank stands between two words.
+pub fn line_of(alloc: Global, text: &[u8]) -> Line<'_>
+    ensures { Says result text.now }
+{
+    if text.is_empty() {
+        Line::Empty
+    } else if is(text, b"help") {
+        Line::Help
+    } else if is(text, b"quit") {
+        Line::Quit
+    } else {
+        match parse_call(alloc, text, 2) {
+            Ok(call) => Line::Call(call),
+            Err(_) => match file_line(text) {
+                Some(line) => line,
+                None => Line::Unknown,
+            },
+        }
+    }
+}
+
+/// What a line says that names a file of the machine.
+fn file_line(text: &[u8]) -> Option<Line<'_>>
+    ensures says { IfSome result (λ line. Says line text.now) }
+    ensures none { IsNone result → NamesNoFile text.now }
+{
+    let mut words = Words::new(text);
+    let verb = words.next()?;
+    let first = words.next()?;
+    let second = words.next()?;
+    if !words.is_empty() {
+        None
+    } else if is(verb, b"put") {
+        Some(Line::Put {
+            path: first,
+            name: Name::new(second)?,
+        })
+    } else if is(verb, b"get") {
+        Some(Line::Get {
+            name: Name::new(first)?,
+            path: second,
+        })
+    } else {
+        None
+    }
+}

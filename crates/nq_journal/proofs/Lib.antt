@@ -1,0 +1,8 @@
+mod Again
+mod Clean
+mod Faulty
+mod Pieces
+mod Rests
+mod Tails
+mod TextLines
+mod Whole

@@ -1,0 +1,4 @@
+use Rattle.nq_journal.proofs.read_entries.take_entry.Goals as goal
+
+pub returns-in-A-clause-found : goal.returns-in-A-clause-found
+returns-in-A-clause-found c = rw c.in-A.is (c.take_a.ensures.found c.args.version)
