@@ -1,4 +1,4 @@
-//! The top call, over anything.
+//! The top call with its four fates, over the machine or over what is in memory.
 
 ghost use Rattle.std.specs.Prelude.{◌≡◌, ◌+◌, ℕ, List, Some, true, length};
 ghost use Rattle.nq_command.specs.Commands.{command_of};
@@ -12,7 +12,7 @@ use nq_link::Link;
 use nq_run::{CutFate, Ended, Fate, HostileFate, LossyFate, NoMemory, SteadyFate, Words, run};
 use std::alloc::Global;
 
-/// Runs what the words say. What `run` promises stays within: a story knows none of it, and so proves nothing of it either.
+/// Runs what the words say, with the four fates. What `run` promises is said there; no line here needs it.
 pub(crate) fn ran<S: Source, K: Sink, D: Disk + Drop, L: Link, C: Clock>(
     alloc: Global,
     words: &Words,

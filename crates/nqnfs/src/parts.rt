@@ -1,4 +1,4 @@
-//! The parts of a scene.
+//! The parts of a scene: a disk, a clock and links in memory.
 
 ghost use Rattle.std.specs.Prelude.{◌≡◌, ◌+◌, ℕ, Some, IfOk, vec_len};
 ghost use Rattle.nq_command.specs.Commands.{command_of};
@@ -11,8 +11,8 @@ use nq_link::MemLink;
 use nq_run::{Command, NoMemory, Words};
 use std::alloc::Global;
 
-/// How much a disk takes: the bytes of the largest image, and as many calls and written bytes as can be counted.
-const ROOM: Room = Room {
+/// The room of a disk in memory: the bytes of the largest image, and as many calls and written bytes as can be counted.
+pub(crate) const ROOM: Room = Room {
     size: 68_202_496,
     calls: u32::MAX,
     written: u64::MAX,
