@@ -1,3 +1,4 @@
 pub mod Clock
+pub mod Clocks
 pub mod Counts
 pub mod Tracks

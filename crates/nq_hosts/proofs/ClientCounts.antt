@@ -5,8 +5,8 @@ use Rattle.nq_base.specs.Entries.{EntryList}
 use Rattle.nq_client.specs.Counted.{Counted}
 use Rattle.nq_link.specs.Link.{Letters}
 use Rattle.nq_hosts.specs.ClientTurn.{AttendsTurn, CountsLink, GoesOn, Moment, Receives, Sends, SendsOut, Stages, Takes, TurnLink, first_of, tick_due, turn_of}
-use Rattle.nq_hosts.specs.Clocks.{ClockTold}
-use Rattle.nq_hosts.specs.Links.{LinkTold}
+use Rattle.nq_clock.specs.Clocks.{ClockTold}
+use Rattle.nq_link.specs.Links.{LinkTold}
 use Rattle.nq_hosts.specs.declared.node.turns.ClientTurn.{ClientTurn}
 use Rattle.nq_hosts.specs.declared.node.turns.Stop.{Stop}
 use Rattle.nq_hosts.proofs.ClientTurns.{not_link}

@@ -3,8 +3,8 @@ use Rattle.std.proofs.Common.{◌≡◌, ℕ, List, Option, Some, None, Result, 
 use Rattle.nq_base.specs.declared.Answer.{Answer}
 use Rattle.nq_client.specs.declared.Heard.{Heard}
 use Rattle.nq_hosts.specs.ClientTurn.{Given, GoesOn, Moment, Receives, Stages, Takes, TakesFrom, given_by, goes_on, tick_due}
-use Rattle.nq_hosts.specs.Clocks.{ClockTold, ReadsOnce}
-use Rattle.nq_hosts.specs.Links.{Hears, Letter, LinkTold, ReceivesOnce, most_bytes}
+use Rattle.nq_clock.specs.Clocks.{ClockTold, ReadsOnce}
+use Rattle.nq_link.specs.Links.{Hears, Letter, LinkTold, ReceivesOnce, most_bytes}
 use Rattle.nq_hosts.specs.declared.node.turns.Stop.{Stop}
 
 no_link : (how : Heard) → goes_on how ≡ Err Stop.Link → ⊥

@@ -17,8 +17,8 @@ use Rattle.nq_base.specs.declared.ending.halt.Halt.{Halt}
 use Rattle.nq_io.specs.Faults.{Rose}
 use Rattle.nq_link.specs.Link.{Letters}
 use Rattle.nq_hosts.specs.ClientTurn.{TurnLink}
-use Rattle.nq_hosts.specs.Clocks.{ClockTold}
-use Rattle.nq_hosts.specs.Links.{LinkTold}
+use Rattle.nq_clock.specs.Clocks.{ClockTold}
+use Rattle.nq_link.specs.Links.{LinkTold}
 use Rattle.nq_hosts.specs.declared.node.turns.ClientTurn.{ClientTurn}
 use Rattle.nq_hosts.proofs.ClientCounts.{turn_link}
 use Rattle.nq_script.specs.Text.{text_of}

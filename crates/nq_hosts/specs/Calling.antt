@@ -10,7 +10,7 @@ use Rattle.nq_link.specs.Link.{Letters}
 use Rattle.nq_link.specs.declared.Sent.{Sent}
 use Rattle.nq_model.specs.ClientStep.{client_call}
 use Rattle.nq_model.specs.Profile.{most_taken_by_client}
-use Rattle.nq_hosts.specs.Links.{LinkTold, Posts}
+use Rattle.nq_link.specs.Links.{LinkTold, Posts}
 use Rattle.nq_hosts.specs.UserTurning.{Between, TakesTurns, reached}
 use Rattle.nq_hosts.specs.declared.user.aims.Aim.{Aim}
 use Rattle.nq_wire.specs.Outbox.{Datagrams}

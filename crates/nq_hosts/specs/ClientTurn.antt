@@ -12,8 +12,8 @@ use Rattle.nq_link.specs.Link.{Letters}
 use Rattle.nq_link.specs.declared.Sent.{Sent}
 use Rattle.nq_model.specs.ClientStep.{client_tick}
 use Rattle.nq_model.specs.Profile.{most_taken_by_client}
-use Rattle.nq_hosts.specs.Clocks.{ClockTold, ReadsOnce}
-use Rattle.nq_hosts.specs.Links.{Hears, Letter, LinkTold, Posts, ReceivesOnce, most_bytes}
+use Rattle.nq_clock.specs.Clocks.{ClockTold, ReadsOnce}
+use Rattle.nq_link.specs.Links.{Hears, Letter, LinkTold, Posts, ReceivesOnce, most_bytes}
 use Rattle.nq_hosts.specs.declared.node.turns.ClientTurn.{ClientTurn}
 use Rattle.nq_hosts.specs.declared.node.turns.Stop.{Stop}
 use Rattle.nq_wire.specs.Outbox.{Datagrams}

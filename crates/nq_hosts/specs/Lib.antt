@@ -1,17 +1,8 @@
 pub mod Answers
 pub mod Calling
 pub mod ClientTurn
-pub mod Clocks
-pub mod DaemonLeaving
-pub mod DaemonServing
-pub mod Leaving
 pub mod Lines
-pub mod Links
 pub mod Running
-pub mod ServerLeaving
-pub mod ServerTurn
-pub mod Serving
 pub mod Telling
-pub mod Turning
 pub mod UserTurning
 pub mod Using

@@ -6,8 +6,8 @@ use Rattle.nq_base.specs.declared.ending.halt.Halt.{Halt}
 use Rattle.nq_base.specs.Entries.{EntryList}
 use Rattle.nq_model.specs.Client.{Client}
 use Rattle.nq_hosts.specs.ClientTurn.{AttendsTurn}
-use Rattle.nq_hosts.specs.Clocks.{ClockTold}
-use Rattle.nq_hosts.specs.Links.{LinkTold}
+use Rattle.nq_clock.specs.Clocks.{ClockTold}
+use Rattle.nq_link.specs.Links.{LinkTold}
 use Rattle.nq_hosts.specs.declared.node.turns.ClientTurn.{ClientTurn}
 use Rattle.nq_hosts.specs.declared.user.aims.Aim.{Aim}
 use Rattle.nq_hosts.specs.declared.user.session.Session.{Session}

@@ -10,8 +10,8 @@ use Rattle.nq_io.specs.Faults.{Rose}
 use Rattle.nq_io.specs.Whole.{CountsWhole, ReadsWhole}
 use Rattle.nq_io.specs.declared.Whole.{Whole}
 use Rattle.nq_base.specs.Entries.{EntryList}
-use Rattle.nq_hosts.specs.Clocks.{ClockTold}
-use Rattle.nq_hosts.specs.Links.{LinkTold}
+use Rattle.nq_clock.specs.Clocks.{ClockTold}
+use Rattle.nq_link.specs.Links.{LinkTold}
 use Rattle.nq_hosts.specs.Running.{Runs}
 
 -- the calls of a text were run with a journal that was empty at first, and what came of them was told

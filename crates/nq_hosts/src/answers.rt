@@ -5,5 +5,4 @@ mod lines;
 mod telling;
 
 pub use ending::Stop;
-pub(crate) use telling::numbered;
 pub use telling::{tell_bytes, tell_end, tell_script};

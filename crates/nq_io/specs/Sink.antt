@@ -1,5 +1,5 @@
 -- What a put does. Below, `held` is what the sink held before it and `now` is what it holds after it, where the sink tells them.
-use Rattle.std.specs.Prelude.{◌≡◌, ℕ, ◌≤◌, List, length, take, Option}
+use Rattle.std.specs.Prelude.{◌≡◌, ◌⊎◌, ℕ, ◌≤◌, List, length, take, Option}
 use Rattle.nq_io.specs.declared.sink.Put.{Put}
 use Rattle.nq_io.specs.declared.sink.Put.TheVariants.{All, Failed}
 use Rattle.nq_io.specs.Faults.{Rose, count_up}
@@ -25,3 +25,7 @@ CountsPut Failed before now = Rose before now
 abbrev pub faults_after : Put → ℕ → ℕ
 faults_after All before = before
 faults_after Failed before = count_up before
+
+-- a line was printed; where the sink failed, which it has counted, only a front of it was
+abbrev pub PrintsLine : (line : List ℕ) → (held now : Option (List ℕ)) → (before after : ℕ) → Type 0
+PrintsLine line held now before after = ((now ≡ with_end held line) × (after ≡ before)) ⊎ (AppendsFront line held now × Rose before after)

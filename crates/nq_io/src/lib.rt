@@ -17,6 +17,6 @@ pub use calls::Calls;
 pub use mem_sink::MemSink;
 pub use mem_source::MemSource;
 pub use nq_memory::NoMemory;
-pub use sink::{Put, Sink};
+pub use sink::{Put, Sink, put_line};
 pub use source::{Got, Source};
 pub use whole::{Whole, read_all};

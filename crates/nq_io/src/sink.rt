@@ -1,7 +1,7 @@
 //! A sink of bytes.
 
 ghost use Rattle.std.specs.Prelude.{ℕ, List, Option};
-ghost use Rattle.nq_io.specs.Sink.{Puts, CountsPut};
+ghost use Rattle.nq_io.specs.Sink.{CountsPut, PrintsLine, Puts};
 
 /// What a put answers.
 #[derive(Clone, Copy, Debug, PartialEq, Eq)]
@@ -24,4 +24,13 @@ pub trait Sink {
     fn put(&mut self, bytes: &[u8]) -> Put
         ensures puts { Puts result bytes.now (held self.old) (held self.new) }
         ensures cause { CountsPut result (faults self.old) (faults self.new) };
+}
+
+/// Prints a line. A failing sink may print a front of it.
+pub fn put_line<K: Sink>(out: &mut K, line: &[u8])
+    ensures { PrintsLine line.now (K.held out.old) (K.held out.new) (K.faults out.old) (K.faults out.new) }
+{
+    match out.put(line) {
+        Put::All | Put::Failed => {}
+    }
 }

@@ -1,2 +1,3 @@
+pub mod Letters
 mod Marks
 mod Repeating

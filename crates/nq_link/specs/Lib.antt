@@ -1,4 +1,5 @@
 pub mod Link
+pub mod Links
 pub mod Marks
 pub mod MemLink
 pub mod Packets

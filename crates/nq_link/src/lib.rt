@@ -2,16 +2,18 @@
 //! The packets of a world are in `net`.
 //!
 //! A contract knows a link by the datagrams that were sent over it and those that wait, where the link tells them, and by a
-//! count of its faults. An answer `Failed` comes only where that count rose in the call.
+//! count of its faults. An answer `Failed` comes only where that count rose in the call. `send_all` sends what an outbox holds.
 #![tactic(auto)]
 
 mod link;
 mod mem_link;
 pub mod net;
+mod sending;
 mod socket;
 mod udp_link;
 
 pub use link::{Came, Link, Sent};
 pub use mem_link::MemLink;
 pub use nq_base::{NoMemory, Party};
+pub use sending::{MOST_BYTES, send_all};
 pub use udp_link::UdpLink;

@@ -16,7 +16,7 @@ use Rattle.nq_loop.specs.Looping.{GivesDue, Step, call_behind, call_due, is_busy
 use Rattle.nq_loop.specs.declared.turns.Halt.{Halt}
 use Rattle.nq_model.specs.Client.{Client, UnderWay}
 use Rattle.nq_model.specs.World.{Head, run}
-use Rattle.nq_hosts.proofs.Letters.{there}
+use Rattle.nq_link.proofs.Letters.{there}
 
 -- ---- counting
 

@@ -3,7 +3,7 @@ use Rattle.std.proofs.Common.{◌≡◌, ◌⊎◌, ℕ, List, [], map, Option, 
 use Rattle.std.proofs.lemmas.List.{reverse-reverse}
 use Rattle.std.specs.List.{AllByRecursion}
 use Rattle.std.specs.Prelude.{reverse}
-use Rattle.nq_hosts.specs.Clocks.{ClockTold}
+use Rattle.nq_clock.specs.Clocks.{ClockTold}
 use Rattle.nq_base.specs.declared.Event.{Event}
 use Rattle.nq_base.specs.declared.ending.ending.Ending.{Ending}
 use Rattle.nq_loop.proofs.Playing.{plays-taken}
@@ -17,7 +17,7 @@ use Rattle.nq_loop.specs.Whole.{loop_head}
 use Rattle.nq_loop.specs.declared.turns.LoopTurn.{LoopTurn}
 use Rattle.nq_model.specs.Kept.{Kept}
 use Rattle.nq_model.specs.World.{Head as Beginning}
-use Rattle.nq_hosts.specs.Links.{LinkTold}
+use Rattle.nq_link.specs.Links.{LinkTold}
 use Rattle.nq_replay.proofs.Lawfully.{played-runs-are-lawful}
 use Rattle.nq_replay.specs.Delivering.{Marks}
 use Rattle.nq_replay.specs.Playing.{beginning}

@@ -12,7 +12,7 @@ use Rattle.nq_loop.specs.declared.turns.Halt.{Halt}
 use Rattle.nq_model.specs.Kept.{Kept}
 use Rattle.nq_model.specs.Stepped.{done, stepped}
 use Rattle.nq_model.specs.World.{Head, run}
-use Rattle.nq_hosts.specs.Links.{LinkTold}
+use Rattle.nq_link.specs.Links.{LinkTold}
 use Rattle.nq_replay.proofs.Limits.{is_reached}
 use Rattle.nq_replay.specs.Delivering.{Marks}
 use Rattle.nq_world.proofs.Refused.{still-plays}

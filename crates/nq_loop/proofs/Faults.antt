@@ -16,8 +16,8 @@ use Rattle.nq_loop.specs.declared.turns.Halt.{Halt}
 use Rattle.nq_loop.specs.declared.turns.LoopTurn.{LoopTurn}
 use Rattle.nq_model.specs.World.{Head}
 use Rattle.nq_link.specs.Packets.{Datagram}
-use Rattle.nq_hosts.specs.Clocks.{ClockTold}
-use Rattle.nq_hosts.specs.Links.{Letter, LinkTold}
+use Rattle.nq_clock.specs.Clocks.{ClockTold}
+use Rattle.nq_link.specs.Links.{Letter, LinkTold}
 use Rattle.nq_replay.specs.Playing.{beginning}
 use Rattle.nq_replay.specs.Ending.{CountsKeeper}
 

@@ -15,8 +15,8 @@ use Rattle.nq_loop.specs.Sending.{place_of, told_of}
 use Rattle.nq_loop.specs.declared.turns.Halt.{Halt}
 use Rattle.nq_model.specs.World.{Head, run}
 use Rattle.nq_link.specs.Packets.{Datagram}
-use Rattle.nq_hosts.proofs.Letters.{heard}
-use Rattle.nq_hosts.specs.Links.{Letter, LinkTold, most_bytes}
+use Rattle.nq_link.proofs.Letters.{heard}
+use Rattle.nq_link.specs.Links.{Letter, LinkTold, most_bytes}
 
 -- ---- what came
 

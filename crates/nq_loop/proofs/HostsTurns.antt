@@ -12,7 +12,7 @@ use Rattle.nq_model.specs.Lines.{Play, play, play_hosts, play_rounds}
 use Rattle.nq_model.specs.Server.{Server}
 use Rattle.nq_model.specs.World.{Head, World}
 use Rattle.nq_link.specs.Packets.{Datagram}
-use Rattle.nq_hosts.specs.Links.{Letter}
+use Rattle.nq_link.specs.Links.{Letter}
 use Rattle.law_rounds.proofs.ClientCount.{client-count}
 use Rattle.law_rounds.specs.CalmRoundsAreLawful.{IsLawful}
 use Rattle.law_rounds.specs.RoundsEndQuiet.{IsSmall}

@@ -7,7 +7,7 @@ use Rattle.nq_link.specs.Link.{Letters, with_last}
 use Rattle.nq_loop.specs.Sending.{FailsAt, FailsSending, SendsAll, SendsFront, changed_at, place_of, sent_all, sent_one, with_sent}
 use Rattle.nq_loop.specs.declared.turns.Halt.{Halt}
 use Rattle.nq_link.specs.Packets.{Datagram}
-use Rattle.nq_hosts.specs.Links.{LinkTold}
+use Rattle.nq_link.specs.Links.{LinkTold}
 
 -- ---- elements at places
 

@@ -11,7 +11,7 @@ use Rattle.nq_model.specs.Profile.{most_hosts}
 use Rattle.nq_model.specs.ServerStep.{boot}
 use Rattle.nq_model.specs.Stepped.{most_events}
 use Rattle.nq_model.specs.World.{Head, run, start}
-use Rattle.nq_hosts.specs.Links.{LinkTold}
+use Rattle.nq_link.specs.Links.{LinkTold}
 use Rattle.nq_replay.specs.Playing.{beginning}
 use Rattle.law_rounds.specs.RoundsEndQuiet.{IsSmall}
 use Rattle.nq_loop.specs.InTime.{played, all_in_time}

@@ -13,7 +13,7 @@ use Rattle.nq_model.specs.SkewBroken.{skew_broken}
 use Rattle.nq_model.specs.Stepped.{done, no_packet, too_many_events, too_many_packets, most_events, most_sent, tested, tested_room, tested_skew, stepped}
 use Rattle.nq_model.specs.World.{Head, World, after_client, after_server, at_client, run, step}
 use Rattle.nq_link.specs.Packets.{Datagram}
-use Rattle.nq_hosts.specs.Links.{Letter}
+use Rattle.nq_link.specs.Links.{Letter}
 use Rattle.law_rounds.specs.DeliveryEnds.{calmed}
 use Rattle.law_rounds.specs.RoundsEndQuiet.{IsSmall}
 use Rattle.law_rounds.proofs.RecoveryRounds.{delivered-now}

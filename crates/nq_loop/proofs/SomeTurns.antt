@@ -19,8 +19,8 @@ use Rattle.nq_loop.specs.declared.turns.LoopTurn.{LoopTurn}
 use Rattle.nq_model.specs.Stepped.{done, stepped}
 use Rattle.nq_model.specs.World.{run}
 use Rattle.nq_link.specs.Packets.{Datagram}
-use Rattle.nq_hosts.specs.Clocks.{ClockTold, ReadsOnce}
-use Rattle.nq_hosts.specs.Links.{Letter, LinkTold, most_bytes}
+use Rattle.nq_clock.specs.Clocks.{ClockTold, ReadsOnce}
+use Rattle.nq_link.specs.Links.{Letter, LinkTold, most_bytes}
 use Rattle.nq_replay.specs.Delivering.{was_delivered}
 use Rattle.nq_xdr.specs.Message.{auth, numbers, outcome, spelling}
 use Rattle.nq_wire.specs.Parts.{head as who_bytes, tag_bytes, want_bytes, grant_bytes, base_bytes, optional}

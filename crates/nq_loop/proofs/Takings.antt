@@ -2,7 +2,7 @@
 use Rattle.std.proofs.Common.{◌≡◌, ℕ, ◌+◌, ◌<◌, Bool, true, false, List, Ok, Err, zero, suc, inl, inr, refl, ap, subst, ◌∙◌, arith, add-one}
 use Rattle.std.proofs.lemmas.Bool.Decides.{nat_tests}
 use Rattle.std.specs.Prelude.{◌&&◌, not, min, nat_le, slice_get}
-use Rattle.nq_hosts.specs.Clocks.{ClockTold}
+use Rattle.nq_clock.specs.Clocks.{ClockTold}
 use Rattle.nq_base.specs.declared.Event.{Event}
 use Rattle.nq_io.specs.Faults.{Rose}
 use Rattle.nq_loop.specs.Counting.{begun_in}

@@ -1,7 +1,7 @@
 -- A turn, by how its steps ended.
 use Rattle.std.proofs.Common.{◌≡◌, ℕ, Bool, true, false, Ok, Err, sym, ap, subst, ◌∙◌}
 use Rattle.std.specs.Prelude.{Result, reverse}
-use Rattle.nq_hosts.specs.Clocks.{ClockTold, ReadsOnce}
+use Rattle.nq_clock.specs.Clocks.{ClockTold, ReadsOnce}
 use Rattle.nq_loop.specs.Holding.{CountsKeep, CountsTurn, IsLooping, Keeps, KeepsTurn, Loop, Loops, Stands, StandsBehind, Turns, moment_of}
 use Rattle.nq_loop.specs.Looping.{Makes, rounds_due, turn_of, turn_steps}
 use Rattle.nq_loop.specs.Steps.{MakesSteps}

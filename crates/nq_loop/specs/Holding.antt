@@ -1,7 +1,7 @@
 -- The loop over a world as contracts see it. Below, `before` and `now` are the keeper's counts of faults.
 use Rattle.std.specs.List.{AllByRecursion}
 use Rattle.std.specs.Prelude.{◌≡◌, ◌<◌, ◌≤◌, ◌+◌, ◌^◌, ℕ, Bool, List, [], ◌∷◌, Option, Result, Ok, Err, map, reverse}
-use Rattle.nq_hosts.specs.Clocks.{ClockTold}
+use Rattle.nq_clock.specs.Clocks.{ClockTold}
 use Rattle.nq_base.specs.Block.{filled}
 use Rattle.nq_base.specs.declared.Call.{Call}
 use Rattle.nq_base.specs.declared.Event.{Event}
@@ -18,7 +18,7 @@ use Rattle.nq_model.specs.Kept.{Kept}
 use Rattle.nq_model.specs.Stepped.{done, stepped}
 use Rattle.nq_model.specs.World.{Head}
 use Rattle.nq_link.specs.Packets.{Datagram}
-use Rattle.nq_hosts.specs.Links.{LinkTold}
+use Rattle.nq_link.specs.Links.{LinkTold}
 use Rattle.nq_replay.specs.Delivering.{Marks}
 use Rattle.nq_world.specs.Playing.{IsAsBefore, Plays, WorldOver}
 

@@ -18,8 +18,8 @@ use Rattle.nq_model.specs.Client.{Client}
 use Rattle.nq_model.specs.Stepped.{done, stepped}
 use Rattle.nq_model.specs.World.{Head, World, run}
 use Rattle.nq_link.specs.Packets.{Datagram}
-use Rattle.nq_hosts.specs.Clocks.{ClockTold, ReadsOnce}
-use Rattle.nq_hosts.specs.Links.{Hears, Letter, LinkTold, most_bytes}
+use Rattle.nq_clock.specs.Clocks.{ClockTold, ReadsOnce}
+use Rattle.nq_link.specs.Links.{Hears, Letter, LinkTold, most_bytes}
 use Rattle.nq_replay.specs.Reaching.{IsReached}
 use Rattle.nq_world.specs.Shown.{datagram}
 use Rattle.nq_world.specs.declared.stepped.Stepped.{Stepped}

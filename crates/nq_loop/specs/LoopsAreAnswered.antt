@@ -5,7 +5,7 @@ use Rattle.nq_loop.specs.Turning.{all_answered}
 use Rattle.nq_loop.specs.Whole.{loop_head}
 use Rattle.nq_model.specs.Profile.{most_hosts}
 use Rattle.nq_model.specs.World.{run}
-use Rattle.nq_hosts.specs.Links.{LinkTold}
+use Rattle.nq_link.specs.Links.{LinkTold}
 use Rattle.nq_replay.specs.Playing.{beginning}
 use Rattle.nq_laws.specs.WholeCallsAnswered.{served_rounds_for}
 use Rattle.law_rounds.specs.RoundsEndQuiet.{IsSmall}

@@ -10,8 +10,8 @@ use Rattle.nq_loop.specs.Turning.{all_answered}
 use Rattle.nq_loop.specs.Whole.{loop_head}
 use Rattle.nq_model.specs.Stepped.{most_sent}
 use Rattle.nq_model.specs.World.{run}
-use Rattle.nq_hosts.specs.Clocks.{ClockTold}
-use Rattle.nq_hosts.specs.Links.{LinkTold}
+use Rattle.nq_clock.specs.Clocks.{ClockTold}
+use Rattle.nq_link.specs.Links.{LinkTold}
 use Rattle.nq_replay.specs.Playing.{beginning}
 use Rattle.nq_loop.specs.InTime.{all_in_time}
 use Rattle.nq_loop.specs.LoopsAreAnswered.{most_due, ticks_enough}

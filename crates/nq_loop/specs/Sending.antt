@@ -5,7 +5,7 @@ use Rattle.nq_io.specs.Faults.{Rose}
 use Rattle.nq_link.specs.Link.{Letters, with_last}
 use Rattle.nq_loop.specs.declared.turns.Halt.{Halt}
 use Rattle.nq_link.specs.Packets.{Datagram}
-use Rattle.nq_hosts.specs.Links.{LinkTold, link_told}
+use Rattle.nq_link.specs.Links.{LinkTold, link_told}
 
 -- a link as it is told
 abbrev pub told_of : {L : Type 0} → (sent waiting : L → Option Letters) → (faults receives : L → ℕ) → L → LinkTold

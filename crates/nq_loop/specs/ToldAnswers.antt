@@ -9,8 +9,8 @@ use Rattle.nq_loop.specs.Whole.{loop_head}
 use Rattle.nq_model.specs.Client.{Client}
 use Rattle.nq_model.specs.Journal.{Exists, IsAnswer, IsCall}
 use Rattle.nq_model.specs.World.{run}
-use Rattle.nq_hosts.specs.Clocks.{ClockTold}
-use Rattle.nq_hosts.specs.Links.{LinkTold}
+use Rattle.nq_clock.specs.Clocks.{ClockTold}
+use Rattle.nq_link.specs.Links.{LinkTold}
 use Rattle.nq_replay.specs.Playing.{beginning}
 
 -- each call of an incarnation that a journal tells has its answer there

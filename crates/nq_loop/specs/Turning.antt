@@ -5,7 +5,7 @@ use Rattle.nq_loop.specs.Counting.{begun_in}
 use Rattle.nq_loop.specs.Looping.{Moment, TakesTurn, is_busy}
 use Rattle.nq_loop.specs.declared.turns.LoopTurn.{LoopTurn}
 use Rattle.nq_model.specs.World.{Head, run}
-use Rattle.nq_hosts.specs.Clocks.{ClockTold}
+use Rattle.nq_clock.specs.Clocks.{ClockTold}
 
 -- a loop between two turns: its moment, and its clock
 pub record Between : Type 0 where

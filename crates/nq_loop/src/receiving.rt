@@ -5,7 +5,7 @@ ghost use Rattle.nq_loop.specs.Holding.{IsLooping, Keeps, Loops, TakesFrom, loop
 ghost use Rattle.nq_loop.specs.Looping.{Brings, Step};
 ghost use Rattle.nq_loop.specs.Sending.{place_of, told_of};
 ghost use Rattle.nq_model.specs.World.{Head};
-ghost use Rattle.nq_hosts.specs.Links.{most_bytes};
+ghost use Rattle.nq_link.specs.Links.{most_bytes};
 
 use crate::giving::give;
 use crate::matching::{Letter, packet_of};
@@ -23,7 +23,7 @@ use std::alloc::Global;
 const MOST_BYTES: usize = 4401;
 
 /// Receives once on a party's link, and takes in the datagram that came; answers whether one came.
-#[tactic(auto, unfolding(nq_hosts::specs::Links::most_bytes))]
+#[tactic(auto, unfolding(nq_link::specs::Links::most_bytes))]
 pub(crate) fn receive<K: Keeper, L: Link>(
     alloc: Global,
     world: &mut World<K>,

@@ -2,7 +2,7 @@
 
 ghost use Rattle.std.specs.List.{AllByRecursion};
 ghost use Rattle.std.specs.Prelude.{◌≡◌, ◌≤◌, ◌+◌, [], ℕ, Option, Some, length, map, reverse};
-ghost use Rattle.nq_hosts.specs.Clocks.{clock_told};
+ghost use Rattle.nq_clock.specs.Clocks.{clock_told};
 ghost use Rattle.nq_base.specs.declared.ending.ending.Ending.{Ending};
 ghost use Rattle.nq_keeper.specs.StoredKeeper.{empty_kept};
 ghost use Rattle.nq_loop.specs.Holding.{IsLooped};

@@ -1,7 +1,7 @@
 //! Turns of a loop, one after another.
 
 ghost use Rattle.std.specs.Prelude.{◌≡◌, ◌<◌, ◌&&◌, ℕ, List, length, slice_get};
-ghost use Rattle.nq_hosts.specs.Clocks.{clock_told};
+ghost use Rattle.nq_clock.specs.Clocks.{clock_told};
 ghost use Rattle.nq_base.specs.declared.Event.{Event};
 ghost use Rattle.nq_loop.specs.Counting.{Counts};
 ghost use Rattle.nq_loop.specs.Holding.{AreThere, CountsTurn, IsLooping, StandsBehind, loop_of, moment_of};

@@ -1,7 +1,7 @@
 //! Turns of a loop.
 
 ghost use Rattle.std.specs.Prelude.{◌≡◌, length};
-ghost use Rattle.nq_hosts.specs.Clocks.{clock_told};
+ghost use Rattle.nq_clock.specs.Clocks.{clock_told};
 ghost use Rattle.nq_loop.specs.Holding.{AreThere, IsLooping, KeepsTurn, Turns, loop_of};
 ghost use Rattle.nq_loop.specs.Looping.{rounds_due, turn_of};
 ghost use Rattle.nq_model.specs.World.{Head};

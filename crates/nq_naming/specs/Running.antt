@@ -8,7 +8,7 @@ use Rattle.nq_base.specs.declared.SkewBroken.{SkewBroken}
 use Rattle.nq_names.specs.Playing.{PlaysOutside, NamesOver}
 use Rattle.nq_base.specs.declared.ending.ending.Ending.{Ending}
 use Rattle.nq_io.specs.Faults.{Rose}
-use Rattle.nq_io.specs.Sink.{AppendsFront}
+use Rattle.nq_io.specs.Sink.{AppendsFront, PrintsLine}
 use Rattle.nq_io.specs.Told.{with_end}
 use Rattle.nq_io.specs.Whole.{TakesSome}
 use Rattle.nq_journal.specs.Text.{journal_text}
@@ -17,7 +17,7 @@ use Rattle.nq_model.specs.Stepped.{Stepped, no_packet, out_of_skew, too_many_eve
 use Rattle.nq_replay.specs.Ending.{IsUnlessFault}
 use Rattle.nq_replay.specs.Lawful.{IsLawful}
 use Rattle.nq_replay.specs.Playing.{beginning}
-use Rattle.nq_replay.specs.Lines.{PrintsLine, limit_line, script_line, skew_line}
+use Rattle.nq_replay.specs.Lines.{limit_line, script_line, skew_line}
 use Rattle.nq_replay.specs.Replay.{OfInput, PrintsLimit, TakesInput}
 use Rattle.nq_replay.specs.declared.Bound.{Bound}
 use Rattle.nq_replay.specs.Schedules.{PrintsBytes, TellsStop}

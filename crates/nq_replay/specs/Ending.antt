@@ -7,7 +7,8 @@ use Rattle.nq_base.specs.declared.SkewBroken.{SkewBroken}
 use Rattle.nq_base.specs.declared.ending.ending.Ending.{Ending}
 use Rattle.nq_io.specs.Faults.{Rose}
 use Rattle.nq_io.specs.Whole.{TakesSome}
-use Rattle.nq_replay.specs.Lines.{PrintsLine, last_line, limit_line}
+use Rattle.nq_replay.specs.Lines.{last_line, limit_line}
+use Rattle.nq_io.specs.Sink.{PrintsLine}
 use Rattle.nq_replay.specs.Replay.{BreaksSkew, FaultyLine, IsSchedule, OfInput, Passes, PrintsFaulty, PrintsJournal, PrintsLimit, PrintsPart, PrintsPassing, PrintsSkew, Runs, TakesInput}
 use Rattle.nq_replay.specs.declared.printing.Bound.{Bound}
 use Rattle.nq_script.specs.declared.heads.Head.{Head}

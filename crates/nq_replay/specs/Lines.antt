@@ -1,12 +1,8 @@
--- The lines that tell faults, each with its line feed. Below, `held` is what the sink held before a line and `now` is what it holds
--- after it, where the sink tells them; `w` and `w'` are the sink's counts of faults before and after.
-use Rattle.std.specs.Prelude.{◌≡◌, ◌⊎◌, ℕ, ◌+◌, ◌-◌, ◌==◌, List, ◌++◌, length, take, Option, codes}
+-- The lines that tell faults, each with its line feed.
+use Rattle.std.specs.Prelude.{ℕ, ◌+◌, ◌-◌, ◌==◌, List, ◌++◌, length, take, codes}
 use Rattle.std.specs.Fmt.{decimal}
 use Rattle.std.specs.List.{count_by}
 use Rattle.nq_base.specs.declared.SkewBroken.{SkewBroken}
-use Rattle.nq_io.specs.Faults.{Rose}
-use Rattle.nq_io.specs.Sink.{AppendsFront}
-use Rattle.nq_io.specs.Told.{with_end}
 use Rattle.nq_replay.specs.declared.printing.Bound.{Bound}
 
 -- the line of words that say nothing that can be run
@@ -36,7 +32,3 @@ limit_line number bound = codes "limit line " ++ decimal number ++ bound_end bou
 -- the line in which the last of these bytes stands: one more than there are line feeds before it
 unfoldable pub last_line : List ℕ → ℕ
 last_line bytes = count_by (λ b. b == 10) (take (length bytes - 1) bytes) + 1
-
--- a line was printed; where the sink failed, which it has counted, only a front of it was
-abbrev pub PrintsLine : (line : List ℕ) → (held now : Option (List ℕ)) → (w w' : ℕ) → Type 0
-PrintsLine line held now w w' = ((now ≡ with_end held line) × (w' ≡ w)) ⊎ (AppendsFront line held now × Rose w w')

@@ -5,7 +5,8 @@ use Rattle.nq_base.specs.declared.ending.ending.Ending.{Ending}
 use Rattle.nq_io.specs.Faults.{Rose}
 use Rattle.nq_io.specs.Whole.{TakesSome}
 use Rattle.nq_replay.specs.Ending.{IsUnlessFault}
-use Rattle.nq_replay.specs.Lines.{PrintsLine, script_line}
+use Rattle.nq_replay.specs.Lines.{script_line}
+use Rattle.nq_io.specs.Sink.{PrintsLine}
 use Rattle.nq_replay.specs.Replay.{OfInput, PrintsLimit, TakesInput}
 use Rattle.nq_script.specs.Schedule.{FirstBadLine, SpellsSchedule}
 use Rattle.nq_script.specs.declared.heads.Head.{Head}

@@ -4,7 +4,7 @@ use Rattle.std.specs.Prelude.{◌≡◌, ◌⊎◌, ℕ, List, Option, Some, rev
 use Rattle.nq_base.specs.declared.Entry.{Entry}
 use Rattle.nq_base.specs.declared.Event.{Event}
 use Rattle.nq_base.specs.declared.SkewBroken.{SkewBroken}
-use Rattle.nq_io.specs.Sink.{AppendsFront}
+use Rattle.nq_io.specs.Sink.{AppendsFront, PrintsLine}
 use Rattle.nq_io.specs.Told.{with_end}
 use Rattle.nq_io.specs.Whole.{IsAll, IsOver}
 use Rattle.nq_journal.specs.Text.{journal_text}
@@ -13,7 +13,7 @@ use Rattle.nq_model.specs.Stepped.{Stepped, no_packet, out_of_skew, too_many_eve
 use Rattle.nq_model.specs.World.{run}
 use Rattle.nq_replay.specs.Lawful.{IsLawful}
 use Rattle.nq_replay.specs.Playing.{beginning, play, ran, stopped}
-use Rattle.nq_replay.specs.Lines.{PrintsLine, last_line, limit_line, script_line, skew_line}
+use Rattle.nq_replay.specs.Lines.{last_line, limit_line, script_line, skew_line}
 use Rattle.nq_replay.specs.declared.printing.Bound.{Bound}
 use Rattle.nq_script.specs.Schedule.{SpellsSchedule, FirstBadLine}
 use Rattle.nq_script.specs.declared.heads.Head.{Head}

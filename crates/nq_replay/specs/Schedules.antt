@@ -3,14 +3,14 @@ use Rattle.std.specs.Prelude.{◌≡◌, ◌⊎◌, ◌+◌, ◌<◌, ◌^◌, �
 use Rattle.nq_base.specs.declared.Entry.{Entry}
 use Rattle.nq_base.specs.declared.ending.ending.Ending.{Ending}
 use Rattle.nq_io.specs.Faults.{Rose}
-use Rattle.nq_io.specs.Sink.{AppendsFront}
+use Rattle.nq_io.specs.Sink.{AppendsFront, PrintsLine}
 use Rattle.nq_io.specs.Told.{with_end}
 use Rattle.nq_journal.specs.Text.{journal_text}
 use Rattle.nq_model.specs.Kept.{Kept}
 use Rattle.nq_replay.specs.Going.{RanTo}
 use Rattle.nq_replay.specs.Playing.{Ended, ran, stopped}
 use Rattle.nq_replay.specs.declared.play.played.Played.{Played}
-use Rattle.nq_replay.specs.Lines.{PrintsLine, limit_line, script_line, skew_line}
+use Rattle.nq_replay.specs.Lines.{limit_line, script_line, skew_line}
 use Rattle.nq_replay.specs.Replay.{journal_of, kept_of}
 use Rattle.nq_replay.specs.declared.printing.Bound.{Bound}
 use Rattle.nq_script.specs.Heads.{head_lines}

@@ -14,7 +14,7 @@ pub mod version_one;
 pub use finished::Finished;
 pub use nq_base::NoMemory;
 pub use parts::print_parts;
-pub use printing::{Bound, put_line, script_text, tell_over};
+pub use printing::{Bound, script_text, tell_over};
 pub use reading::read_script;
 pub use schedules::{replay, tell_limit, tell_script, tell_stop};
 pub use texts::schedule_text;

@@ -2,11 +2,11 @@
 
 ghost use Rattle.std.specs.Prelude.{◌≡◌, ◌<◌, IfOk, length, string_bytes, Ok};
 ghost use Rattle.nq_replay.specs.Ending.{TellsOver};
-ghost use Rattle.nq_replay.specs.Lines.{PrintsLine, script_line, skew_line, limit_line, last_line};
+ghost use Rattle.nq_replay.specs.Lines.{script_line, skew_line, limit_line, last_line};
 
 use nq_base::ending::Ending;
 use nq_base::{NoMemory, SkewBroken};
-use nq_io::{Put, Sink};
+use nq_io::{Sink, put_line};
 use std::alloc::{AllocError, Global};
 
 /// What there is too much of.
@@ -18,15 +18,6 @@ pub enum Bound {
     Events,
     /// More than 999,936 packets were sent before an event.
     Packets,
-}
-
-/// Prints a line. A failing sink may print a front of it.
-pub fn put_line<K: Sink>(out: &mut K, line: &[u8])
-    ensures { PrintsLine line.now (K.held out.old) (K.held out.new) (K.faults out.old) (K.faults out.new) }
-{
-    match out.put(line) {
-        Put::All | Put::Failed => {}
-    }
 }
 
 /// The line that tells the number of a faulty line.

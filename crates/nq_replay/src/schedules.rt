@@ -18,10 +18,10 @@ ghost use Rattle.nq_world.specs.declared.stepped.Stepped.{Stepped};
 
 use crate::finished::Finished;
 use crate::play::{Played, play};
-use crate::printing::{Bound, limit_text, put_line, script_text, skew_text};
+use crate::printing::{Bound, limit_text, script_text, skew_text};
 use nq_base::ending::Ending;
 use nq_base::{Journal, SkewBroken};
-use nq_io::Sink;
+use nq_io::{Sink, put_line};
 use nq_journal::{Printed, print};
 use nq_keeper::Keeper;
 use nq_script::Script;

@@ -11,7 +11,7 @@ use Rattle.nq_check.specs.declared.Judged.{Judged}
 use Rattle.nq_check.specs.declared.Rule.{Rule}
 use Rattle.nq_base.specs.declared.ending.ending.Ending.{Ending}
 use Rattle.nq_io.specs.Faults.{Rose}
-use Rattle.nq_io.specs.Sink.{AppendsFront}
+use Rattle.nq_io.specs.Sink.{AppendsFront, PrintsLine}
 use Rattle.nq_io.specs.Told.{with_end}
 use Rattle.nq_io.specs.Whole.{IsAll, IsOver}
 use Rattle.nq_journal.specs.Fault.{IsFaultyAt, IsJournal, ended}
@@ -19,7 +19,7 @@ use Rattle.nq_journal.specs.Parsing.{IsFault, IsTextOf, named}
 use Rattle.nq_journal.specs.Text.{IsText, entry_line, entry_words, end_line, head_line, journal_text}
 use Rattle.nq_replay.specs.Ending.{IsUnlessFault, TellsOver}
 use Rattle.nq_run.specs.Judging.{IsJudged, IsSaidUnlessFault, Judges, JudgesText, PrintsWrong, TellsVerdict, yes_line}
-use Rattle.nq_replay.specs.Lines.{PrintsLine, script_line}
+use Rattle.nq_replay.specs.Lines.{script_line}
 use Rattle.nq_script.specs.Words.{line, joined}
 
 -- ---- the place of a fault

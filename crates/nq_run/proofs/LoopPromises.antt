@@ -7,8 +7,8 @@ use Rattle.nq_loop.proofs.Faults.{loops-unless}
 use Rattle.nq_loop.specs.Looped.{KeepsLoop, LoopEnds}
 use Rattle.nq_loop.specs.Whole.{loop_head}
 use Rattle.nq_model.specs.Kept.{Kept}
-use Rattle.nq_hosts.specs.Clocks.{ClockTold}
-use Rattle.nq_hosts.specs.Links.{LinkTold}
+use Rattle.nq_clock.specs.Clocks.{ClockTold}
+use Rattle.nq_link.specs.Links.{LinkTold}
 use Rattle.nq_replay.specs.Ending.{CountsKeeper}
 use Rattle.nq_run.proofs.Promises.{faultless, holds_throughout}
 use Rattle.nq_run.specs.Looping.{LoopsFor, LoopsLawfully}

@@ -8,13 +8,14 @@ use Rattle.nq_run.specs.Running.{LoopsOn, StartsNot, StormsOn}
 use Rattle.nq_base.proofs.Ends.{one_end}
 use Rattle.nq_base.specs.Status.{status_of}
 use Rattle.nq_base.specs.declared.ending.ending.Ending.{Ending}
-use Rattle.nq_hosts.specs.Clocks.{ClockTold}
-use Rattle.nq_hosts.specs.Links.{LinkTold}
+use Rattle.nq_clock.specs.Clocks.{ClockTold}
+use Rattle.nq_link.specs.Links.{LinkTold}
 use Rattle.nq_run.specs.Fates.{FateTold}
 use Rattle.nq_run.specs.Looping.{LoopsFor}
 use Rattle.nq_run.specs.Storming.{StormsFor}
 use Rattle.nq_store.proofs.Risen.{risen_over}
-use Rattle.nq_replay.specs.Lines.{PrintsLine, usage_line}
+use Rattle.nq_replay.specs.Lines.{usage_line}
+use Rattle.nq_io.specs.Sink.{PrintsLine}
 use Rattle.nq_storm.specs.Kinds.{LackKind}
 use Rattle.nq_storm.specs.Rules.{Rule}
 use Rattle.nq_store.specs.Storing.{GoesOn, IsFresh, StoredStore, content_of, content_while, faults_of, kept_told}

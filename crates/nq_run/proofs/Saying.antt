@@ -4,9 +4,9 @@ use Rattle.nq_base.proofs.Ends.{one_end}
 use Rattle.nq_base.specs.Status.{status_of}
 use Rattle.nq_base.specs.declared.Who.{Who}
 use Rattle.nq_base.specs.declared.ending.ending.Ending.{Ending}
-use Rattle.nq_hosts.specs.Clocks.{ClockTold}
-use Rattle.nq_hosts.specs.Links.{LinkTold}
-use Rattle.nq_hosts.specs.Serving.{EndsBy}
+use Rattle.nq_clock.specs.Clocks.{ClockTold}
+use Rattle.nq_link.specs.Links.{LinkTold}
+use Rattle.nq_serving.specs.Serving.{EndsBy}
 use Rattle.nq_hosts.specs.Using.{EndsBy as UsesBy}
 use Rattle.nq_model.specs.Kept.{Kept}
 use Rattle.nq_run.specs.Hosting.{Attends}

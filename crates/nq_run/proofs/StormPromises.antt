@@ -5,7 +5,8 @@ use Rattle.nq_base.specs.Status.{status_of}
 use Rattle.nq_base.specs.declared.ending.ending.Ending.{Ending}
 use Rattle.nq_model.specs.Kept.{Kept}
 use Rattle.nq_replay.specs.Ending.{CountsKeeper}
-use Rattle.nq_replay.specs.Lines.{PrintsLine, usage_line}
+use Rattle.nq_replay.specs.Lines.{usage_line}
+use Rattle.nq_io.specs.Sink.{PrintsLine}
 use Rattle.nq_run.proofs.Promises.{faultless, holds_throughout}
 use Rattle.nq_run.specs.Fates.{AsksInStorm, FateTold}
 use Rattle.nq_run.specs.Storming.{DoesStorm, StormsFor, StormsLawfully, StormsUnlessFault}

@@ -5,8 +5,8 @@ use Rattle.nq_base.specs.declared.Who.{Who}
 use Rattle.nq_hosts.specs.Lines.{AreCalls}
 use Rattle.nq_base.specs.Status.{status_of}
 use Rattle.nq_base.specs.declared.ending.ending.Ending.{Ending}
-use Rattle.nq_hosts.specs.Clocks.{ClockTold}
-use Rattle.nq_hosts.specs.Links.{LinkTold}
+use Rattle.nq_clock.specs.Clocks.{ClockTold}
+use Rattle.nq_link.specs.Links.{LinkTold}
 use Rattle.nq_hosts.specs.Using.{EndsBy as UsesBy, Uses}
 
 -- a client ran the calls of the input, or ended before, and the status is that of its end, which has its cause

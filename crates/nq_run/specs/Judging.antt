@@ -9,13 +9,13 @@ use Rattle.nq_check.specs.declared.Judged.{Judged}
 use Rattle.nq_check.specs.declared.Rule.{Rule}
 use Rattle.nq_base.specs.declared.ending.ending.Ending.{Ending}
 use Rattle.nq_io.specs.Faults.{Rose}
-use Rattle.nq_io.specs.Sink.{AppendsFront}
+use Rattle.nq_io.specs.Sink.{AppendsFront, PrintsLine}
 use Rattle.nq_io.specs.Told.{with_end}
 use Rattle.nq_io.specs.Whole.{TakesSome}
 use Rattle.nq_journal.specs.Fault.{IsFaultyAt}
 use Rattle.nq_journal.specs.Text.{IsText}
 use Rattle.nq_replay.specs.Ending.{IsFault}
-use Rattle.nq_replay.specs.Lines.{PrintsLine, script_line}
+use Rattle.nq_replay.specs.Lines.{script_line}
 use Rattle.nq_replay.specs.Replay.{OfInput, PrintsLimit, TakesInput}
 
 -- the line of a sound journal

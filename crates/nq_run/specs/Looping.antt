@@ -13,8 +13,8 @@ use Rattle.nq_loop.specs.Printed.{loop_text}
 use Rattle.nq_loop.specs.Whole.{loop_head}
 use Rattle.nq_model.specs.Kept.{Kept}
 use Rattle.nq_model.specs.World.{run}
-use Rattle.nq_hosts.specs.Clocks.{ClockTold}
-use Rattle.nq_hosts.specs.Links.{LinkTold}
+use Rattle.nq_clock.specs.Clocks.{ClockTold}
+use Rattle.nq_link.specs.Links.{LinkTold}
 use Rattle.nq_replay.specs.Playing.{beginning}
 use Rattle.nq_replay.specs.Ending.{CountsKeeper}
 use Rattle.nq_replay.specs.Replay.{kept_of}

@@ -4,8 +4,8 @@ use Rattle.std.specs.Prelude.{◌≡◌, ◌⊎◌, ◌<◌, ◌≤◌, ℕ, Lis
 use Rattle.nq_service.specs.Emptying.{EmptiesNot}
 use Rattle.nq_base.specs.Status.{status_of}
 use Rattle.nq_base.specs.declared.ending.ending.Ending.{Ending}
-use Rattle.nq_hosts.specs.Clocks.{ClockTold}
-use Rattle.nq_hosts.specs.Links.{LinkTold}
+use Rattle.nq_clock.specs.Clocks.{ClockTold}
+use Rattle.nq_link.specs.Links.{LinkTold}
 use Rattle.nq_replay.specs.Playing.{Ended}
 use Rattle.nq_replay.specs.Ending.{CountsKeeper}
 use Rattle.nq_replay.specs.Schedules.{EndsOver, KeepsPlayed}

@@ -12,7 +12,8 @@ use Rattle.nq_model.specs.Kept.{Kept}
 use Rattle.nq_model.specs.World.{run}
 use Rattle.nq_replay.specs.Playing.{beginning}
 use Rattle.nq_replay.specs.Ending.{CountsKeeper, IsFault}
-use Rattle.nq_replay.specs.Lines.{PrintsLine, usage_line}
+use Rattle.nq_replay.specs.Lines.{usage_line}
+use Rattle.nq_io.specs.Sink.{PrintsLine}
 use Rattle.nq_replay.specs.Replay.{kept_of}
 use Rattle.nq_run.specs.Fates.{AsksInStorm, FateTold}
 use Rattle.nq_run.specs.Promised.{HoldsThroughout}

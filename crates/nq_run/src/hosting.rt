@@ -1,8 +1,8 @@
 //! The command `client`.
 
 ghost use Rattle.std.specs.Prelude.{◌<◌, ◌^◌};
-ghost use Rattle.nq_hosts.specs.Clocks.{clock_told};
-ghost use Rattle.nq_hosts.specs.Links.{link_told};
+ghost use Rattle.nq_clock.specs.Clocks.{clock_told};
+ghost use Rattle.nq_link.specs.Links.{link_told};
 ghost use Rattle.nq_run.specs.Hosting.{Attends};
 
 use nq_base::{Host, Inc, Who};

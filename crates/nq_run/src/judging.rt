@@ -10,9 +10,9 @@ ghost use Rattle.nq_run.specs.Judging.{IsSaidUnlessFault, Judges, JudgesText, Te
 use nq_base::NoMemory;
 use nq_base::ending::Ending;
 use nq_check::{Judged, Rule, check};
-use nq_io::{Put, Sink, Source, Whole, read_all};
+use nq_io::{Put, Sink, Source, Whole, put_line, read_all};
 use nq_journal::{JournalFault, parse};
-use nq_replay::{put_line, script_text, tell_over};
+use nq_replay::{script_text, tell_over};
 use std::alloc::Global;
 
 /// Reads a journal to the end of the input, of at most so many bytes, and judges it, as `docs/check.md` tells. How it ends:

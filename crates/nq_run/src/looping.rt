@@ -2,7 +2,7 @@
 
 ghost use Rattle.std.specs.Prelude.{◌≡◌, ◌+◌, ◌≤◌, ℕ, List, Some, length, map};
 ghost use Rattle.nq_loop.specs.Sending.{told_of};
-ghost use Rattle.nq_hosts.specs.Clocks.{clock_told};
+ghost use Rattle.nq_clock.specs.Clocks.{clock_told};
 ghost use Rattle.nq_run.specs.Running.{LoopsOn};
 
 use nq_clock::Clock;

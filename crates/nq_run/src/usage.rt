@@ -3,11 +3,11 @@
 ghost use Rattle.std.specs.Prelude.{◌≡◌};
 ghost use Rattle.nq_base.specs.Status.{status_of};
 ghost use Rattle.nq_base.specs.declared.ending.ending.Ending.{Ending};
-ghost use Rattle.nq_replay.specs.Lines.{PrintsLine, usage_line};
+ghost use Rattle.nq_replay.specs.Lines.{usage_line};
+ghost use Rattle.nq_io.specs.Sink.{PrintsLine};
 
 use nq_base::ending::Ending;
-use nq_io::Sink;
-use nq_replay::put_line;
+use nq_io::{Sink, put_line};
 
 /// Prints that nothing can be run; the status.
 #[tactic(auto, unfolding(nq_replay::specs::Lines::usage_line))]

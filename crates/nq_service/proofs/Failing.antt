@@ -4,7 +4,7 @@ use Rattle.std.specs.Option.{ForSome}
 use Rattle.nq_base.specs.Status.{status_of}
 use Rattle.nq_base.specs.declared.ending.ending.Ending.{Ending}
 use Rattle.nq_plan.specs.Standing.{stands_as}
-use Rattle.nq_hosts.specs.Serving.{EndsBy}
+use Rattle.nq_serving.specs.Serving.{EndsBy}
 use Rattle.nq_io.specs.Faults.{Rose}
 use Rattle.nq_model.specs.Kept.{Kept}
 use Rattle.nq_service.specs.Serving.{PrintsBehind, first_wrong}

@@ -1,6 +1,6 @@
 -- When serving fails.
 use Rattle.std.proofs.Common.{◌≡◌, ◌≤◌, ℕ, Option, Result, Err, subst}
-use Rattle.nq_hosts.specs.DaemonServing.{EndsBy}
+use Rattle.nq_serving.specs.DaemonServing.{EndsBy}
 use Rattle.nq_base.specs.declared.ending.halt.Halt.{Halt}
 use Rattle.nq_io.specs.Faults.{Rose}
 use Rattle.nq_model.specs.Kept.{Kept}

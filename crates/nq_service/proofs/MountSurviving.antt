@@ -1,8 +1,8 @@
 -- What a stop within serving leaves, from what one leaves before the store was opened and behind it.
 use Rattle.std.proofs.Common.{◌≡◌, ◌⊎◌, ◌<◌, ◌≤◌, ℕ, List, [], ◌∷◌, Option, Some, None, Result, Ok, Err, length, inl, inr, refl, sym, ap, subst, ◌∙◌, arith}
 use Rattle.std.specs.Option.{ForSome}
-use Rattle.nq_hosts.specs.DaemonLeaving.{IsLeftInRuns}
-use Rattle.nq_hosts.specs.DaemonServing.{Runs}
+use Rattle.nq_serving.specs.DaemonLeaving.{IsLeftInRuns}
+use Rattle.nq_serving.specs.DaemonServing.{Runs}
 use Rattle.nq_base.specs.declared.ending.halt.Halt.{Halt}
 use Rattle.nq_plan.specs.Formatted.{StandsForNothing, TellsNothing}
 use Rattle.nq_plan.specs.Standing.{stands_as}
@@ -13,8 +13,8 @@ use Rattle.nq_store.proofs.Emptied.{nothing_on}
 use Rattle.nq_service.proofs.MountFailing.{failed_by}
 use Rattle.nq_service.specs.Opening.{FailsEarly, IsOpenedAs, IsReady, OpensOrMakes, OpensReady}
 use Rattle.nq_service.specs.MountServing.{EndsServing, IsFoundAmong, IsWhyNot, ServesImage, ServesNot}
-use Rattle.nq_hosts.specs.Clocks.{ClockTold}
-use Rattle.nq_hosts.specs.Links.{LinkTold}
+use Rattle.nq_clock.specs.Clocks.{ClockTold}
+use Rattle.nq_link.specs.Links.{LinkTold}
 use Rattle.nq_disk.specs.Saying.{Each}
 use Rattle.nq_store.specs.Opening.{FollowsOpen, LeavesLike, back_of}
 use Rattle.nq_store.specs.Storing.{AllStandFor, GoesOn, HasRisen, StoredStore, content_of, faults_of, kept_on, kept_told}

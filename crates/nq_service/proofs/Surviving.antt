@@ -3,11 +3,11 @@ use Rattle.std.proofs.Common.{◌≡◌, ◌⊎◌, ◌≤◌, ℕ, List, Option
 use Rattle.std.specs.Option.{ForSome}
 use Rattle.nq_base.specs.declared.ending.ending.Ending.{Ending}
 use Rattle.nq_base.specs.declared.ending.halt.Halt.{Halt}
-use Rattle.nq_hosts.specs.ServerLeaving.{IsLeftInRuns, LeavesServing}
-use Rattle.nq_hosts.specs.Serving.{Runs, Tells}
+use Rattle.nq_serving.specs.ServerLeaving.{IsLeftInRuns, LeavesServing}
+use Rattle.nq_serving.specs.Serving.{Runs, Tells}
 use Rattle.nq_model.specs.Kept.{Kept}
-use Rattle.nq_hosts.specs.Clocks.{ClockTold}
-use Rattle.nq_hosts.specs.Links.{LinkTold}
+use Rattle.nq_clock.specs.Clocks.{ClockTold}
+use Rattle.nq_link.specs.Links.{LinkTold}
 use Rattle.nq_service.specs.Serving.{EndsServing, ServesStore, StaysSame, Survives}
 use Rattle.nq_store.specs.Opening.{AnswersOpen, FollowsOpen, LeavesLike, disk_of}
 use Rattle.nq_store.specs.Storing.{AllStandFor, GoesOn, HasRisen, IsFresh, IsKept, LeavesKept, StoredStore, content_of, faults_of, kept_on, kept_told}

@@ -3,16 +3,16 @@
 -- stop between two moments may leave.
 use Rattle.std.specs.Option.{ForSome}
 use Rattle.std.specs.Prelude.{◌≡◌, ◌<◌, ℕ, List, [], Option, Some, None, Result, Err, length}
-use Rattle.nq_hosts.specs.DaemonLeaving.{IsLeftInRuns, LeavesServing}
-use Rattle.nq_hosts.specs.DaemonServing.{EndsBy}
+use Rattle.nq_serving.specs.DaemonLeaving.{IsLeftInRuns, LeavesServing}
+use Rattle.nq_serving.specs.DaemonServing.{EndsBy}
 use Rattle.nq_base.specs.declared.ending.halt.Halt.{Halt}
 use Rattle.nq_plan.specs.Standing.{stands_as}
 use Rattle.nq_image.specs.Nothing.{nothing_kept}
 use Rattle.nq_io.specs.Faults.{Rose}
 use Rattle.nq_model.specs.Kept.{Kept}
 use Rattle.nq_service.specs.Opening.{IsReady}
-use Rattle.nq_hosts.specs.Clocks.{ClockTold}
-use Rattle.nq_hosts.specs.Links.{LinkTold}
+use Rattle.nq_clock.specs.Clocks.{ClockTold}
+use Rattle.nq_link.specs.Links.{LinkTold}
 use Rattle.nq_disk.specs.Saying.{Each}
 use Rattle.nq_store.specs.Opening.{StaysBack, back_of}
 use Rattle.nq_store.specs.Storing.{AllStandFor, GoesOn, HasRisen, IsFresh, LeavesKept, StoredStore, content_of, faults_of, kept_on, kept_told}

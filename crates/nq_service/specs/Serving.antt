@@ -8,14 +8,14 @@ use Rattle.nq_base.specs.Status.{status_of}
 use Rattle.nq_base.specs.declared.ending.ending.Ending.{Ending}
 use Rattle.nq_base.specs.declared.ending.halt.Halt.{Halt}
 use Rattle.nq_plan.specs.Standing.{stands_as}
-use Rattle.nq_hosts.specs.ServerLeaving.{IsLeftInRuns, LeavesServing}
-use Rattle.nq_hosts.specs.Serving.{EndsBy, Tells}
+use Rattle.nq_serving.specs.ServerLeaving.{IsLeftInRuns, LeavesServing}
+use Rattle.nq_serving.specs.Serving.{EndsBy, Tells}
 use Rattle.nq_io.specs.Faults.{Rose}
 use Rattle.nq_model.specs.Kept.{Kept}
-use Rattle.nq_hosts.specs.Clocks.{ClockTold}
-use Rattle.nq_hosts.specs.Links.{LinkTold}
+use Rattle.nq_clock.specs.Clocks.{ClockTold}
+use Rattle.nq_link.specs.Links.{LinkTold}
 use Rattle.nq_disk.specs.Saying.{Each}
-use Rattle.nq_replay.specs.Lines.{PrintsLine}
+use Rattle.nq_io.specs.Sink.{PrintsLine}
 use Rattle.nq_store.specs.Opening.{TellsSettled}
 use Rattle.nq_store.specs.Storing.{AllStandFor, GoesOn, HasRisen, IsFresh, LeavesKept, StoredStore, content_of, faults_of, kept_on, kept_told}
 

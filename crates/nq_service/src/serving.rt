@@ -1,10 +1,10 @@
 //! Serving over the image on a disk.
 
 ghost use Rattle.std.specs.Prelude.{◌≡◌, ◌≤◌, IfOk, string_bytes};
-ghost use Rattle.nq_hosts.specs.Clocks.{clock_told};
-ghost use Rattle.nq_hosts.specs.Links.{link_told};
+ghost use Rattle.nq_clock.specs.Clocks.{clock_told};
+ghost use Rattle.nq_link.specs.Links.{link_told};
 ghost use Rattle.nq_base.specs.Status.{status_of};
-ghost use Rattle.nq_hosts.specs.ServerLeaving.{LeavesServing};
+ghost use Rattle.nq_serving.specs.ServerLeaving.{LeavesServing};
 ghost use Rattle.nq_service.specs.Serving.{EndsServing, PrintsBehind, ServesDisk, TellsByte, image_line};
 ghost use Rattle.nq_store.specs.Storing.{GoesOn, LeavesKept, content_of, faults_of};
 
@@ -12,10 +12,9 @@ use nq_base::NoMemory;
 use nq_base::ending::Ending;
 use nq_clock::Clock;
 use nq_disk::Disk;
-use nq_hosts::server::{Served, serve};
-use nq_io::Sink;
+use nq_io::{Sink, put_line};
 use nq_link::Link;
-use nq_replay::put_line;
+use nq_serving::server::{Served, serve};
 use nq_store::{OpenFault, Store};
 use std::alloc::Global;
 

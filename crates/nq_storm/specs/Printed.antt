@@ -9,7 +9,8 @@ use Rattle.nq_model.specs.Kept.{Kept}
 use Rattle.nq_model.specs.World.{run}
 use Rattle.nq_replay.specs.Playing.{beginning}
 use Rattle.nq_replay.specs.Reaching.{IsReached}
-use Rattle.nq_replay.specs.Lines.{PrintsLine, limit_line}
+use Rattle.nq_replay.specs.Lines.{limit_line}
+use Rattle.nq_io.specs.Sink.{PrintsLine}
 use Rattle.nq_replay.specs.Replay.{journal_of, journal_printed, kept_of}
 use Rattle.nq_replay.specs.Schedules.{PrintsBytes, bound_of}
 use Rattle.nq_script.specs.Lines.{once}

@@ -4,8 +4,8 @@ use nq_base::ending::Halt;
 use nq_base::{Answer, Call, Inc, Journal, Who};
 use nq_client::Client;
 use nq_clock::{Clock, StdClock};
-use nq_hosts::node::{ClientTurn, client_turn, send_all};
-use nq_link::UdpLink;
+use nq_hosts::node::{ClientTurn, client_turn};
+use nq_link::{UdpLink, send_all};
 use nq_wire::Outbox;
 use std::alloc::Global;
 

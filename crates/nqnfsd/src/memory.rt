@@ -1,7 +1,7 @@
 //! How much memory the program has.
 
-use nq_hosts::traffic::Gauge;
 use nq_script::words::{cut, number};
+use nq_serving::traffic::Gauge;
 use std::fs;
 
 /// The file in which the system tells a program about itself.

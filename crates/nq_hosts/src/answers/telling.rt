@@ -160,12 +160,7 @@ fn tell_number<K: Sink>(
 }
 
 /// A number between two texts.
-pub(crate) fn numbered(
-    alloc: Global,
-    front: &str,
-    number: u64,
-    back: &str,
-) -> Result<String, NoMemory>
+fn numbered(alloc: Global, front: &str, number: u64, back: &str) -> Result<String, NoMemory>
     ensures { IfOk result (λ line. string_bytes line ≡ front.now ++ (decimal number ++ back.now)) }
 {
     Ok(format!(in alloc; "{front}{number}{back}")?)

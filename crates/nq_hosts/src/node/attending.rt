@@ -4,15 +4,14 @@ ghost use Rattle.std.specs.Prelude.{◌≡◌, ◌<◌, ◌^◌, length, Option,
 ghost use Rattle.nq_base.specs.declared.Answer.{Answer};
 ghost use Rattle.nq_base.specs.declared.Party.{Party};
 ghost use Rattle.nq_hosts.specs.ClientTurn.{AttendsTurn, GoesOn, Receives, SendsOut, Stages, Takes, first_of, given_by, goes_on, tick_due, turn_of};
-ghost use Rattle.nq_hosts.specs.Clocks.{clock_told};
-ghost use Rattle.nq_hosts.specs.Links.{link_told, most_bytes};
+ghost use Rattle.nq_clock.specs.Clocks.{clock_told};
+ghost use Rattle.nq_link.specs.Links.{link_told, most_bytes};
 
-use crate::node::sending::send_all;
-use crate::node::turns::{ClientTurn, MOST_BYTES, Stop};
+use crate::node::turns::{ClientTurn, Stop};
 use nq_base::{Answer, Journal, Party, Ticks};
 use nq_client::{Client, Heard};
 use nq_clock::Clock;
-use nq_link::{Came, Link, Sent};
+use nq_link::{Came, Link, MOST_BYTES, Sent, send_all};
 use nq_wire::Outbox;
 use std::alloc::Global;
 
@@ -146,7 +145,7 @@ fn tick_to(
 }
 
 /// Receives once, and gives a client the datagram that came.
-#[tactic(auto, unfolding(crate::specs::Links::most_bytes))]
+#[tactic(auto, unfolding(nq_link::specs::Links::most_bytes))]
 fn take_from<L: Link>(
     client: &mut Client,
     link: &mut L,

@@ -2,26 +2,6 @@
 
 use nq_base::Answer;
 
-/// The most bytes of a datagram that a turn looks at: one more than the longest of the protocol has.
-pub(crate) const MOST_BYTES: usize = 4401;
-
-/// What came of a turn of a server.
-#[derive(Clone, Copy)]
-pub(crate) enum Turn {
-    /// The clock rose or a datagram came, and all was taken in and sent.
-    Took,
-    /// The clock did not rise and no datagram came.
-    Quiet,
-    /// The link failed, which it has counted.
-    Link,
-    /// The keeper failed, which it has counted.
-    Keep,
-    /// Memory was wanting.
-    Memory,
-    /// The server has taken in all the datagrams and ticks that it counts.
-    Spent,
-}
-
 /// What came of a turn of a client.
 #[derive(Drop)]
 pub enum ClientTurn {
@@ -34,19 +14,6 @@ pub enum ClientTurn {
     /// Memory was wanting.
     Memory,
     /// The client has taken in all the calls, datagrams and ticks that it counts.
-    Spent,
-}
-
-/// Why a turn of a server stops.
-#[derive(Clone, Copy)]
-pub(crate) enum Halt {
-    /// The link failed.
-    Link,
-    /// The keeper failed.
-    Keep,
-    /// Memory was wanting.
-    Memory,
-    /// No more can be taken in.
     Spent,
 }
 

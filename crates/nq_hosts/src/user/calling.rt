@@ -1,12 +1,11 @@
 //! Running one call to its answer.
 
 ghost use Rattle.std.specs.Prelude.{◌≡◌};
-ghost use Rattle.nq_hosts.specs.Links.{link_told};
-ghost use Rattle.nq_hosts.specs.Clocks.{clock_told};
+ghost use Rattle.nq_link.specs.Links.{link_told};
+ghost use Rattle.nq_clock.specs.Clocks.{clock_told};
 ghost use Rattle.nq_hosts.specs.Calling.{Makes, RunsCall, SendsOut, refusal_of};
 ghost use Rattle.nq_hosts.specs.UserTurning.{between};
 
-use crate::node::send_all;
 use crate::user::aims::Aim;
 use crate::user::session::Session;
 use crate::user::turning::{is_reached, take_turns};
@@ -14,7 +13,7 @@ use nq_base::ending::Halt;
 use nq_base::{Answer, Call, Journal};
 use nq_client::Client;
 use nq_clock::Clock;
-use nq_link::{Link, Sent};
+use nq_link::{Link, Sent, send_all};
 use nq_wire::Outbox;
 use std::alloc::Global;
 

@@ -3,8 +3,8 @@
 ghost use Rattle.std.specs.Prelude.{◌≡◌, ◌<◌, ◌^◌, [], length, List, ℕ};
 ghost use Rattle.nq_base.specs.Entries.{EntryList};
 ghost use Rattle.nq_hosts.specs.Lines.{AreCalls, IsCall};
-ghost use Rattle.nq_hosts.specs.Clocks.{clock_told};
-ghost use Rattle.nq_hosts.specs.Links.{link_told};
+ghost use Rattle.nq_clock.specs.Clocks.{clock_told};
+ghost use Rattle.nq_link.specs.Links.{link_told};
 ghost use Rattle.nq_hosts.specs.Running.{Attends, Begins, Runs, RunsLine, RunsText};
 ghost use Rattle.nq_hosts.specs.UserTurning.{between};
 

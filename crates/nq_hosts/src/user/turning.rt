@@ -1,8 +1,8 @@
 //! Turns of a client, up to the one that reaches what they are taken for.
 
 ghost use Rattle.std.specs.Prelude.{◌≡◌};
-ghost use Rattle.nq_hosts.specs.Clocks.{clock_told};
-ghost use Rattle.nq_hosts.specs.Links.{link_told};
+ghost use Rattle.nq_clock.specs.Clocks.{clock_told};
+ghost use Rattle.nq_link.specs.Links.{link_told};
 ghost use Rattle.nq_hosts.specs.UserTurning.{TakesTurn, TakesTurns, between, reached};
 
 use crate::node::{ClientTurn, client_turn};

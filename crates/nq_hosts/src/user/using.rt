@@ -3,8 +3,8 @@
 ghost use Rattle.std.specs.Prelude.{◌≡◌, ◌<◌, ◌^◌, ℕ, List, Option, Some, length};
 ghost use Rattle.nq_hosts.specs.Lines.{AreCalls, Tells};
 ghost use Rattle.nq_base.specs.declared.ending.ending.Ending.{Ending};
-ghost use Rattle.nq_hosts.specs.Clocks.{clock_told};
-ghost use Rattle.nq_hosts.specs.Links.{link_told};
+ghost use Rattle.nq_clock.specs.Clocks.{clock_told};
+ghost use Rattle.nq_link.specs.Links.{link_told};
 ghost use Rattle.nq_hosts.specs.Using.{EndsBy, Uses, UsesText};
 
 use crate::answers::{tell_bytes, tell_end, tell_script};

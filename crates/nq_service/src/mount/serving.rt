@@ -2,8 +2,8 @@
 
 ghost use Rattle.std.specs.Prelude.{◌≡◌, ◌<◌, ◌≤◌, ◌^◌, IfErr, IfOk};
 ghost use Rattle.nq_service.specs.MountServing.{EndsServing, ServesImage, ServesNot};
-ghost use Rattle.nq_hosts.specs.Clocks.{clock_told};
-ghost use Rattle.nq_hosts.specs.Links.{link_told};
+ghost use Rattle.nq_clock.specs.Clocks.{clock_told};
+ghost use Rattle.nq_link.specs.Links.{link_told};
 ghost use Rattle.nq_store.specs.Storing.{IsFresh};
 
 use crate::mount::opening::open_or_make;
@@ -12,8 +12,8 @@ use crate::recent::RecentKeeper;
 use nq_base::ending::Halt;
 use nq_clock::Clock;
 use nq_disk::Disk;
-use nq_hosts::daemon::{Served, Watcher, keep_serving};
 use nq_link::Link;
+use nq_serving::daemon::{Served, Watcher, keep_serving};
 use nq_store::{OpenFault, Store};
 use std::alloc::Global;
 

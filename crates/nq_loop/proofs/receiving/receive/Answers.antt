@@ -4,7 +4,7 @@ use Rattle.nq_loop.proofs.Hearing.{none-came, none-heard, one-came, relinked}
 use Rattle.nq_loop.specs.Holding.{loop_of}
 use Rattle.nq_loop.specs.Looping.{HearsAt, MissesAt}
 use Rattle.nq_loop.specs.Sending.{told_of}
-use Rattle.nq_hosts.specs.Links.{Letter}
+use Rattle.nq_link.specs.Links.{Letter}
 use Rattle.nq_loop.proofs.receiving.receive.Goals as goal
 
 pub returns-in-Nothing : goal.returns-in-Nothing

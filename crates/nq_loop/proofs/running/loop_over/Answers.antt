@@ -1,7 +1,7 @@
 use Rattle.std.proofs.Common.{map, subst, sym, arith}
 use Rattle.std.specs.List.{AllByRecursion}
 use Rattle.std.specs.Prelude.{reverse}
-use Rattle.nq_hosts.specs.Clocks.{clock_told}
+use Rattle.nq_clock.specs.Clocks.{clock_told}
 use Rattle.nq_loop.proofs.Ends.{are-looped, begins, counts-loop, ends, keeps-loop}
 use Rattle.nq_loop.proofs.Takings.{now_at}
 use Rattle.nq_loop.specs.Holding.{IsLooped, IsLooping, loop_of}

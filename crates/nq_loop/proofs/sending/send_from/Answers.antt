@@ -2,7 +2,7 @@ use Rattle.std.proofs.Common.{◌<◌, ◌∷◌, [], length, map, Ok, Err, subs
 use Rattle.std.specs.Prelude.{IfSome}
 use Rattle.nq_loop.proofs.Posts.{all-sent, sent-more, stops-at}
 use Rattle.nq_loop.specs.Sending.{SendsAll, told_of}
-use Rattle.nq_hosts.proofs.Letters.{there}
+use Rattle.nq_link.proofs.Letters.{there}
 use Rattle.nq_loop.proofs.sending.send_from.Goals as goal
 
 pub loop-number-preserved : goal.loop-number-preserved

@@ -1,6 +1,6 @@
 use Rattle.std.proofs.Common.{◌≡◌, ◌≤◌, ◌∙◌, inl, inr, length, refl, sym, arith}
 use Rattle.std.specs.Prelude.{reverse}
-use Rattle.nq_hosts.specs.Clocks.{clock_told}
+use Rattle.nq_clock.specs.Clocks.{clock_told}
 use Rattle.nq_loop.proofs.Takings.{now_at, stopped, stopped-counts, went, went-counts}
 use Rattle.nq_loop.specs.Holding.{loop_of}
 use Rattle.nq_loop.proofs.taking.take_turns.Goals as goal

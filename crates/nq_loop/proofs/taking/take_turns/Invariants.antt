@@ -1,5 +1,5 @@
 use Rattle.std.proofs.Common.{◌≡◌, length}
-use Rattle.nq_hosts.specs.Clocks.{clock_told}
+use Rattle.nq_clock.specs.Clocks.{clock_told}
 use Rattle.nq_loop.proofs.Takings.{now_at}
 use Rattle.nq_loop.specs.Holding.{IsLooping, loop_of}
 use Rattle.nq_loop.specs.Turning.{Goes}

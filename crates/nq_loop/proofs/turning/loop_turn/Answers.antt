@@ -1,4 +1,4 @@
-use Rattle.nq_hosts.specs.Clocks.{clock_told}
+use Rattle.nq_clock.specs.Clocks.{clock_told}
 use Rattle.nq_loop.proofs.Turned.{keeps-turn, turned}
 use Rattle.nq_loop.specs.Holding.{loop_of}
 use Rattle.nq_loop.proofs.turning.loop_turn.Goals as goal

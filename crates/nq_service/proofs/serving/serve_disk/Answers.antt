@@ -1,6 +1,6 @@
 use Rattle.std.proofs.Common.{Err, inl, inr, refl, ap, ◌∙◌}
-use Rattle.nq_hosts.specs.Clocks.{clock_told}
-use Rattle.nq_hosts.specs.Links.{link_told}
+use Rattle.nq_clock.specs.Clocks.{clock_told}
+use Rattle.nq_link.specs.Links.{link_told}
 use Rattle.nq_store.specs.Opening.{disk_of}
 use Rattle.nq_service.proofs.Refusing.{bad_field, failed, lacks_memory, not_an_image, stays_back}
 use Rattle.nq_service.proofs.Surviving.{serves_opened}

@@ -1,5 +1,5 @@
-use Rattle.nq_hosts.specs.Clocks.{clock_told}
-use Rattle.nq_hosts.specs.Links.{link_told}
+use Rattle.nq_clock.specs.Clocks.{clock_told}
+use Rattle.nq_link.specs.Links.{link_told}
 use Rattle.nq_hosts.proofs.ClientTurns.{stopped, went_on}
 use Rattle.nq_hosts.proofs.node.attending.attend.Goals as goal
 

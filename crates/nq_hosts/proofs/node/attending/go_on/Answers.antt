@@ -1,6 +1,6 @@
 use Rattle.std.proofs.Common.{refl, subst, Ok, Err}
 use Rattle.nq_hosts.specs.ClientTurn.{SendsOut}
-use Rattle.nq_hosts.specs.Links.{link_told}
+use Rattle.nq_link.specs.Links.{link_told}
 use Rattle.nq_hosts.proofs.node.attending.go_on.Goals as goal
 
 pub returns-in-Ok : goal.returns-in-Ok

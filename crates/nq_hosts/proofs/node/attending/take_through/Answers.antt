@@ -1,8 +1,8 @@
 use Rattle.std.proofs.Common.{take}
 use Rattle.nq_hosts.specs.ClientTurn.{Moment}
-use Rattle.nq_hosts.specs.Links.{LinkTold, link_told, most_bytes}
+use Rattle.nq_link.specs.Links.{LinkTold, link_told, most_bytes}
 use Rattle.nq_hosts.proofs.ClientTurns.{one_came}
-use Rattle.nq_hosts.proofs.Letters.{heard}
+use Rattle.nq_link.proofs.Letters.{heard}
 use Rattle.nq_hosts.proofs.node.attending.take_through.Goals as goal
 
 pub returns-in-Datagram : goal.returns-in-Datagram

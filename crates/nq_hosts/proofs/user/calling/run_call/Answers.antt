@@ -1,6 +1,6 @@
 use Rattle.std.proofs.Common.{Ok, Err, refl, sym, ◌∙◌}
-use Rattle.nq_hosts.specs.Clocks.{clock_told}
-use Rattle.nq_hosts.specs.Links.{link_told}
+use Rattle.nq_clock.specs.Clocks.{clock_told}
+use Rattle.nq_link.specs.Links.{link_told}
 use Rattle.nq_hosts.specs.UserTurning.{reached, between}
 use Rattle.nq_hosts.specs.declared.user.aims.Aim.{Aim}
 use Rattle.nq_hosts.proofs.UserRuns.{at_once, later}

@@ -1,5 +1,5 @@
 use Rattle.std.proofs.Common.{◌≡◌, [], IfOk, subst}
-use Rattle.nq_hosts.specs.Links.{link_told}
+use Rattle.nq_link.specs.Links.{link_told}
 use Rattle.nq_hosts.proofs.UserRuns.{begun, not_begun}
 use Rattle.nq_hosts.proofs.user.running.begin.Goals as goal
 

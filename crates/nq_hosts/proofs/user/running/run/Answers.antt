@@ -1,6 +1,6 @@
 use Rattle.std.proofs.Common.{◌≡◌, [], IfOk, Ok, Err, refl, subst}
-use Rattle.nq_hosts.specs.Clocks.{clock_told}
-use Rattle.nq_hosts.specs.Links.{link_told}
+use Rattle.nq_clock.specs.Clocks.{clock_told}
+use Rattle.nq_link.specs.Links.{link_told}
 use Rattle.nq_hosts.specs.UserTurning.{Between, between}
 use Rattle.nq_hosts.proofs.user.running.run.Goals as goal
 

@@ -1,7 +1,7 @@
 use Rattle.std.proofs.Common.{Some, None, subst}
 use Rattle.nq_hosts.specs.declared.node.turns.ClientTurn.{ClientTurn}
-use Rattle.nq_hosts.specs.Clocks.{clock_told}
-use Rattle.nq_hosts.specs.Links.{link_told}
+use Rattle.nq_clock.specs.Clocks.{clock_told}
+use Rattle.nq_link.specs.Links.{link_told}
 use Rattle.nq_hosts.specs.UserTurning.{Attends, Between, between}
 use Rattle.nq_hosts.proofs.user.turning.take_turn.Goals.{in-Quiet, in-Answered, in-Link, in-Memory, in-Spent}
 use Rattle.nq_hosts.proofs.user.turning.take_turn.Goals as goal

@@ -1,6 +1,6 @@
 use Rattle.std.proofs.Common.{add-one, subst}
-use Rattle.nq_hosts.specs.Clocks.{clock_told}
-use Rattle.nq_hosts.specs.Links.{link_told}
+use Rattle.nq_clock.specs.Clocks.{clock_told}
+use Rattle.nq_link.specs.Links.{link_told}
 use Rattle.nq_hosts.specs.UserTurning.{Between, Turns, between}
 use Rattle.nq_hosts.proofs.UserRuns.{stopped}
 use Rattle.nq_hosts.proofs.user.turning.take_turns.Goals as goal

@@ -2,8 +2,8 @@ use Rattle.std.proofs.Common.{◌≡◌, IfSome, sym, subst, ◌∙◌}
 use Rattle.nq_hosts.specs.Telling.{bytes_line, last_line}
 use Rattle.nq_hosts.specs.Lines.{AreCalls}
 use Rattle.nq_hosts.proofs.UserCauses.{bytes_by, lawful_bytes, lawful_text, text_by}
-use Rattle.nq_hosts.specs.Clocks.{clock_told}
-use Rattle.nq_hosts.specs.Links.{link_told}
+use Rattle.nq_clock.specs.Clocks.{clock_told}
+use Rattle.nq_link.specs.Links.{link_told}
 use Rattle.nq_hosts.proofs.user.using.client.Goals as goal
 
 pub returns-in-All-clause-cause : goal.returns-in-All-clause-cause

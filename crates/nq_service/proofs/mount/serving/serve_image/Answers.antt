@@ -1,5 +1,5 @@
-use Rattle.nq_hosts.specs.Clocks.{clock_told}
-use Rattle.nq_hosts.specs.Links.{link_told}
+use Rattle.nq_clock.specs.Clocks.{clock_told}
+use Rattle.nq_link.specs.Links.{link_told}
 use Rattle.nq_service.proofs.Opened.{of_ok}
 use Rattle.nq_service.proofs.MountSurviving.{refuses, serves_opened}
 use Rattle.nq_service.proofs.mount.serving.serve_image.Goals as goal

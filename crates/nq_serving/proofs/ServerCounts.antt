@@ -1,0 +1,267 @@
+-- Which counts a turn of a server raises, and how much the server takes in in it.
+use Rattle.std.proofs.Common.{◌≡◌, ◌∙◌, ◌+◌, ◌≤◌, ◌⊎◌, inl, inr, ◌||◌, nat_lt, ℕ, Bool, true, false, Option, Some, None, Result, Ok, Err, refl, sym, subst, arith}
+use Rattle.nq_base.specs.Entries.{EntryList}
+use Rattle.nq_io.specs.Faults.{Rose}
+use Rattle.nq_link.specs.Link.{Letters}
+use Rattle.nq_model.specs.Kept.{Kept}
+use Rattle.nq_model.specs.Profile.{most_taken_by_server}
+use Rattle.nq_model.specs.Server.{ServerStep}
+use Rattle.nq_clock.specs.Clocks.{ClockTold}
+use Rattle.nq_link.specs.Links.{LinkTold}
+use Rattle.nq_serving.specs.ServerTurn.{CountsKeep, CountsLink, Given, GoesOn, Moment, Receives, Sends, SendsOut, ServesTurn, Stages, Takes, TurnKeep, TurnLink, given_of, goes_on, step_on, tick_due, turn_of}
+use Rattle.nq_serving.specs.declared.node.turns.Halt.{Halt}
+use Rattle.nq_serving.specs.declared.node.turns.Turn.{Turn}
+use Rattle.nq_serving.proofs.ServerTurns.{not_link}
+use Rattle.nq_server.specs.Holding.{Holding, IsTaken}
+use Rattle.nq_server.specs.declared.Received.{Received}
+use Rattle.nq_wire.specs.Outbox.{Datagrams}
+
+-- ---- one step
+
+step-keep : {K : Type 0} (how : Received) (step : Kept → ServerStep) (told tells : Option Kept) (before count : ℕ) (old new : Holding K) (out out' : Datagrams)
+    (log log' : EntryList) → IsTaken step how told tells before count old new out out' log log' → CountsKeep (goes_on how) before count
+step-keep Received.Done step told tells before count old new out out' log log' t = t.1
+step-keep (Received.Dropped reason) step told tells before count old new out out' log log' t = t.1
+step-keep Received.Fault step told tells before count old new out out' log log' t = t.1
+step-keep Received.Memory step told tells before count old new out out' log log' t = t.1
+step-keep Received.Spent step told tells before count old new out out' log log' t = t.1
+
+step-few : {K : Type 0} (how : Received) (step : Kept → ServerStep) (told tells : Option Kept) (before count : ℕ) (old new : Holding K) (out out' : Datagrams)
+    (log log' : EntryList) → IsTaken step how told tells before count old new out out' log log' → new.taken ≤ old.taken + 1
+step-few Received.Done step told tells before count old new out out' log log' t = omega (arith, t.2)
+step-few (Received.Dropped reason) step told tells before count old new out out' log log' t = omega (arith, t.2)
+step-few Received.Fault step told tells before count old new out out' log log' t = let same = t.2.untouched.taken in omega arith
+step-few Received.Memory step told tells before count old new out out' log log' t = let same = t.2.untouched.taken in omega arith
+step-few Received.Spent step told tells before count old new out out' log log' t = let same = t.2.untouched.taken in omega arith
+
+only-spent : (how : Received) → goes_on how ≡ Err Halt.Spent → how ≡ Received.Spent
+only-spent Received.Done same = absurd (cc)
+only-spent (Received.Dropped reason) same = absurd (cc)
+only-spent Received.Fault same = absurd (cc)
+only-spent Received.Memory same = absurd (cc)
+only-spent Received.Spent same = refl
+
+-- ---- sending
+
+sent-link : (letters : Letters) (moved : Bool) (ended : Result Bool Halt) (link link' : LinkTold) → SendsOut letters moved ended link link'
+    → CountsLink ended link.faults link'.faults
+sent-link letters moved (Ok so) link link' s = s.1.2.1
+sent-link letters moved (Err Halt.Link) link link' s = s.2.1
+sent-link letters moved (Err Halt.Keep) link link' s = absurd s
+sent-link letters moved (Err Halt.Memory) link link' s = absurd s
+sent-link letters moved (Err Halt.Spent) link link' s = absurd s
+
+sent-keep : (letters : Letters) (moved : Bool) (ended : Result Bool Halt) (link link' : LinkTold) (before now : ℕ) → SendsOut letters moved ended link link'
+    → now ≡ before → CountsKeep ended before now
+sent-keep letters moved (Ok so) link link' before now s same = same
+sent-keep letters moved (Err Halt.Link) link link' before now s same = same
+sent-keep letters moved (Err Halt.Keep) link link' before now s same = absurd s
+sent-keep letters moved (Err Halt.Memory) link link' before now s same = absurd s
+sent-keep letters moved (Err Halt.Spent) link link' before now s same = absurd s
+
+-- why a stage stopped is why the turn does
+as-ended : (why : Halt) (before now : ℕ) → CountsKeep {X = Unit} (Err why) before now → CountsKeep {X = Bool} (Err why) before now
+as-ended Halt.Link before now counts = counts
+as-ended Halt.Keep before now counts = counts
+as-ended Halt.Memory before now counts = counts
+as-ended Halt.Spent before now counts = counts
+
+-- ---- the answer of a turn
+
+by-keep : (turn : Turn) (ended : Result Bool Halt) (before now : ℕ) → turn ≡ turn_of ended → CountsKeep ended before now → TurnKeep turn before now
+by-keep turn (Ok true) before now is counts = rw is counts
+by-keep turn (Ok false) before now is counts = rw is counts
+by-keep turn (Err Halt.Link) before now is counts = rw is counts
+by-keep turn (Err Halt.Keep) before now is counts = rw is counts
+by-keep turn (Err Halt.Memory) before now is counts = rw is counts
+by-keep turn (Err Halt.Spent) before now is counts = rw is counts
+
+by-link : (turn : Turn) (ended : Result Bool Halt) (before now : ℕ) → turn ≡ turn_of ended → CountsLink ended before now → TurnLink turn before now
+by-link turn (Ok true) before now is counts = rw is counts
+by-link turn (Ok false) before now is counts = rw is counts
+by-link turn (Err Halt.Link) before now is counts = rw is counts
+by-link turn (Err Halt.Keep) before now is counts = rw is counts
+by-link turn (Err Halt.Memory) before now is counts = rw is counts
+by-link turn (Err Halt.Spent) before now is counts = rw is counts
+
+of-spent : (ended : Result Bool Halt) → Turn.Spent ≡ turn_of ended → ended ≡ Err Halt.Spent
+of-spent (Ok true) same = absurd (cc)
+of-spent (Ok false) same = absurd (cc)
+of-spent (Err Halt.Link) same = absurd (cc)
+of-spent (Err Halt.Keep) same = absurd (cc)
+of-spent (Err Halt.Memory) same = absurd (cc)
+of-spent (Err Halt.Spent) same = refl
+
+module _ {K : Type 0} (content : K → Option Kept) (faults : K → ℕ) where
+  -- ---- what the server is given
+
+  given-keep : (given : Option Given) (goes : Result Unit Halt) (at after : Moment K) → Takes content faults given goes at after
+      → CountsKeep goes (faults at.server.keeper) (faults after.server.keeper)
+  given-keep None goes at after t = rw (t.0, t.1) refl
+  given-keep (Some given) goes at after s =
+      rw s.so (step-keep s.how (step_on given at) (content at.server.keeper) (content after.server.keeper) (faults at.server.keeper) (faults after.server.keeper)
+      at.server after.server at.out after.out at.log after.log s.takes)
+
+  given-few : (given : Option Given) (goes : Result Unit Halt) (at after : Moment K) → Takes content faults given goes at after
+      → after.server.taken ≤ at.server.taken + 1
+  given-few None goes at after t = rw t.1 (omega arith)
+  given-few (Some given) goes at after s =
+      step-few s.how (step_on given at) (content at.server.keeper) (content after.server.keeper) (faults at.server.keeper) (faults after.server.keeper)
+      at.server after.server at.out after.out at.log after.log s.takes
+
+  given-spent : (given : Option Given) (at after : Moment K) → Takes content faults given (Err Halt.Spent) at after
+      → at.server.taken ≡ most_taken_by_server
+  given-spent None at after t = let same = t.0 in absurd (cc)
+  given-spent (Some given) at after s = s.spent.0 (only-spent s.how (sym s.so))
+
+  -- ---- receiving
+
+  received-keep : (received : Result Bool Halt) (link link' : LinkTold) (at after : Moment K) → Receives content faults received link link' at after
+      → CountsKeep received (faults at.server.keeper) (faults after.server.keeper)
+  received-keep (Ok some) link link' at after r = given-keep (given_of r.0) (Ok tt) at after r.2.takes
+  received-keep (Err Halt.Link) link link' at after r = rw r.same refl
+  received-keep (Err Halt.Keep) link link' at after r = given-keep (given_of r.0) (Err Halt.Keep) at after r.1.takes
+  received-keep (Err Halt.Memory) link link' at after r = given-keep (given_of r.0) (Err Halt.Memory) at after r.1.takes
+  received-keep (Err Halt.Spent) link link' at after r = given-keep (given_of r.0) (Err Halt.Spent) at after r.1.takes
+
+  received-link : (received : Result Bool Halt) (link link' : LinkTold) (at after : Moment K) → Receives content faults received link link' at after
+      → CountsLink received link.faults link'.faults
+  received-link (Ok some) link link' at after r = r.2.count
+  received-link (Err Halt.Link) link link' at after r = r.count
+  received-link (Err Halt.Keep) link link' at after r = r.1.count
+  received-link (Err Halt.Memory) link link' at after r = r.1.count
+  received-link (Err Halt.Spent) link link' at after r = r.1.count
+
+  received-few : (received : Result Bool Halt) (link link' : LinkTold) (at after : Moment K) → Receives content faults received link link' at after
+      → after.server.taken ≤ at.server.taken + 1
+  received-few (Ok some) link link' at after r = given-few (given_of r.0) (Ok tt) at after r.2.takes
+  received-few (Err Halt.Link) link link' at after r = rw r.same (omega arith)
+  received-few (Err Halt.Keep) link link' at after r = given-few (given_of r.0) (Err Halt.Keep) at after r.1.takes
+  received-few (Err Halt.Memory) link link' at after r = given-few (given_of r.0) (Err Halt.Memory) at after r.1.takes
+  received-few (Err Halt.Spent) link link' at after r = given-few (given_of r.0) (Err Halt.Spent) at after r.1.takes
+
+  -- ---- behind the receive
+
+  sends-keep : (received ended : Result Bool Halt) (ticked : Bool) (link link' : LinkTold) (after : Moment K) (before : ℕ)
+      → Sends received ended ticked link link' after → CountsKeep received before (faults after.server.keeper)
+      → CountsKeep ended before (faults after.server.keeper)
+  sends-keep (Err why) ended ticked link link' after before s counts = rw s.0 counts
+  sends-keep (Ok came) ended ticked link link' after before s counts =
+      sent-keep after.out.datagrams (ticked || came) ended link link' before (faults after.server.keeper) s counts
+
+  sends-link : (received ended : Result Bool Halt) (ticked : Bool) (link between link' : LinkTold) (after : Moment K)
+      → Sends received ended ticked between link' after → CountsLink received link.faults between.faults
+      → CountsLink ended link.faults link'.faults
+  sends-link (Err why) ended ticked link between link' after s counts = rw (s.0, s.1) counts
+  sends-link (Ok came) ended ticked link between link' after s counts =
+      subst (λ n. CountsLink ended n link'.faults) counts (sent-link after.out.datagrams (ticked || came) ended between link' s)
+
+  sends-spent : (received : Result Bool Halt) (ticked : Bool) (between link link' : LinkTold) (at after : Moment K)
+      → Receives content faults received link between at after → Sends received (Err Halt.Spent) ticked between link' after
+      → at.server.taken ≡ most_taken_by_server
+  sends-spent (Ok came) ticked between link link' at after r s = absurd s
+  sends-spent (Err Halt.Link) ticked between link link' at after r s = let same = s.0 in absurd (cc)
+  sends-spent (Err Halt.Keep) ticked between link link' at after r s = let same = s.0 in absurd (cc)
+  sends-spent (Err Halt.Memory) ticked between link link' at after r s = let same = s.0 in absurd (cc)
+  sends-spent (Err Halt.Spent) ticked between link link' at after r s = given-spent (given_of r.0) at after r.1.takes
+
+  -- ---- behind the tick
+
+  rest-keep : (goes : Result Unit Halt) (ended : Result Bool Halt) (ticked : Bool) (link link' : LinkTold) (at after : Moment K) (before : ℕ)
+      → GoesOn content faults goes ended ticked link link' at after → CountsKeep goes before (faults at.server.keeper)
+      → CountsKeep ended before (faults after.server.keeper)
+  rest-keep (Err why) ended ticked link link' at after before g counts =
+      rw (g.0, g.2) (as-ended why before (faults at.server.keeper) counts)
+  rest-keep (Ok tt) ended ticked link link' at after before g counts =
+      sends-keep g.0 ended ticked g.1 link' after before g.3
+      (subst (λ n. CountsKeep g.0 n (faults after.server.keeper)) counts (received-keep g.0 link g.1 at after g.2))
+
+  rest-link : (goes : Result Unit Halt) (ended : Result Bool Halt) (ticked : Bool) (link link' : LinkTold) (at after : Moment K)
+      → (goes ≡ Err Halt.Link → ⊥) → GoesOn content faults goes ended ticked link link' at after → CountsLink ended link.faults link'.faults
+  rest-link (Err Halt.Link) ended ticked link link' at after not g = absurd (not refl)
+  rest-link (Err Halt.Keep) ended ticked link link' at after not g = rw (g.0, g.1) refl
+  rest-link (Err Halt.Memory) ended ticked link link' at after not g = rw (g.0, g.1) refl
+  rest-link (Err Halt.Spent) ended ticked link link' at after not g = rw (g.0, g.1) refl
+  rest-link (Ok tt) ended ticked link link' at after not g =
+      sends-link g.0 ended ticked link g.1 link' after g.3 (received-link g.0 link g.1 at after g.2)
+
+  rest-few : (goes : Result Unit Halt) (ended : Result Bool Halt) (ticked : Bool) (link link' : LinkTold) (at after : Moment K)
+      → GoesOn content faults goes ended ticked link link' at after → after.server.taken ≤ at.server.taken + 1
+  rest-few (Err why) ended ticked link link' at after g = rw g.2 (omega arith)
+  rest-few (Ok tt) ended ticked link link' at after g = received-few g.0 link g.1 at after g.2
+
+  rest-spent : (goes : Result Unit Halt) (ticked : Bool) (link link' : LinkTold) (at after : Moment K)
+      → GoesOn content faults goes (Err Halt.Spent) ticked link link' at after → (goes ≡ Err Halt.Spent) ⊎ (at.server.taken ≡ most_taken_by_server)
+  rest-spent (Err Halt.Link) ticked link link' at after g = let same = g.0 in absurd (cc)
+  rest-spent (Err Halt.Keep) ticked link link' at after g = let same = g.0 in absurd (cc)
+  rest-spent (Err Halt.Memory) ticked link link' at after g = let same = g.0 in absurd (cc)
+  rest-spent (Err Halt.Spent) ticked link link' at after g = inl refl
+  rest-spent (Ok tt) ticked link link' at after g = inr (sends-spent g.0 ticked g.1 link link' at after g.2 g.3)
+
+  -- ---- the whole turn
+
+  stages-keep : (ended : Result Bool Halt) (clock clock' : ClockTold) (link link' : LinkTold) (at after : Moment K)
+      → Stages content faults ended clock clock' link link' at after → CountsKeep ended (faults at.server.keeper) (faults after.server.keeper)
+  stages-keep ended clock clock' link link' at after s =
+      rest-keep s.goes ended (nat_lt at.server.beside.time s.reading) link link' s.between after (faults at.server.keeper) s.rest
+      (given-keep (tick_due at.server.beside.time s.reading) s.goes at s.between s.ticks)
+
+  stages-link : (ended : Result Bool Halt) (clock clock' : ClockTold) (link link' : LinkTold) (at after : Moment K)
+      → Stages content faults ended clock clock' link link' at after → CountsLink ended link.faults link'.faults
+  stages-link ended clock clock' link link' at after s =
+      let due = tick_due at.server.beside.time s.reading in
+      rest-link s.goes ended (nat_lt at.server.beside.time s.reading) link link' s.between after
+      (λ same. not_link content faults due at s.between (subst (λ goes. Takes content faults due goes at s.between) same s.ticks)) s.rest
+
+  stages-few : (ended : Result Bool Halt) (clock clock' : ClockTold) (link link' : LinkTold) (at after : Moment K)
+      → Stages content faults ended clock clock' link link' at after → after.server.taken ≤ at.server.taken + 2
+  stages-few ended clock clock' link link' at after s =
+      let first = given-few (tick_due at.server.beside.time s.reading) s.goes at s.between s.ticks in
+      let rest = rest-few s.goes ended (nat_lt at.server.beside.time s.reading) link link' s.between after s.rest in
+      omega arith
+
+  stages-spent : (ended : Result Bool Halt) (clock clock' : ClockTold) (link link' : LinkTold) (at after : Moment K) → ended ≡ Err Halt.Spent
+      → Stages content faults ended clock clock' link link' at after → (taken : ℕ) × (taken ≡ most_taken_by_server) × (taken ≤ at.server.taken + 1)
+  stages-spent ended clock clock' link link' at after is s =
+      let ticked = nat_lt at.server.beside.time s.reading in
+      let due = tick_due at.server.beside.time s.reading in
+      let first = given-few due s.goes at s.between s.ticks in
+      let rest = subst (λ e. GoesOn content faults s.goes e ticked link link' s.between after) is s.rest in
+      elim (rest-spent s.goes ticked link link' s.between after rest) [
+        | inl same ↦
+            let all = given-spent due at s.between (subst (λ goes. Takes content faults due goes at s.between) same s.ticks) in
+            (at.server.taken, all, omega arith)
+        | inr all ↦ (s.between.server.taken, all, first)
+      ]
+
+  -- the count of the keeper's faults rises where a turn stops for the keeper, and stays otherwise
+  pub turn_keep : (turn : Turn) (next next' : ℕ) (clock clock' : ClockTold) (link link' : LinkTold) (server server' : Holding K) (log log' : EntryList)
+      → ServesTurn content faults turn next next' clock clock' link link' server server' log log'
+      → TurnKeep turn (faults server.keeper) (faults server'.keeper)
+  turn_keep turn next next' clock clock' link link' server server' log log' t =
+      by-keep turn t.ended (faults server.keeper) (faults server'.keeper) t.answer
+      (stages-keep t.ended clock clock' link link' (record { server = server; out = t.out; log = log }) (record { server = server'; out = t.out'; log = log' })
+      t.stages)
+
+  -- the count of the link's faults rises where a turn stops for the link, and stays otherwise
+  pub turn_link : (turn : Turn) (next next' : ℕ) (clock clock' : ClockTold) (link link' : LinkTold) (server server' : Holding K) (log log' : EntryList)
+      → ServesTurn content faults turn next next' clock clock' link link' server server' log log' → TurnLink turn link.faults link'.faults
+  turn_link turn next next' clock clock' link link' server server' log log' t =
+      by-link turn t.ended link.faults link'.faults t.answer
+      (stages-link t.ended clock clock' link link' (record { server = server; out = t.out; log = log }) (record { server = server'; out = t.out'; log = log' })
+      t.stages)
+
+  -- a turn takes in two at most: a tick and a datagram
+  pub turn_few : (turn : Turn) (next next' : ℕ) (clock clock' : ClockTold) (link link' : LinkTold) (server server' : Holding K) (log log' : EntryList)
+      → ServesTurn content faults turn next next' clock clock' link link' server server' log log' → server'.taken ≤ server.taken + 2
+  turn_few turn next next' clock clock' link link' server server' log log' t =
+      stages-few t.ended clock clock' link link' (record { server = server; out = t.out; log = log }) (record { server = server'; out = t.out'; log = log' })
+      t.stages
+
+  -- a turn stops because no more is taken in only where all are taken in, or all but one
+  pub turn_spent : (next next' : ℕ) (clock clock' : ClockTold) (link link' : LinkTold) (server server' : Holding K) (log log' : EntryList)
+      → ServesTurn content faults Turn.Spent next next' clock clock' link link' server server' log log'
+      → (taken : ℕ) × (taken ≡ most_taken_by_server) × (taken ≤ server.taken + 1)
+  turn_spent next next' clock clock' link link' server server' log log' t =
+      stages-spent t.ended clock clock' link link' (record { server = server; out = t.out; log = log }) (record { server = server'; out = t.out'; log = log' })
+      (of-spent t.ended t.answer) t.stages

@@ -1,0 +1,16 @@
+use Rattle.nq_serving.proofs.ServerLeaves.{GoneOn}
+use Rattle.nq_serving.specs.Serving.{between}
+use Rattle.nq_clock.specs.Clocks.{clock_told}
+use Rattle.nq_link.specs.Links.{link_told}
+use Rattle.nq_serving.proofs.server.turning.take_turns.Given as goal
+
+abbrev pub invariant-loop-turn : goal.invariant-loop-turn
+invariant-loop-turn g l =
+    let clock_of = clock_told g.C.Clock.floor g.C.Clock.readings in
+    let link_of = link_told g.L.Link.sent g.L.Link.waiting g.L.Link.faults g.L.Link.receives in
+    record {
+      goes : GoneOn g.K.Keeper.content g.K.Keeper.faults g.K.Keeper.follows g.K.Keeper.leaves l._turn
+          (between l.fn.server l.fn.log l.fn.next (clock_of l.fn.clock) (link_of l.fn.link))
+          (between l.server l.log l.next (clock_of l.clock) (link_of l.link));
+      follows : g.K.Keeper.follows l.fn.server.keeper l.server.keeper;
+    }

@@ -1,0 +1,7 @@
+pub mod DaemonLeaving
+pub mod DaemonServing
+pub mod Leaving
+pub mod ServerLeaving
+pub mod ServerTurn
+pub mod Serving
+pub mod Turning

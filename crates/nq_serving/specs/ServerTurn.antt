@@ -1,0 +1,171 @@
+-- A turn of a server, stage by stage: it reads the clock once, ticks, receives once, and sends. Below, `content` is what a keeper tells of what
+-- it keeps, and `faults` is its count of faults.
+use Rattle.std.specs.Prelude.{◌≡◌, ◌↔◌, ◌||◌, ℕ, Bool, true, false, List, [], Option, Some, None, Result, Ok, Err, is_some, nat_lt, if◌then◌else◌}
+use Rattle.nq_base.specs.declared.Party.{Party}
+use Rattle.nq_datagrams.specs.Incoming.{datagram_in}
+use Rattle.nq_io.specs.Faults.{Rose}
+use Rattle.nq_base.specs.Entries.{EntryList}
+use Rattle.nq_link.specs.Link.{Letters}
+use Rattle.nq_link.specs.declared.Sent.{Sent}
+use Rattle.nq_model.specs.Kept.{Kept}
+use Rattle.nq_model.specs.Profile.{most_taken_by_server}
+use Rattle.nq_model.specs.Server.{ServerStep}
+use Rattle.nq_model.specs.ServerStep.{receive, tick}
+use Rattle.nq_clock.specs.Clocks.{ClockTold, ReadsOnce}
+use Rattle.nq_link.specs.Links.{Hears, Letter, LinkTold, Posts, ReceivesOnce, most_bytes}
+use Rattle.nq_serving.specs.declared.node.turns.Halt.{Halt}
+use Rattle.nq_serving.specs.declared.node.turns.Turn.{Turn}
+use Rattle.nq_server.specs.Holding.{Holding, IsTaken}
+use Rattle.nq_server.specs.State.{server_of}
+use Rattle.nq_server.specs.Stepping.{next_of}
+use Rattle.nq_server.specs.declared.Received.{Received}
+use Rattle.nq_wire.specs.Outbox.{Datagrams}
+
+-- a server with the outbox and the journal that it is lent, at a moment of a turn
+pub record Moment (K : Type 0) : Type 0 where
+  pub server : Holding K
+  pub out : Datagrams
+  pub log : EntryList
+
+-- what a turn gives a server: a tick of its clock, which then shows this time, or a datagram of a host
+pub data Given : Type 0 where
+  ticks : (now : ℕ) → Given
+  datagram : (host : ℕ) (bytes : List ℕ) → Given
+
+-- the step of the protocol that this makes of a kept state
+abbrev pub step_on : {K : Type 0} → Given → Moment K → Kept → ServerStep
+step_on (ticks now) at kept = tick (server_of at.server.beside kept) now
+step_on (datagram host bytes) at kept = receive (server_of at.server.beside kept) host (next_of at.out) (datagram_in bytes)
+
+-- whether a turn goes on after its server has taken something so, or why it stops
+abbrev pub goes_on : Received → Result Unit Halt
+goes_on Received.Fault = Err Halt.Keep
+goes_on Received.Memory = Err Halt.Memory
+goes_on Received.Spent = Err Halt.Spent
+goes_on other = Ok tt
+
+-- the server made the step of what it was given, or refused it
+pub record Steps {K : Type 0} (content : K → Option Kept) (faults : K → ℕ) (given : Given) (goes : Result Unit Halt) (at after : Moment K) : Type 0 where
+  pub how : Received
+  pub so : goes ≡ goes_on how
+  pub takes : IsTaken (step_on given at) how (content at.server.keeper) (content after.server.keeper) (faults at.server.keeper) (faults after.server.keeper) at.server after.server at.out after.out at.log after.log
+  pub spent : (how ≡ Received.Spent) ↔ (at.server.taken ≡ most_taken_by_server)
+
+-- the server took in what it was given, if it was given anything
+abbrev pub Takes : {K : Type 0} → (content : K → Option Kept) → (faults : K → ℕ) → Option Given → Result Unit Halt → (at after : Moment K) → Type 0
+Takes content faults None goes at after = (goes ≡ Ok tt) × (after ≡ at)
+Takes content faults (Some given) goes at after = Steps content faults given goes at after
+
+-- ---- the stages
+
+-- the tick that is due when the clock shows this time: one where it is above the server's time, else none
+abbrev pub tick_due : (time reading : ℕ) → Option Given
+tick_due time reading = if nat_lt time reading then Some (ticks reading) else None
+
+-- what is given of a datagram that came: that of a host, and none that the server itself sent
+abbrev pub given_by : Letter → Option Given
+given_by (Party.Server, bytes) = None
+given_by (Party.Client host, bytes) = Some (datagram host bytes)
+
+-- likewise, if one came
+abbrev pub given_of : Option Letter → Option Given
+given_of None = None
+given_of (Some letter) = given_by letter
+
+-- one receive was asked for and gave a datagram or none, and the server took it in, or refused it
+pub record TakesFrom {K : Type 0} (content : K → Option Kept) (faults : K → ℕ) (came : Option Letter) (goes : Result Unit Halt) (link link' : LinkTold) (at after : Moment K) : Type 0 where
+  pub hears : Hears most_bytes came link.waiting link'.waiting
+  pub sent : link'.sent ≡ link.sent
+  pub receives : ReceivesOnce link link'
+  pub count : link'.faults ≡ link.faults
+  pub takes : Takes content faults (given_of came) goes at after
+
+-- one receive failed
+pub record Misses {K : Type 0} (link link' : LinkTold) (at after : Moment K) : Type 0 where
+  pub waiting : link'.waiting ≡ link.waiting
+  pub sent : link'.sent ≡ link.sent
+  pub receives : ReceivesOnce link link'
+  pub count : Rose link.faults link'.faults
+  pub same : after ≡ at
+
+-- the stage that receives, by whether a datagram came or why the turn stops
+abbrev pub Receives : {K : Type 0} → (content : K → Option Kept) → (faults : K → ℕ) → Result Bool Halt → (link link' : LinkTold) → (at after : Moment K) → Type 0
+Receives content faults (Ok some) link link' at after =
+    (came : Option Letter) × (some ≡ is_some came) × TakesFrom content faults came (Ok tt) link link' at after
+Receives content faults (Err Halt.Link) link link' at after = Misses link link' at after
+Receives content faults (Err why) link link' at after =
+    (came : Option Letter) × TakesFrom content faults came (Err why) link link' at after
+
+-- what the stage that receives answers where a datagram came and was taken so: one came, or why the turn stops
+abbrev pub taken : Result Unit Halt → Result Bool Halt
+taken (Ok done) = Ok true
+taken (Err why) = Err why
+
+-- the stage that sends: all of these datagrams went over the link, and the turn ends with what moved it; or the link failed
+abbrev pub SendsOut : Letters → (moved : Bool) → (ended : Result Bool Halt) → (link link' : LinkTold) → Type 0
+SendsOut letters moved (Ok so) link link' = (so ≡ moved) × Posts Sent.All letters link link'
+SendsOut letters moved (Err Halt.Link) link link' = Posts Sent.Failed letters link link'
+SendsOut letters moved (Err other) link link' = ⊥
+
+-- after the receive: the turn stops, or it sends all that the server put into the outbox
+abbrev pub Sends : {K : Type 0} → (received ended : Result Bool Halt) → (ticked : Bool) → (link link' : LinkTold) → (after : Moment K) → Type 0
+Sends (Err why) ended ticked link link' after = (ended ≡ Err why) × (link' ≡ link)
+Sends (Ok came) ended ticked link link' after = SendsOut after.out.datagrams (ticked || came) ended link link'
+
+-- after the tick: the turn stops, or it receives and sends
+abbrev pub GoesOn : {K : Type 0} → (content : K → Option Kept) → (faults : K → ℕ) → (goes : Result Unit Halt) → (ended : Result Bool Halt) → (ticked : Bool) → (link link' : LinkTold) → (at after : Moment K) → Type 0
+GoesOn content faults (Err why) ended ticked link link' at after = (ended ≡ Err why) × (link' ≡ link) × (after ≡ at)
+GoesOn content faults (Ok done) ended ticked link link' at after =
+    (received : Result Bool Halt) × (between : LinkTold)
+    × Receives content faults received link between at after
+    × Sends received ended ticked between link' after
+
+-- The stages of a turn in their order. The clock is read exactly once. Exactly one receive is asked for where the tick did not stop the
+-- turn, and none where it did. The turn ended with whether the clock rose or a datagram came, or with why it stopped
+pub record Stages {K : Type 0} (content : K → Option Kept) (faults : K → ℕ) (ended : Result Bool Halt) (clock clock' : ClockTold) (link link' : LinkTold) (at after : Moment K) : Type 0 where
+  pub reading : ℕ
+  pub read : ReadsOnce reading clock clock'
+  pub goes : Result Unit Halt
+  pub between : Moment K
+  pub ticks : Takes content faults (tick_due at.server.beside.time reading) goes at between
+  pub rest : GoesOn content faults goes ended (nat_lt at.server.beside.time reading) link link' between after
+
+-- the answer of a turn that ended so
+abbrev pub turn_of : Result Bool Halt → Turn
+turn_of (Ok true) = Turn.Took
+turn_of (Ok false) = Turn.Quiet
+turn_of (Err Halt.Link) = Turn.Link
+turn_of (Err Halt.Keep) = Turn.Keep
+turn_of (Err Halt.Memory) = Turn.Memory
+turn_of (Err Halt.Spent) = Turn.Spent
+
+-- the count of the keeper's faults rises where it stopped for the keeper, and stays otherwise
+abbrev pub CountsKeep : {X : Type 0} → Result X Halt → (before now : ℕ) → Type 0
+CountsKeep (Err Halt.Keep) before now = Rose before now
+CountsKeep other before now = now ≡ before
+
+-- the count of the link's faults rises where it stopped for the link, and stays otherwise
+abbrev pub CountsLink : {X : Type 0} → Result X Halt → (before now : ℕ) → Type 0
+CountsLink (Err Halt.Link) before now = Rose before now
+CountsLink other before now = now ≡ before
+
+-- the same by the answer of a turn
+abbrev pub TurnKeep : Turn → (before now : ℕ) → Type 0
+TurnKeep Turn.Keep before now = Rose before now
+TurnKeep other before now = now ≡ before
+
+-- the same of the link's
+abbrev pub TurnLink : Turn → (before now : ℕ) → Type 0
+TurnLink Turn.Link before now = Rose before now
+TurnLink other before now = now ≡ before
+
+-- a turn with this answer: its stages, with an outbox that is empty at first and whose datagrams are numbered from `next` on
+pub record ServesTurn {K : Type 0} (content : K → Option Kept) (faults : K → ℕ) (turn : Turn) (next next' : ℕ) (clock clock' : ClockTold) (link link' : LinkTold) (server server' : Holding K) (log log' : EntryList) : Type 0 where
+  pub out : Datagrams
+  pub out' : Datagrams
+  pub first : out.first ≡ next
+  pub empty : out.datagrams ≡ []
+  pub last : next' ≡ next_of out'
+  pub ended : Result Bool Halt
+  pub answer : turn ≡ turn_of ended
+  pub stages : Stages content faults ended clock clock' link link' (record { server = server; out = out; log = log }) (record { server = server'; out = out'; log = log' })
