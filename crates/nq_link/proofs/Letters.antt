@@ -3,7 +3,7 @@ use Rattle.std.proofs.Common.{◌≡◌, ◌<◌, ◌≤◌, ℕ, zero, suc, Lis
 use Rattle.std.specs.Prelude.{slice_get}
 use Rattle.nq_base.specs.declared.Party.{Party}
 use Rattle.nq_link.specs.Link.{Letters, Comes, TakesFirst, with_last}
-use Rattle.nq_link.specs.declared.Came.{Came}
+use Rattle.nq_link.specs.declared.link.Came.{Came}
 use Rattle.nq_link.specs.Links.{Hears, IsFirst, Letter, SendsFront, with_all}
 
 -- an element at a place that is there

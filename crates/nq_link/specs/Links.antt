@@ -5,7 +5,7 @@ use Rattle.std.specs.Option.{ForSome}
 use Rattle.nq_base.specs.declared.Party.{Party}
 use Rattle.nq_io.specs.Faults.{Rose, count_up}
 use Rattle.nq_link.specs.Link.{Letters}
-use Rattle.nq_link.specs.declared.Sent.{Sent}
+use Rattle.nq_link.specs.declared.link.Sent.{Sent}
 
 -- a datagram, with the party at the other end of the link
 abbrev pub Letter : Type 0
