@@ -19,9 +19,9 @@ use Rattle.nq_model.specs.ReportedTest.{is_named_next, is_reported_in, must_repo
 use Rattle.nq_model.specs.SynchronizedTest.{is_kept as is_kept_by_law, is_kept_at as is_kept_at_by_law, is_put_kept as is_put_kept_by_law}
 use Rattle.nq_model.specs.Table.{same_who}
 use Rattle.nq_model.proofs.JournalTests.{tells_answer, tells_who}
-use Rattle.nq_check.specs.Kept.{is_kept, is_kept_at, is_put_kept}
+use Rattle.nq_rules.specs.Kept.{is_kept, is_kept_at, is_put_kept}
 use Rattle.nq_check.specs.Legal.{is_legal_answer, is_legal_at}
-use Rattle.nq_check.specs.Named.{is_named_at_once, is_reported, is_reported_at}
+use Rattle.nq_rules.specs.Named.{is_named_at_once, is_reported, is_reported_at}
 
 -- ---- what holds at each place, seen from a place
 

@@ -10,14 +10,15 @@ use Rattle.nq_base.specs.declared.Entry.TheVariants.{C, W, S, L, Z, A}
 use Rattle.nq_base.specs.declared.Said.TheVariants.{OkBy, Busy as SaidBusy}
 use Rattle.nq_base.specs.declared.Told.{Told}
 use Rattle.nq_base.specs.declared.Who.{Who}
-use Rattle.nq_check.specs.declared.links.Kind.{Kind}
-use Rattle.nq_check.specs.declared.links.Kind.TheVariants.{Calls, Covers, Cuts, Own}
-use Rattle.nq_check.specs.declared.sought.Sought.{Sought}
-use Rattle.nq_check.specs.declared.sought.Sought.TheVariants.{Call, Answer, AnswerBy, AnswerWith, Busy, Resize, Cut, Cover, Store, Loss, Covered, Lost}
-use Rattle.nq_check.specs.Links.{IsFree, block_spot, is_link, own_spot}
-use Rattle.nq_check.specs.Marks.{Spot, same_spot, spot}
-use Rattle.nq_check.specs.Sought.{kind_sought, passes, spot_sought}
-use Rattle.nq_check.proofs.Places.{taken_here}
+use Rattle.nq_rules.specs.declared.keys.Kind.{Kind}
+use Rattle.nq_rules.specs.declared.keys.Kind.TheVariants.{Calls, Covers, Cuts, Own}
+use Rattle.nq_rules.specs.declared.sought.Sought.{Sought}
+use Rattle.nq_rules.specs.declared.sought.Sought.TheVariants.{Call, Answer, AnswerBy, AnswerWith, Busy, Resize, Cut, Cover, Store, Loss, Covered, Lost}
+use Rattle.nq_check.specs.Links.{IsFree, is_link}
+use Rattle.nq_rules.specs.Keys.{block_spot, own_spot}
+use Rattle.nq_rules.specs.Marks.{Spot, same_spot, spot}
+use Rattle.nq_rules.specs.Sought.{kind_sought, passes, spot_sought}
+use Rattle.nq_rules.proofs.Places.{taken_here}
 use Rattle.nq_model.specs.Journal.{call_of, cuts, told_by}
 use Rattle.nq_model.specs.JournalTest.{covers, is_answer, is_answer_by, is_call, is_within, loss_covers, store_covers}
 use Rattle.nq_model.specs.LegalTest.{gives_value, is_answer_with}

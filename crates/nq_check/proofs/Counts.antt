@@ -7,10 +7,10 @@ use Rattle.std.proofs.Math.Seq.{take-length}
 use Rattle.nq_base.specs.declared.Entry.{Entry}
 use Rattle.nq_base.specs.declared.Entry.TheVariants.{R}
 use Rattle.nq_base.specs.declared.Who.{Who}
-use Rattle.nq_check.specs.declared.links.Kind.{Kind}
-use Rattle.nq_check.specs.declared.links.Kind.TheVariants.{Calls}
+use Rattle.nq_rules.specs.declared.keys.Kind.{Kind}
+use Rattle.nq_rules.specs.declared.keys.Kind.TheVariants.{Calls}
 use Rattle.nq_check.specs.Links.{IsFree, is_link}
-use Rattle.nq_check.specs.Marks.{Spot, spot}
+use Rattle.nq_rules.specs.Marks.{Spot, spot}
 use Rattle.nq_check.proofs.Climbs.{climb, link_call}
 use Rattle.nq_check.proofs.Followed.{taken_last}
 use Rattle.nq_model.specs.JournalTest.{is_counted, number_of}

@@ -7,17 +7,17 @@ use Rattle.std.proofs.lemmas.Option.{slice_get_within}
 use Rattle.nq_base.specs.declared.Entry.{Entry}
 use Rattle.nq_base.specs.declared.Entry.TheVariants.{W, S, G, F, O, X, L}
 use Rattle.nq_base.specs.declared.Who.{Who}
-use Rattle.nq_check.specs.Grants.{given}
+use Rattle.nq_rules.specs.Grants.{given}
 use Rattle.nq_check.specs.Leases.{HasEnd, HasEndBetween, IsStorePast}
 use Rattle.nq_check.specs.Links.{IsFree, is_link}
-use Rattle.nq_check.specs.Marks.{Spot, same_spot, spot}
+use Rattle.nq_rules.specs.Marks.{Spot, same_spot, spot}
 use Rattle.nq_check.specs.Rising.{IsNoLater, Rises}
-use Rattle.nq_check.specs.declared.rules.excused.Granted.{Granted}
-use Rattle.nq_check.specs.declared.links.Kind.TheVariants.{Grants, Stores, Own}
+use Rattle.nq_rules.specs.declared.excused.Granted.{Granted}
+use Rattle.nq_rules.specs.declared.keys.Kind.TheVariants.{Grants, Stores, Own}
 use Rattle.nq_check.proofs.Climbs.{climb, link_call}
 use Rattle.nq_check.proofs.Followed.{taken_last}
-use Rattle.nq_check.proofs.Once.{same_self}
-use Rattle.nq_check.proofs.Places.{taken_here}
+use Rattle.nq_check.proofs.Spots.{same_self}
+use Rattle.nq_rules.proofs.Places.{taken_here}
 use Rattle.nq_model.specs.CutOff.{Given, last_grant}
 use Rattle.nq_model.specs.CutOffTest.{ends, ends_first, has_passed, is_late_end, is_long_wait, is_store_over}
 use Rattle.nq_model.specs.JournalTest.{each, exists, is_within, loss_covers}

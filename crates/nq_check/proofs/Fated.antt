@@ -10,7 +10,7 @@ use Rattle.nq_check.specs.Fronts.{KeepsBelow}
 use Rattle.nq_check.specs.declared.rules.Rule.{Rule}
 use Rattle.nq_check.proofs.Delayed.{exists_more}
 use Rattle.nq_check.proofs.OwnWrite.{each_before}
-use Rattle.nq_check.proofs.Places.{taken_here}
+use Rattle.nq_rules.proofs.Places.{taken_here}
 use Rattle.nq_model.specs.FateTest.{is_accounted_at, is_first_to_cover}
 use Rattle.nq_model.specs.JournalTest.{covers, each, exists, is_lost, is_stored, loss_covers, store_covers}
 

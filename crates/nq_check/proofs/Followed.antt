@@ -4,13 +4,14 @@ use Rattle.std.specs.List.{slice_get}
 use Rattle.std.specs.Option.{option_or}
 use Rattle.nq_base.specs.declared.Entry.{Entry}
 use Rattle.nq_base.specs.declared.Who.{Who}
-use Rattle.nq_check.specs.declared.links.Kind.{Kind}
-use Rattle.nq_check.specs.declared.links.Kind.TheVariants.{Calls}
-use Rattle.nq_check.specs.Links.{IsFree, IsLinked, spot_of}
-use Rattle.nq_check.specs.Marks.{Spot, same_spot, spot}
+use Rattle.nq_rules.specs.declared.keys.Kind.{Kind}
+use Rattle.nq_rules.specs.declared.keys.Kind.TheVariants.{Calls}
+use Rattle.nq_check.specs.Links.{IsFree, IsLinked}
+use Rattle.nq_rules.specs.Keys.{spot_of}
+use Rattle.nq_rules.specs.Marks.{Spot, same_spot, spot}
 use Rattle.nq_check.proofs.Climbs.{skip_told}
-use Rattle.nq_check.proofs.Once.{same_is}
-use Rattle.nq_check.proofs.Places.{taken_here}
+use Rattle.nq_check.proofs.Spots.{same_is}
+use Rattle.nq_rules.proofs.Places.{taken_here}
 use Rattle.nq_model.specs.Journal.{call_of, told_by}
 
 -- the link of an entry of a key passes over none of that key

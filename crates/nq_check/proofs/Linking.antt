@@ -4,9 +4,10 @@ use Rattle.std.specs.Prelude.{if◌then◌else◌}
 use Rattle.std.specs.List.{slice_get}
 use Rattle.std.proofs.lemmas.Bool.{cases_lt, cases_Bool}
 use Rattle.nq_base.specs.declared.Entry.{Entry}
-use Rattle.nq_check.specs.declared.links.Kind.{Kind}
-use Rattle.nq_check.specs.Links.{IsFree, IsLinked, IsLinkedNext, is_link, is_member, spot_of}
-use Rattle.nq_check.specs.Marks.{IsMarked, Spot, mark_at, same_spot}
+use Rattle.nq_rules.specs.declared.keys.Kind.{Kind}
+use Rattle.nq_check.specs.Links.{IsFree, IsLinked, IsLinkedNext, is_link}
+use Rattle.nq_rules.specs.Keys.{is_member, spot_of}
+use Rattle.nq_rules.specs.Marks.{IsMarked, Spot, mark_at, same_spot}
 
 some_one : {X : Type 0} (x y : X) → Some x ≡ Some y → x ≡ y
 some_one x y e = cc

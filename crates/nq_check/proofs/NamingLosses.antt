@@ -9,10 +9,10 @@ use Rattle.nq_base.specs.declared.Said.TheVariants.{Lost}
 use Rattle.nq_base.specs.declared.Span.{Span}
 use Rattle.nq_base.specs.declared.Told.{Told}
 use Rattle.nq_base.specs.declared.Who.{Who}
-use Rattle.nq_check.specs.Marks.{IsMarked, Spot, mark_at, same_spot}
+use Rattle.nq_rules.specs.Marks.{IsMarked, Spot, mark_at, same_spot}
 use Rattle.nq_check.specs.Namings.{HasMark, HasNoMark, IsNamed, KeepsMarks, NamesAll, NamesAnew, NamesLost, NamesUpTo, is_lost_as, loss_spot}
-use Rattle.nq_check.proofs.Once.{marked_there}
-use Rattle.nq_check.proofs.Places.{drop_here}
+use Rattle.nq_check.proofs.Spots.{marked_there}
+use Rattle.nq_rules.proofs.Places.{drop_here}
 use Rattle.nq_model.specs.Journal.{Each, call_of}
 use Rattle.nq_model.specs.JournalTest.{exists, speaks_of}
 use Rattle.nq_model.specs.Reported.{loss_told}

@@ -1,66 +1,18 @@
 -- An S or L that covers numbers outside of all that are covered on a block covers no write again.
-use Rattle.std.proofs.Common.{◌≡◌, ◌<◌, ◌≤◌, ℕ, ◌+◌, Bool, true, false, not, ◌&&◌, ◌||◌, List, [], ◌∷◌, ◌++◌, take, drop, reverse, Some, inl, inr, refl, sym, ◌∙◌, ap, subst, arith}
-use Rattle.std.specs.Prelude.{◌-◌, if◌then◌else◌, nat_eq, nat_lt, IsTrue, Result, Ok, Err, IfOk}
-use Rattle.std.specs.List.{slice_get}
-use Rattle.std.proofs.lemmas.Bool.{and_parts, and_from, cases_Bool, eqb-true, eq-eqb, ltb-true, or_cases}
-use Rattle.std.proofs.lemmas.List.{reverse-append, take-append-drop}
+use Rattle.std.proofs.Common.{◌≡◌, ◌<◌, ◌≤◌, ℕ, Bool, true, false, not, ◌||◌, List, [], ◌∷◌, inl, inr, refl, sym, subst, arith}
+use Rattle.std.specs.Prelude.{◌-◌, nat_lt, IsTrue, Result, Ok, Err, IfOk}
+use Rattle.std.proofs.lemmas.Bool.{and_from, ltb-true, or_cases}
 use Rattle.nq_base.specs.declared.Entry.{Entry}
 use Rattle.nq_base.specs.declared.Entry.TheVariants.{W, S, L}
 use Rattle.nq_base.specs.declared.Who.{Who}
 use Rattle.nq_model.specs.FateTest.{is_first_to_cover}
 use Rattle.nq_model.specs.Journal.{Covers, Each, Exists, IsWithin}
-use Rattle.nq_model.specs.JournalTest.{covers, each, exists, throughout}
+use Rattle.nq_model.specs.JournalTest.{covers, each, exists}
 use Rattle.nq_model.proofs.JournalTests.{tells_covers, tells_exists}
 use Rattle.nq_check.specs.Covered.{Accounts, IsAnew, IsCoveredTo, IsExtended, IsRaised, IsReached, is_outside}
-use Rattle.nq_check.specs.Marks.{IsMarked, Spot, mark_at, same_spot, spot}
 use Rattle.nq_check.specs.declared.covering.Reach.{Reach}
-use Rattle.nq_check.proofs.Places.{taken_here}
-
--- ---- spots
-
-pub same_self : (at : Spot) → same_spot at at ≡ true
-same_self at =
-    and_from (nat_eq at.0.0 at.0.0 && nat_eq at.0.1 at.0.1) (nat_eq at.1.0 at.1.0 && nat_eq at.1.1 at.1.1)
-    (and_from (nat_eq at.0.0 at.0.0) (nat_eq at.0.1 at.0.1) (eq-eqb at.0.0 at.0.0 refl) (eq-eqb at.0.1 at.0.1 refl))
-    (and_from (nat_eq at.1.0 at.1.0) (nat_eq at.1.1 at.1.1) (eq-eqb at.1.0 at.1.0 refl) (eq-eqb at.1.1 at.1.1 refl))
-
-pub same_is : (a b : Spot) → same_spot a b ≡ true → a ≡ b
-same_is a b e =
-    let h = and_parts (nat_eq a.0.0 b.0.0 && nat_eq a.0.1 b.0.1) (nat_eq a.1.0 b.1.0 && nat_eq a.1.1 b.1.1) e in
-    let w = and_parts (nat_eq a.0.0 b.0.0) (nat_eq a.0.1 b.0.1) h.0 in
-    let f = and_parts (nat_eq a.1.0 b.1.0) (nat_eq a.1.1 b.1.1) h.1 in
-    let p = eqb-true a.0.0 b.0.0 w.0 in
-    let q = eqb-true a.0.1 b.0.1 w.1 in
-    let r = eqb-true a.1.0 b.1.0 f.0 in
-    let s = eqb-true a.1.1 b.1.1 f.1 in
-    λ i. ((p i, q i), (r i, s i))
-
-at_if : (b : Bool) (n m : ℕ) → b ≡ true → (if b then n else m) ≡ n
-at_if true n m e = refl
-at_if false n m e = absurd (cc)
-
-at_else : (b : Bool) (n m : ℕ) → b ≡ false → (if b then n else m) ≡ m
-at_else true n m e = absurd (cc)
-at_else false n m e = refl
-
--- the spot itself has the number
-pub marked_there : (at : Spot) (n : ℕ) (old new : List (Spot × ℕ)) → IsMarked at n old new → mark_at new at ≡ n
-marked_there at n old new h = h at ∙ at_if (same_spot at at) n (mark_at old at) (same_self at)
-
--- no mark sinks
-pub no_lower : (at : Spot) (n : ℕ) (old new : List (Spot × ℕ)) → IsMarked at n old new → mark_at old at ≤ n → (other : Spot)
-    → mark_at old other ≤ mark_at new other
-no_lower at n old new h l other =
-    elim (cases_Bool (same_spot at other)) [
-      | inl y ↦
-          let same : at ≡ other = same_is at other y in
-          let old_at : mark_at old at ≡ mark_at old other = ap (λ s. mark_at old s) same in
-          let new_at : mark_at new other ≡ n = h other ∙ at_if (same_spot at other) n (mark_at old other) y in
-          omega arith
-      | inr e ↦
-          let new_at : mark_at new other ≡ mark_at old other = h other ∙ at_else (same_spot at other) n (mark_at old other) e in
-          omega arith
-    ]
+use Rattle.nq_check.proofs.Spots.{marked_there, no_lower}
+use Rattle.nq_rules.specs.Marks.{IsMarked, Spot, mark_at, spot}
 
 -- ---- how far entries cover
 
@@ -211,28 +163,3 @@ raised_to at number old new low h =
 
 pub raised_before : (at : Spot) (number : ℕ) (marks : List (Spot × ℕ)) → number ≤ mark_at marks at → IsRaised at number marks marks
 raised_before at number marks low = record { least = low; rises = λ other. omega arith }
-
--- ---- a place of a journal
-
-exists_later : {X : Type 0} (test : X → Bool) (ys zs : List X) → exists test zs ≡ true → exists test (ys ++ zs) ≡ true
-exists_later test [] zs h = h
-exists_later test (y ∷ ys) zs h =
-    elim (cases_Bool (test y)) [
-      | inl t ↦ ap (λ b. b || exists test (ys ++ zs)) t
-      | inr f ↦ ap (λ b. b || exists test (ys ++ zs)) f ∙ exists_later test ys zs h
-    ]
-
--- a journal backwards, from a place on
-pub parted : {X : Type 0} (xs : List X) (k : ℕ) (x : X) → slice_get xs k ≡ Some x → reverse xs ≡ reverse (drop (k + 1) xs) ++ x ∷ reverse (take k xs)
-parted xs k x e =
-    ap reverse (sym (take-append-drop (k + 1) xs)) ∙ reverse-append (take (k + 1) xs) (drop (k + 1) xs)
-    ∙ ap (λ l. reverse (drop (k + 1) xs) ++ l) (taken_here xs k x e)
-
-pub exists_there : {X : Type 0} (test : X → Bool) (xs : List X) (k : ℕ) (x : X) → slice_get xs k ≡ Some x → test x ≡ true → exists test (reverse xs) ≡ true
-exists_there test xs k x e t =
-    subst (λ l. exists test l ≡ true) (sym (parted xs k x e))
-    (exists_later test (reverse (drop (k + 1) xs)) (x ∷ reverse (take k xs)) (ap (λ b. b || exists test (reverse (take k xs))) t))
-
-throughout_later : (test : Entry → List Entry → Bool) (ys zs : List Entry) → throughout test (ys ++ zs) ≡ true → throughout test zs ≡ true
-throughout_later test [] zs h = h
-throughout_later test (y ∷ ys) zs h = throughout_later test ys zs (and_parts (test y (ys ++ zs)) (throughout test (ys ++ zs)) h).1

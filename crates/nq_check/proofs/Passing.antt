@@ -8,7 +8,7 @@ use Rattle.nq_base.specs.declared.Entry.TheVariants.{L, A}
 use Rattle.nq_base.specs.declared.Said.TheVariants.{Lost}
 use Rattle.nq_check.specs.Fronts.{KeepsBelow, keeps_at}
 use Rattle.nq_check.specs.Losses.{PassBetween, is_ended, is_naming, is_told}
-use Rattle.nq_check.specs.Named.{is_reported}
+use Rattle.nq_rules.specs.Named.{is_reported}
 use Rattle.nq_check.specs.declared.rules.Rule.TheVariants.{Reported}
 use Rattle.nq_model.specs.Reported.{loss_told}
 

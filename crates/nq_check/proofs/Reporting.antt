@@ -11,13 +11,13 @@ use Rattle.nq_base.specs.declared.Said.TheVariants.{Lost}
 use Rattle.nq_base.specs.declared.Told.{Told}
 use Rattle.nq_base.specs.declared.Who.{Who}
 use Rattle.nq_check.specs.Fronts.{keeps_at}
-use Rattle.nq_check.specs.Marks.{IsMarked, Spot, mark_at, same_spot, spot}
-use Rattle.nq_check.specs.Named.{is_named_at_once, is_reported}
+use Rattle.nq_rules.specs.Marks.{IsMarked, Spot, mark_at, same_spot, spot}
+use Rattle.nq_rules.specs.Named.{is_named_at_once, is_reported}
 use Rattle.nq_check.specs.Reports.{AreNext, IsReportKey, TakesReport, answers}
 use Rattle.nq_check.specs.Tables.{NoneBetween}
 use Rattle.nq_check.specs.declared.rules.Rule.TheVariants.{Ordered}
-use Rattle.nq_check.proofs.Once.{same_self}
-use Rattle.nq_check.proofs.Places.{drop_here, taken_here}
+use Rattle.nq_check.proofs.Spots.{same_self}
+use Rattle.nq_rules.proofs.Places.{drop_here, taken_here}
 use Rattle.nq_model.specs.JournalTest.{exists, is_answer}
 use Rattle.nq_model.specs.OrderedTest.{is_in_order}
 use Rattle.nq_model.specs.ReportedTest.{is_busy_answer, is_reporting, must_report, names}

@@ -20,9 +20,9 @@ use Rattle.nq_model.proofs.LossTests.{tells_accounted, tells_excused, tells_repo
 use Rattle.nq_model.proofs.OrderedTest.{tells_ordered}
 use Rattle.nq_model.proofs.SynchronizedTest.{tells_synchronized}
 use Rattle.nq_check.proofs.Agreeing.{InOrder, Same, all_same, legal_same}
-use Rattle.nq_check.specs.Kept.{is_kept_at}
+use Rattle.nq_rules.specs.Kept.{is_kept_at}
 use Rattle.nq_check.specs.Legal.{is_legal_at}
-use Rattle.nq_check.specs.Named.{is_reported_at}
+use Rattle.nq_rules.specs.Named.{is_reported_at}
 use Rattle.nq_check.specs.Rules.{first_rule}
 use Rattle.nq_check.specs.Verdict.{fault_at, least_fault, verdict}
 

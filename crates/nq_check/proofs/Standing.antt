@@ -7,14 +7,15 @@ use Rattle.std.proofs.lemmas.Option.{slice_get_cases}
 use Rattle.nq_base.specs.declared.Entry.{Entry}
 use Rattle.nq_base.specs.declared.Entry.TheVariants.{W}
 use Rattle.nq_base.specs.declared.Who.{Who}
-use Rattle.nq_check.specs.declared.links.Kind.{Kind}
-use Rattle.nq_check.specs.declared.links.Kind.TheVariants.{Writes}
-use Rattle.nq_check.specs.Links.{IsFree, block_spot, is_link}
-use Rattle.nq_check.specs.Marks.{Spot}
+use Rattle.nq_rules.specs.declared.keys.Kind.{Kind}
+use Rattle.nq_rules.specs.declared.keys.Kind.TheVariants.{Writes}
+use Rattle.nq_check.specs.Links.{IsFree, is_link}
+use Rattle.nq_rules.specs.Keys.{block_spot}
+use Rattle.nq_rules.specs.Marks.{Spot}
 use Rattle.nq_check.specs.Tables.{HasBetween, NoneBetween}
 use Rattle.nq_check.proofs.Climbs.{climb}
 use Rattle.nq_check.proofs.Followed.{taken_last}
-use Rattle.nq_check.proofs.Places.{drop_here, taken_here}
+use Rattle.nq_rules.proofs.Places.{drop_here, taken_here}
 use Rattle.nq_model.specs.Journal.{cuts, last_value, since_cut, value_written}
 use Rattle.nq_model.specs.JournalTest.{exists}
 use Rattle.nq_model.specs.StandsTest.{stands}

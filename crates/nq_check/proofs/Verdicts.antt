@@ -6,7 +6,7 @@ use Rattle.std.proofs.lemmas.Option.{slice_get_within, slice_get_cases}
 use Rattle.std.proofs.lemmas.List.{length-reverse, length-take-le}
 use Rattle.std.proofs.Math.Seq.{take-length, drop-length}
 use Rattle.nq_base.specs.declared.Entry.{Entry}
-use Rattle.nq_check.proofs.Places.{drop_here, taken_here}
+use Rattle.nq_rules.proofs.Places.{drop_here, taken_here}
 use Rattle.nq_check.specs.declared.rules.Rule.{Rule}
 use Rattle.nq_check.specs.Rules.{first_rule}
 use Rattle.nq_check.specs.Verdict.{Fault, fault_at, least_fault, verdict}

@@ -3,7 +3,7 @@
 use Rattle.std.specs.Prelude.{◌≡◌, ◌≤◌, ◌-◌, ℕ, List, ◌∷◌, Bool, true, ◌||◌, nat_lt, ⊤}
 use Rattle.nq_base.specs.declared.Entry.{Entry}
 use Rattle.nq_base.specs.declared.Entry.TheVariants.{S, L}
-use Rattle.nq_check.specs.Marks.{Spot, mark_at, spot}
+use Rattle.nq_rules.specs.Marks.{Spot, mark_at, spot}
 use Rattle.nq_check.specs.declared.covering.Reach.{Reach}
 use Rattle.nq_model.specs.FateTest.{is_accounted_at}
 use Rattle.nq_model.specs.Journal.{Each}

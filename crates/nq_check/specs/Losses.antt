@@ -4,7 +4,7 @@ use Rattle.std.specs.List.{slice_get}
 use Rattle.nq_base.specs.declared.Entry.{Entry}
 use Rattle.nq_base.specs.declared.Entry.TheVariants.{L, A}
 use Rattle.nq_base.specs.declared.Said.TheVariants.{Lost}
-use Rattle.nq_check.specs.Named.{is_reported}
+use Rattle.nq_rules.specs.Named.{is_reported}
 use Rattle.nq_model.specs.CutOffTest.{is_cut_off}
 use Rattle.nq_model.specs.Journal.{call_of}
 use Rattle.nq_model.specs.Reported.{loss_told}

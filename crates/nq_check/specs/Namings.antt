@@ -7,7 +7,7 @@ use Rattle.nq_base.specs.declared.Span.{Span}
 use Rattle.nq_base.specs.declared.Told.{Told}
 use Rattle.nq_base.specs.declared.Who.{Who}
 use Rattle.nq_check.specs.Losses.{is_naming}
-use Rattle.nq_check.specs.Marks.{IsMarked, Spot, mark_at}
+use Rattle.nq_rules.specs.Marks.{IsMarked, Spot, mark_at}
 use Rattle.nq_model.specs.Journal.{Each, call_of}
 use Rattle.nq_model.specs.JournalTest.{exists, speaks_of}
 use Rattle.nq_model.specs.Reported.{loss_told}

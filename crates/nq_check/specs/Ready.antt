@@ -4,7 +4,7 @@ use Rattle.nq_base.specs.declared.Entry.{Entry}
 use Rattle.nq_check.specs.Fronts.{KeepsBelow}
 use Rattle.nq_check.specs.Links.{IsLinked}
 use Rattle.nq_check.specs.Tables.{AreTables}
-use Rattle.nq_check.specs.declared.links.Kind.TheVariants.{Delays}
+use Rattle.nq_rules.specs.declared.keys.Kind.TheVariants.{Delays}
 use Rattle.nq_check.specs.declared.links.Links.{Links}
 use Rattle.nq_check.specs.declared.tables.Tables.{Tables}
 use Rattle.nq_check.specs.declared.rules.Rule.TheVariants.{Ordered, Synchronized}

@@ -5,7 +5,7 @@ use Rattle.nq_base.specs.declared.Entry.TheVariants.{C}
 use Rattle.nq_base.specs.declared.Told.{Told}
 use Rattle.nq_base.specs.declared.Told.TheVariants.{Write, WriteSync, Sync, Resize, Remove}
 use Rattle.nq_base.specs.declared.Who.{Who}
-use Rattle.nq_check.specs.Marks.{Spot, mark_at, spot}
+use Rattle.nq_rules.specs.Marks.{Spot, mark_at, spot}
 use Rattle.nq_check.specs.Tables.{NoneBetween}
 use Rattle.nq_model.specs.JournalTest.{is_answer}
 use Rattle.nq_model.specs.ReportedTest.{must_report}

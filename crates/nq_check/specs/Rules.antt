@@ -3,9 +3,9 @@ use Rattle.std.specs.Prelude.{List, [], ◌∷◌, Option, Some, None, Bool, ◌
 use Rattle.nq_base.specs.declared.Entry.{Entry}
 use Rattle.nq_check.specs.declared.rules.Rule.{Rule}
 use Rattle.nq_check.specs.declared.rules.Rule.TheVariants.{Legal, Ordered, Accounted, Reported, Synchronized}
-use Rattle.nq_check.specs.Kept.{is_kept_at}
+use Rattle.nq_rules.specs.Kept.{is_kept_at}
 use Rattle.nq_check.specs.Legal.{is_legal_at}
-use Rattle.nq_check.specs.Named.{is_reported_at}
+use Rattle.nq_rules.specs.Named.{is_reported_at}
 use Rattle.nq_model.specs.CutOffTest.{is_cut_off}
 use Rattle.nq_model.specs.FateTest.{is_accounted_at}
 use Rattle.nq_model.specs.OrderedTest.{is_in_order}

@@ -4,7 +4,7 @@ use Rattle.std.specs.List.{slice_get}
 use Rattle.nq_base.specs.declared.Entry.{Entry}
 use Rattle.nq_check.specs.declared.tables.Leases.{Leases}
 use Rattle.nq_check.specs.declared.tables.Tables.{Tables}
-use Rattle.nq_check.specs.declared.links.Kind.TheVariants.{Calls, Writes, Covers, Cuts, Own, Grants, Stores}
+use Rattle.nq_rules.specs.declared.keys.Kind.TheVariants.{Calls, Writes, Covers, Cuts, Own, Grants, Stores}
 use Rattle.nq_check.specs.Links.{IsLinked}
 
 -- the grants, stores and writes of a journal are linked

@@ -5,9 +5,11 @@ ghost use Rattle.nq_check.specs.Covered.{Accounts, IsAnew, IsRaised, is_outside}
 ghost use Rattle.nq_check.specs.Fronts.{KeepsBelow};
 ghost use Rattle.nq_check.specs.declared.rules.Rule.{Rule};
 
-use crate::links::{Heads, Key, head_at, own_key, set_head};
-use crate::sought::{Sought, is_there};
+use crate::along::is_there;
+use crate::links::{Heads, head_at, set_head};
 use nq_base::{Entry, NoMemory, Number, Who};
+use nq_rules::keys::{Key, own_key};
+use nq_rules::sought::Sought;
 use std::alloc::Global;
 use std::collections::HashMap;
 

@@ -1,25 +1,26 @@
 //! A fast pass over the losses before which a lease has ended, late enough.
 
-ghost use Rattle.std.specs.Prelude.{◌≡◌, ◌+◌, ◌<◌, ◌≤◌, ◌&&◌, nat_eq, nat_le, true, IsTrue, Some, IfOk, IfSome, length, reverse, take};
+ghost use Rattle.std.specs.Prelude.{◌≡◌, ◌+◌, ◌<◌, ◌≤◌, ◌&&◌, nat_eq, nat_le, true, IsTrue, Some, IfOk, IfSome, drop, length, reverse, take};
 ghost use Rattle.std.specs.List.{slice_get};
-ghost use Rattle.nq_check.specs.Grants.{given};
+ghost use Rattle.nq_rules.specs.Grants.{given};
 ghost use Rattle.nq_check.specs.Leases.{AreLinked, HasEndBetween, IsStorePast};
 ghost use Rattle.nq_check.specs.Links.{IsFree, IsLinked};
 ghost use Rattle.nq_check.specs.Losses.{PassBetween, is_ended};
 ghost use Rattle.nq_check.specs.Tables.{AreTables};
 ghost use Rattle.nq_model.specs.CutOff.{last_grant};
-ghost use Rattle.nq_model.specs.CutOffTest.{has_passed, is_store_over};
+ghost use Rattle.nq_model.specs.CutOffTest.{has_passed, is_cut_off, is_store_over};
 ghost use Rattle.nq_model.specs.JournalTest.{each};
 ghost use Rattle.nq_model.specs.Table.{same_who};
 
-use crate::links::{Heads, Key, Kind, Links, file_key, head_at, own_key, set_head};
+use crate::along::{back_from, covers_behind};
+use crate::links::{Heads, Links, head_at, set_head};
 use crate::rising::rising_front;
-use crate::rules::excused::{
-    Granted, WRITE_SLACK, grant_by, has_passed, is_grant_over, is_long_wait,
-};
-use crate::sought::{back_from, covers_behind};
 use crate::tables::Tables;
 use nq_base::{Entry, FileId, NoMemory, Ticks, Who};
+use nq_rules::excused::{
+    Granted, WRITE_SLACK, ends_first, grant_by, has_passed, is_grant_over, is_long_wait,
+};
+use nq_rules::keys::{Key, Kind, file_key, own_key};
 use std::alloc::Global;
 use std::collections::HashMap;
 
@@ -290,4 +291,19 @@ pub(crate) fn endings_front(
         take_end(&mut ends, place, entry)?;
     }
     Ok(whole.len())
+}
+
+/// Whether an L is cut off.
+pub(crate) fn is_cut_off(tables: &Tables, whole: &[Entry], place: usize, entry: &Entry) -> bool
+    requires tables { AreTables whole.now tables.now }
+    requires within { place < length whole.now }
+    ensures { result ≡ is_cut_off (drop (place + 1) whole.now) entry.now (reverse (take place whole.now)) }
+{
+    match entry {
+        Entry::L { who, file, .. } => {
+            ends_first(&whole[..place], entry, who, *file)
+                && !covers_behind(&tables.leases.own, whole, place, entry)
+        }
+        _ => true,
+    }
 }

@@ -5,12 +5,13 @@ ghost use Rattle.std.specs.Prelude.{IfOk};
 ghost use Rattle.nq_check.specs.Fronts.{KeepsBelow};
 ghost use Rattle.nq_check.specs.declared.rules.Rule.{Rule};
 
+use crate::along::is_there;
 use crate::covering::{accounted_front, number_key, places_of_writes};
 use crate::links::{Heads, head_at};
-use crate::rules::entries::covers;
-use crate::sought::{Sought, is_there};
 use crate::tables::Tables;
 use nq_base::{Entry, NoMemory, Number};
+use nq_rules::entries::covers;
+use nq_rules::sought::Sought;
 use std::alloc::Global;
 
 /// What became of delayed writes.

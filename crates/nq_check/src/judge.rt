@@ -7,16 +7,16 @@ ghost use Rattle.nq_check.specs.Rules.{first_rule};
 ghost use Rattle.nq_check.specs.Tables.{AreTables};
 ghost use Rattle.nq_check.specs.Verdict.{IsVerdict, verdict};
 
+use crate::endings::is_cut_off;
 use crate::fronts::{Fronts, find_fronts};
 use crate::legal::is_legal;
-use crate::rules::accounted::is_accounted_at;
-use crate::rules::excused::is_cut_off;
-use crate::rules::named::is_reported_at;
-use crate::rules::ordered::is_in_order;
-use crate::rules::synchronized::is_kept_at;
 use crate::rules::{Judged, Rule};
 use crate::tables::{Tables, make_tables};
 use nq_base::{Entry, Journal, NoMemory};
+use nq_rules::accounted::is_accounted_at;
+use nq_rules::named::is_reported_at;
+use nq_rules::ordered::is_in_order;
+use nq_rules::synchronized::is_kept_at;
 use std::alloc::Global;
 
 /// Whether the entry at a place keeps a rule, which the entries before the front are known to keep.

@@ -3,20 +3,20 @@
 ghost use Rattle.std.specs.Prelude.{◌≡◌, [], IfOk, IsTrue, Some, reverse, take, true};
 ghost use Rattle.std.specs.List.{slice_get};
 ghost use Rattle.nq_check.specs.Fronts.{KeepsBelow};
-ghost use Rattle.nq_check.specs.Kept.{is_kept, is_kept_at};
+ghost use Rattle.nq_rules.specs.Kept.{is_kept, is_kept_at};
 ghost use Rattle.nq_check.specs.Ready.{IsReady};
 ghost use Rattle.nq_check.specs.Tables.{AreTables};
 ghost use Rattle.nq_check.specs.declared.rules.Rule.{Rule};
 ghost use Rattle.nq_model.specs.JournalTest.{is_answer};
 
+use crate::along::call_along;
 use crate::fates::Fates;
 use crate::puts::is_put_kept;
-use crate::rules::synchronized::is_kept;
-use crate::sought::call_along;
 use crate::syncs::{Asked, is_resize_kept, is_sync_kept};
 use crate::tables::Tables;
 use crate::trail::{Trail, no_trail, take_in};
 use nq_base::{Entry, NoMemory, Said, Told};
+use nq_rules::synchronized::is_kept;
 use std::alloc::Global;
 
 /// Whether what an ok says is seen to be kept, with a look at few entries.

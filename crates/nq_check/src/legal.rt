@@ -11,13 +11,14 @@ ghost use Rattle.nq_model.specs.JournalTest.{is_counted, is_lost, is_stored};
 ghost use Rattle.nq_model.specs.LegalTest.{is_counted_by, is_counted_with, is_legal_read, is_reading};
 ghost use Rattle.nq_model.specs.StandsTest.{standing_value, stands};
 
+use crate::along::{back_from, call_along, is_before, is_between, is_somewhere, is_there};
 use crate::fates::{Fates, fate_at};
-use crate::links::{Kind, block_key, call_key};
-use crate::rules::calls::is_reading;
-use crate::rules::entries::{is_read_by, is_through, is_write_by, is_write_on, value_written};
-use crate::sought::{Sought, back_from, call_along, is_before, is_between, is_somewhere, is_there};
 use crate::tables::Tables;
 use nq_base::{BlockNo, Entry, FileId, Said, Who};
+use nq_rules::calls::is_reading;
+use nq_rules::entries::{is_read_by, is_through, is_write_by, is_write_on, value_written};
+use nq_rules::keys::{Kind, block_key, call_key};
+use nq_rules::sought::Sought;
 
 /// A read, as its R tells it.
 #[derive(Drop)]

@@ -1,6 +1,7 @@
 //! A judge of anybody's journal: whether it is sound, and which of its entries is the first at fault.
 #![tactic(auto)]
 
+mod along;
 mod covering;
 mod endings;
 mod fates;
@@ -9,7 +10,6 @@ mod judge;
 mod kept_front;
 pub mod laws;
 mod legal;
-mod lines;
 mod links;
 mod namings;
 mod ordering;
@@ -19,7 +19,6 @@ mod reports;
 mod rising;
 mod rules;
 mod settled;
-mod sought;
 mod syncs;
 mod tables;
 mod trail;

@@ -1,40 +1,16 @@
 //! Links from each entry of a journal back to the last one before it that has the same key.
 
 ghost use Rattle.std.specs.Prelude.{◌≡◌, ◌<◌, IfOk, OnOk, length};
-ghost use Rattle.nq_check.specs.Links.{IsLinked, IsLinkedNext, file_spot, is_member, own_spot, spot_of};
-ghost use Rattle.nq_check.specs.Marks.{IsMarked, mark_at, same_spot};
-ghost use Rattle.nq_check.specs.declared.links.Kind.TheVariants.{Calls, Writes, Cuts};
+ghost use Rattle.nq_check.specs.Links.{IsLinked, IsLinkedNext};
+ghost use Rattle.nq_rules.specs.Marks.{IsMarked, mark_at};
 
-use nq_base::{BlockNo, Entry, FileId, NoMemory, Who};
+use nq_base::{Entry, NoMemory};
+use nq_rules::keys::{Key, Kind, is_member, key_of};
 use std::alloc::Global;
 use std::collections::HashMap;
 
-/// A key: an incarnation, its host first, and two numbers.
-pub(crate) type Key = ((u32, u32), (u64, u64));
-
 /// For each key a place, counted from 1, and 0 where there is none.
 pub(crate) type Heads = HashMap<Key, usize>;
-
-/// What the links of a kind lead to, and by what key.
-#[derive(Clone, Copy)]
-pub(crate) enum Kind {
-    /// The grants to an incarnation on a file.
-    Grants,
-    /// The S of an incarnation on a file.
-    Stores,
-    /// The writes of an incarnation to a block.
-    Own,
-    /// The entries of a call.
-    Calls,
-    /// The writes of a block.
-    Writes,
-    /// The S and L of an incarnation on a block.
-    Covers,
-    /// The Z of a file.
-    Cuts,
-    /// The delayed writes of an incarnation on a file.
-    Delays,
-}
 
 /// The links of a kind.
 #[derive(Drop)]
@@ -43,158 +19,6 @@ pub(crate) struct Links {
     pub(crate) heads: Heads,
     /// For each entry the last one before it that its key leads to. Both are places counted from 1.
     pub(crate) earlier: Vec<usize>,
-}
-
-/// The key of a call.
-pub(crate) fn call_key(who: &Who, q: u64) -> Key
-    ensures { result ≡ ((who.now.host, who.now.inc), (q, 0)) }
-{
-    ((who.host.0, who.inc.0), (q, 0))
-}
-
-/// The key of a block.
-pub(crate) fn block_key(file: FileId, block: BlockNo) -> Key
-    ensures { result ≡ ((0, 0), (file, block)) }
-{
-    ((0, 0), (u64::from(file.0), u64::from(block.0)))
-}
-
-/// The key of a block as an incarnation's own.
-pub(crate) fn own_key(who: &Who, file: FileId, block: BlockNo) -> Key
-    ensures { result ≡ ((who.now.host, who.now.inc), (file, block)) }
-{
-    (
-        (who.host.0, who.inc.0),
-        (u64::from(file.0), u64::from(block.0)),
-    )
-}
-
-/// The key of a file as an incarnation's own.
-pub(crate) fn file_key(who: &Who, file: FileId) -> Key
-    ensures { result ≡ ((who.now.host, who.now.inc), (file, 0)) }
-{
-    own_key(who, file, BlockNo(0))
-}
-
-/// Whether two keys are one.
-pub(crate) fn same_key(a: Key, b: Key) -> bool
-    ensures { result ≡ same_spot a b }
-{
-    (a.0.0 == b.0.0 && a.0.1 == b.0.1) && (a.1.0 == b.1.0 && a.1.1 == b.1.1)
-}
-
-/// The key of the file that an entry names, as its incarnation's own.
-fn file_key_of(entry: &Entry) -> Key
-    ensures { result ≡ file_spot entry.now }
-{
-    match entry {
-        Entry::G { who, file, .. }
-        | Entry::S { who, file, .. }
-        | Entry::L { who, file, .. }
-        | Entry::W { who, file, .. } => file_key(who, *file),
-        _ => ((0, 0), (0, 0)),
-    }
-}
-
-/// The key of the block that an entry names, as its incarnation's own.
-pub(crate) fn own_key_of(entry: &Entry) -> Key
-    ensures { result ≡ own_spot entry.now }
-{
-    match entry {
-        Entry::W {
-            who,
-            file,
-            block,
-            ..
-        }
-        | Entry::R {
-            who,
-            file,
-            block,
-            ..
-        }
-        | Entry::S {
-            who,
-            file,
-            block,
-            ..
-        }
-        | Entry::L {
-            who,
-            file,
-            block,
-            ..
-        } => own_key(who, *file, *block),
-        _ => ((0, 0), (0, 0)),
-    }
-}
-
-/// The key of an entry of a call.
-fn call_key_of(entry: &Entry) -> Key
-    ensures { result ≡ spot_of Calls entry.now }
-{
-    match entry {
-        Entry::C { who, q, .. }
-        | Entry::R { who, q, .. }
-        | Entry::Z { who, q, .. }
-        | Entry::A { who, q, .. } => call_key(who, *q),
-        _ => ((0, 0), (0, 0)),
-    }
-}
-
-/// The key of a write among those of its block, and of a read that asks for it.
-fn block_key_of(entry: &Entry) -> Key
-    ensures { result ≡ spot_of Writes entry.now }
-{
-    match entry {
-        Entry::W { file, block, .. } | Entry::R { file, block, .. } => block_key(*file, *block),
-        _ => ((0, 0), (0, 0)),
-    }
-}
-
-/// The key of a Z, and of a read that asks for it.
-fn cut_key(entry: &Entry) -> Key
-    ensures { result ≡ spot_of Cuts entry.now }
-{
-    match entry {
-        Entry::Z { file, .. } | Entry::R { file, .. } => block_key(*file, BlockNo(0)),
-        _ => ((0, 0), (0, 0)),
-    }
-}
-
-/// The key of an entry.
-pub(crate) fn key_of(kind: Kind, entry: &Entry) -> Key
-    ensures { result ≡ spot_of kind entry.now }
-{
-    match kind {
-        Kind::Grants | Kind::Stores | Kind::Delays => file_key_of(entry),
-        Kind::Own | Kind::Covers => own_key_of(entry),
-        Kind::Calls => call_key_of(entry),
-        Kind::Writes => block_key_of(entry),
-        Kind::Cuts => cut_key(entry),
-    }
-}
-
-/// Whether links lead to an entry.
-pub(crate) fn is_member(kind: Kind, entry: &Entry) -> bool
-    ensures { result ≡ is_member kind entry.now }
-{
-    match kind {
-        Kind::Grants => matches!(entry, Entry::G { .. }),
-        Kind::Stores => matches!(entry, Entry::S { .. }),
-        Kind::Own => matches!(entry, Entry::W { .. }),
-        Kind::Calls => matches!(
-            entry,
-            Entry::C { .. } | Entry::R { .. } | Entry::Z { .. } | Entry::A { .. }
-        ),
-        Kind::Writes => matches!(entry, Entry::W { .. }),
-        Kind::Covers => matches!(entry, Entry::S { .. } | Entry::L { .. }),
-        Kind::Cuts => matches!(entry, Entry::Z { .. }),
-        Kind::Delays => match entry {
-            Entry::W { through, .. } => !*through,
-            _ => false,
-        },
-    }
 }
 
 /// The place of the last entry of a key, counted from 1.

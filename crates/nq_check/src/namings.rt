@@ -6,12 +6,13 @@ ghost use Rattle.nq_check.specs.Namings.{NamesAll, NamesAnew, NamesLost, NamesOn
 ghost use Rattle.nq_check.specs.Tables.{AreTables};
 ghost use Rattle.nq_model.specs.JournalTest.{exists};
 
-use crate::links::{Heads, Key, head_at, set_head};
-use crate::rules::calls::speaks_of;
-use crate::rules::named::{is_name_of, span_at};
-use crate::sought::call_along;
+use crate::along::call_along;
+use crate::links::{Heads, head_at, set_head};
 use crate::tables::Tables;
 use nq_base::{Entry, Loss, NoMemory, Number, Said, Span, Spans, Told, Who};
+use nq_rules::calls::speaks_of;
+use nq_rules::keys::Key;
+use nq_rules::named::{is_name_of, span_at};
 use std::alloc::Global;
 use std::collections::HashMap;
 

@@ -3,20 +3,44 @@
 ghost use Rattle.std.specs.Prelude.{◌≡◌, ◌+◌, ◌<◌, Some, IfOk, IsTrue, length, reverse, drop};
 ghost use Rattle.std.specs.List.{slice_get};
 ghost use Rattle.nq_check.specs.Fronts.{KeepsBelow};
-ghost use Rattle.nq_check.specs.InOrder.{IsNext, StandsInOrder, is_else};
+ghost use Rattle.nq_rules.specs.InOrder.{IsNext, StandsInOrder, is_else};
+ghost use Rattle.nq_rules.specs.Lines.{line_at, no_line};
 ghost use Rattle.nq_check.specs.Tables.{AreTables};
 ghost use Rattle.nq_model.specs.OrderedTest.{is_busy_next};
 ghost use Rattle.nq_check.specs.declared.rules.Rule.TheVariants.{Ordered};
 
 use crate::legal::is_counted;
-use crate::lines::{
-    Line, Lines, after_answer, after_call, after_read, after_resize, after_write, line_at,
-};
-use crate::rules::ordered::is_busy_next;
 use crate::tables::Tables;
 use nq_base::{Entry, NoMemory, Who};
+use nq_rules::lines::{Line, after_answer, after_call, after_read, after_resize, after_write};
+use nq_rules::ordered::is_busy_next;
 use std::alloc::Global;
 use std::collections::HashMap;
+
+/// The lines, each at its incarnation, the host first.
+type Lines = HashMap<(u32, u32), Line>;
+
+/// The line of an incarnation that has told nothing.
+fn no_line() -> Line
+    ensures { result ≡ no_line }
+{
+    Line {
+        highest: 0,
+        last: 0,
+        current: None,
+        busy: None,
+    }
+}
+
+/// The line of an incarnation.
+fn line_at(lines: &Lines, who: &Who) -> Line
+    ensures { result ≡ line_at lines.now.entries who.now }
+{
+    match lines.get(&(who.host.0, who.inc.0)) {
+        Some(line) => *line,
+        None => no_line(),
+    }
+}
 
 /// Sets the next line of an incarnation. False where there is none.
 fn set_next(lines: &mut Lines, who: &Who, next: Option<Line>) -> Result<bool, NoMemory>

@@ -3,17 +3,19 @@
 ghost use Rattle.std.specs.Prelude.{◌≡◌, ◌||◌, ◌+◌, ◌<◌, IsTrue, Some, length, reverse, take, true};
 ghost use Rattle.std.specs.List.{slice_get};
 ghost use Rattle.nq_check.specs.Fronts.{KeepsBelow};
-ghost use Rattle.nq_check.specs.Kept.{is_put_kept};
+ghost use Rattle.nq_rules.specs.Kept.{is_put_kept};
 ghost use Rattle.nq_check.specs.Tables.{AreTables};
 ghost use Rattle.nq_check.specs.declared.rules.Rule.TheVariants.{Ordered};
 ghost use Rattle.nq_model.specs.JournalTest.{is_answer, is_stored, is_through, somewhere};
 
-use crate::links::{Kind, call_key, head_at};
-use crate::rules::entries::{is_call, is_through, is_write_by};
-use crate::sought::{Sought, back_from, is_before};
+use crate::along::{back_from, is_before};
+use crate::links::head_at;
 use crate::tables::Tables;
 use crate::trail::Hints;
 use nq_base::{Entry, Who};
+use nq_rules::entries::{is_call, is_through, is_write_by};
+use nq_rules::keys::{Kind, call_key};
+use nq_rules::sought::Sought;
 
 /// Whether a write is through, or an S before a place covers it.
 fn is_through_or_stored(tables: &Tables, whole: &[Entry], place: usize, write: &Entry) -> bool

@@ -4,20 +4,22 @@ ghost use Rattle.std.specs.Prelude.{◌≡◌, ◌+◌, ◌<◌, true, IsTrue, S
 ghost use Rattle.std.specs.List.{slice_get};
 ghost use Rattle.nq_check.specs.Fronts.{KeepsBelow};
 ghost use Rattle.nq_check.specs.Losses.{PassBetween, is_told};
-ghost use Rattle.nq_check.specs.Named.{is_reported};
+ghost use Rattle.nq_rules.specs.Named.{is_reported};
 ghost use Rattle.nq_check.specs.Reports.{AreNext, IsReportKey, TakesReport, answers, reports_of};
 ghost use Rattle.nq_check.specs.Tables.{AreTables};
 ghost use Rattle.nq_check.specs.declared.rules.Rule.{Rule};
 ghost use Rattle.nq_model.specs.ReportedTest.{names};
 
-use crate::links::{Heads, Key, file_key, head_at, set_head};
+use crate::along::{call_along, is_there};
+use crate::links::{Heads, head_at, set_head};
 use crate::namings::loss_key;
-use crate::rules::calls::speaks_of;
-use crate::rules::entries::is_answer;
-use crate::rules::named::are_names_of;
-use crate::sought::{Sought, call_along, is_there};
 use crate::tables::Tables;
 use nq_base::{Entry, Loss, NoMemory, Said, Told, Who};
+use nq_rules::calls::speaks_of;
+use nq_rules::entries::is_answer;
+use nq_rules::keys::{Key, file_key};
+use nq_rules::named::are_names_of;
+use nq_rules::sought::Sought;
 use std::alloc::Global;
 use std::collections::HashMap;
 

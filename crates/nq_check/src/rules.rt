@@ -1,18 +1,7 @@
 //! The rules by which anybody's journal is judged, and what the judge says.
-//!
-//! Each function of the modules within computes a test of the definitions. Journals are slices of entries, the oldest first.
 
 ghost use Rattle.std.specs.Prelude.{◌≡◌};
 ghost use Rattle.nq_check.specs.Words.{word_of};
-
-pub(crate) mod accounted;
-pub(crate) mod calls;
-pub(crate) mod entries;
-pub(crate) mod excused;
-pub(crate) mod legal;
-pub(crate) mod named;
-pub(crate) mod ordered;
-pub(crate) mod synchronized;
 
 /// A rule by which journals are judged, in the order in which they are named. `docs/check.md` says which entries are at
 /// fault under each.

@@ -3,19 +3,21 @@
 ghost use Rattle.std.specs.Prelude.{◌≡◌, ◌<◌, ◌≤◌, IsTrue, length, reverse, take, true};
 ghost use Rattle.nq_check.specs.Links.{IsLinked};
 ghost use Rattle.nq_check.specs.Tables.{AreTables};
-ghost use Rattle.nq_check.specs.declared.links.Kind.TheVariants.{Delays};
+ghost use Rattle.nq_rules.specs.declared.keys.Kind.TheVariants.{Delays};
 ghost use Rattle.nq_model.specs.JournalTest.{exists};
 ghost use Rattle.nq_model.specs.ReportedTest.{names};
 ghost use Rattle.nq_model.specs.SynchronizedTest.{are_stored_or_told, is_named_loss, is_stored_or_told};
 
+use crate::along::{back_from, entry_at, is_there};
 use crate::fates::{Fates, fate_at};
-use crate::links::{Heads, Kind, Links, file_key, head_at};
+use crate::links::{Heads, Links, head_at};
 use crate::namings::loss_key;
 use crate::reports::names;
-use crate::rules::entries::loss_covers;
-use crate::sought::{Sought, back_from, entry_at, is_there};
 use crate::tables::Tables;
 use nq_base::{Entry, FileId, Loss, Who};
+use nq_rules::entries::loss_covers;
+use nq_rules::keys::{Kind, file_key};
+use nq_rules::sought::Sought;
 
 /// Whose delayed writes have to be settled: those of an incarnation on a file, before a place.
 #[derive(Drop)]

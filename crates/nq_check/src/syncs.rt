@@ -7,14 +7,15 @@ ghost use Rattle.nq_check.specs.Tables.{AreTables};
 ghost use Rattle.nq_model.specs.JournalTest.{somewhere};
 ghost use Rattle.nq_model.specs.SynchronizedTest.{are_stored_or_told, is_settled_resize};
 
+use crate::along::{back_from, call_along};
 use crate::fates::Fates;
-use crate::links::{Kind, call_key, file_key, head_at};
-use crate::rules::entries::is_resize_by;
+use crate::links::head_at;
 use crate::settled::{Settling, are_settled};
-use crate::sought::{back_from, call_along};
 use crate::tables::Tables;
 use crate::trail::Trail;
 use nq_base::{Entry, FileId, Said, Told, Who};
+use nq_rules::entries::is_resize_by;
+use nq_rules::keys::{Kind, call_key, file_key};
 
 /// A call as its A names it, and what it asks.
 #[derive(Drop)]

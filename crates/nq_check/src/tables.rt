@@ -3,8 +3,9 @@
 ghost use Rattle.std.specs.Prelude.{IfOk};
 ghost use Rattle.nq_check.specs.Tables.{AreLeases, AreTables};
 
-use crate::links::{Kind, Links, link};
+use crate::links::{Links, link};
 use nq_base::{Entry, NoMemory};
+use nq_rules::keys::Kind;
 use std::alloc::Global;
 
 /// The links of what tells whether a lease has ended.

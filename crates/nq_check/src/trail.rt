@@ -3,12 +3,13 @@
 ghost use Rattle.std.specs.Prelude.{◌≡◌, ◌<◌, [], OnOk, length};
 ghost use Rattle.nq_check.specs.Links.{IsLinkedNext};
 ghost use Rattle.nq_check.specs.Tables.{AreTables};
-ghost use Rattle.nq_check.specs.declared.links.Kind.TheVariants.{Delays};
+ghost use Rattle.nq_rules.specs.declared.keys.Kind.TheVariants.{Delays};
 
-use crate::links::{Heads, Kind, Links, call_key, file_key, link_entry, set_head};
-use crate::sought::call_along;
+use crate::along::call_along;
+use crate::links::{Heads, Links, link_entry, set_head};
 use crate::tables::Tables;
 use nq_base::{Entry, NoMemory, Said, Told};
+use nq_rules::keys::{Kind, call_key, file_key};
 use std::alloc::Global;
 use std::collections::HashMap;
 

@@ -4,7 +4,7 @@ use Rattle.nq_model.specs.Journal.{Each}
 use Rattle.nq_check.specs.Covered.{IsCoveredTo}
 use Rattle.nq_check.specs.declared.rules.Rule.TheVariants.{Accounted}
 use Rattle.nq_check.proofs.MovesOn.{one_more}
-use Rattle.nq_check.proofs.Places.{taken_here}
+use Rattle.nq_rules.proofs.Places.{taken_here}
 use Rattle.nq_check.proofs.covering.account_all.Goals as goal
 
 pub loop-place-preserved : goal.loop-place-preserved

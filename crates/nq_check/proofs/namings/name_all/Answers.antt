@@ -3,7 +3,7 @@ use Rattle.std.proofs.lemmas.Option.{slice_get_read}
 use Rattle.nq_check.specs.Losses.{is_naming}
 use Rattle.nq_check.specs.Namings.{IsNamed}
 use Rattle.nq_check.proofs.Passing.{pass_up}
-use Rattle.nq_check.proofs.Places.{taken_here}
+use Rattle.nq_rules.proofs.Places.{taken_here}
 use Rattle.nq_model.specs.Journal.{Each}
 use Rattle.nq_check.proofs.namings.name_all.Goals as goal
 

@@ -1,9 +1,9 @@
 use Rattle.std.proofs.Common.{rules, ◌≡◌, true, length, refl, reverse, sym, subst, take}
 use Rattle.std.proofs.lemmas.Option.{slice_get_read}
-use Rattle.nq_check.specs.InOrder.{AreLines}
+use Rattle.nq_rules.specs.InOrder.{AreLines}
 use Rattle.nq_check.specs.declared.rules.Rule.TheVariants.{Ordered}
 use Rattle.nq_check.proofs.MovesOn.{one_more}
-use Rattle.nq_check.proofs.Places.{taken_here}
+use Rattle.nq_rules.proofs.Places.{taken_here}
 use Rattle.nq_check.proofs.ordering.ordered_front.Goals as goal
 
 pub stands-requires-clause-there : goal.stands-requires-clause-there

@@ -1,6 +1,6 @@
 use Rattle.std.proofs.Common.{reverse, take}
 use Rattle.nq_check.specs.Fronts.{KeepsBelow}
-use Rattle.nq_check.specs.InOrder.{AreLines}
+use Rattle.nq_rules.specs.InOrder.{AreLines}
 use Rattle.nq_check.specs.declared.rules.Rule.TheVariants.{Ordered}
 use Rattle.nq_check.proofs.ordering.ordered_front.Given as goal
 

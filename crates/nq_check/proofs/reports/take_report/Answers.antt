@@ -1,5 +1,5 @@
 use Rattle.std.proofs.Common.{◌-◌, length}
-use Rattle.nq_check.specs.Marks.{IsMarked}
+use Rattle.nq_rules.specs.Marks.{IsMarked}
 use Rattle.nq_check.specs.Reports.{TakesReport}
 use Rattle.nq_check.proofs.Reporting.{on_ok, takes_none, takes_some}
 use Rattle.nq_check.proofs.reports.take_report.Goals as goal

@@ -1,6 +1,6 @@
 use Rattle.std.proofs.Common.{◌-◌, reverse, sym, ◌∙◌}
 use Rattle.nq_model.specs.ReportedTest.{names}
-use Rattle.nq_check.proofs.Once.{exists_there}
+use Rattle.nq_rules.proofs.Places.{exists_there}
 use Rattle.nq_check.proofs.settled.is_named_at.Goals as goal
 
 pub returns-in-Some : goal.returns-in-Some

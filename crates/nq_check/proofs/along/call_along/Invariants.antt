@@ -1,0 +1,10 @@
+use Rattle.std.proofs.Common.{◌≡◌, ◌≤◌, length, reverse, take}
+use Rattle.std.specs.Option.{option_or}
+use Rattle.nq_model.specs.Journal.{call_of}
+use Rattle.nq_check.proofs.along.call_along.Given as goal
+
+abbrev pub invariant-loop-at : goal.invariant-loop-at
+invariant-loop-at l = (l.at ≤ length l.whole) × (call_of (reverse l.whole) l.by l.n ≡ option_or (call_of (reverse (take l.at l.whole)) l.by l.n) l.call)
+
+abbrev pub decreases-loop-at : goal.decreases-loop-at
+decreases-loop-at l = l.at

@@ -1,7 +1,0 @@
-use Rattle.std.proofs.Common.{◌≡◌, reverse, take}
-use Rattle.nq_model.specs.JournalTest.{each}
-use Rattle.nq_model.specs.FateTest.{is_first_to_cover}
-use Rattle.nq_check.proofs.rules.accounted.is_first_to_cover_all.Given as goal
-
-abbrev pub invariant-loop-write : goal.invariant-loop-write
-invariant-loop-write l = l.all ≡ each (is_first_to_cover (reverse l.before) l.entry) (reverse (take l.write-index l.whole))

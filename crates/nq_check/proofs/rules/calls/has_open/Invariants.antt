@@ -1,7 +1,0 @@
-use Rattle.std.proofs.Common.{◌≡◌, reverse, take}
-use Rattle.nq_model.specs.JournalTest.{exists}
-use Rattle.nq_model.specs.OrderedTest.{is_open_call}
-use Rattle.nq_check.proofs.rules.calls.has_open.Given as goal
-
-abbrev pub invariant-loop-place : goal.invariant-loop-place
-invariant-loop-place l = l.found ≡ exists (is_open_call (reverse l.before) l.by) (reverse (take l.place l.before))

@@ -1,7 +1,0 @@
-use Rattle.std.proofs.Common.{◌≡◌, drop}
-use Rattle.nq_model.specs.JournalTest.{exists}
-use Rattle.nq_model.specs.ReportedTest.{is_same_span}
-use Rattle.nq_check.proofs.rules.named.comes_again.Given as goal
-
-abbrev pub invariant-loop-place : goal.invariant-loop-place
-invariant-loop-place l = exists (is_same_span l.span) (drop l.from l.spans.items) ≡ exists (is_same_span l.span) (drop l.place l.spans.items)

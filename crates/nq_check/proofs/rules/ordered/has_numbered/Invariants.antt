@@ -1,7 +1,0 @@
-use Rattle.std.proofs.Common.{◌≡◌, reverse, take}
-use Rattle.nq_model.specs.JournalTest.{exists}
-use Rattle.nq_model.specs.OrderedTest.{is_numbered}
-use Rattle.nq_check.proofs.rules.ordered.has_numbered.Given as goal
-
-abbrev pub invariant-loop-entry : goal.invariant-loop-entry
-invariant-loop-entry l = l.found ≡ exists (is_numbered l.by l.n) (reverse (take l.entry-index l.before))

@@ -1,7 +1,0 @@
-use Rattle.std.proofs.Common.{◌≡◌, reverse, take}
-use Rattle.nq_model.specs.JournalTest.{somewhere}
-use Rattle.nq_model.specs.SynchronizedTest.{is_settled_resize}
-use Rattle.nq_check.proofs.rules.synchronized.is_resize_kept.Given as goal
-
-abbrev pub invariant-loop-place : goal.invariant-loop-place
-invariant-loop-place l = l.found ≡ somewhere (is_settled_resize (reverse l.whole) (reverse l.before) l.by l.n l.on) (reverse (take l.place l.before))

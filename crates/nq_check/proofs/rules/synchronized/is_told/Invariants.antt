@@ -1,7 +1,0 @@
-use Rattle.std.proofs.Common.{◌≡◌, reverse, take}
-use Rattle.nq_model.specs.JournalTest.{exists}
-use Rattle.nq_model.specs.SynchronizedTest.{is_named_loss}
-use Rattle.nq_check.proofs.rules.synchronized.is_told.Given as goal
-
-abbrev pub invariant-loop-entry : goal.invariant-loop-entry
-invariant-loop-entry l = l.found ≡ exists (is_named_loss (reverse l.whole) (reverse l.answered) l.write) (reverse (take l.entry-index l.whole))

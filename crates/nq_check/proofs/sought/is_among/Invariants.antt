@@ -1,7 +1,0 @@
-use Rattle.std.proofs.Common.{◌≡◌, false, reverse, take}
-use Rattle.nq_model.specs.JournalTest.{exists}
-use Rattle.nq_check.specs.Sought.{passes}
-use Rattle.nq_check.proofs.sought.is_among.Given as goal
-
-abbrev pub invariant-loop-entry : goal.invariant-loop-entry
-invariant-loop-entry l = exists (passes l.sought) (reverse (take l.entry-index l.entries)) ≡ false
