@@ -3,7 +3,7 @@ pub mod Least
 pub mod Marks
 pub mod NoticeList
 pub mod Places
-pub mod Spans
+pub mod Reversed
 pub mod Counts
 pub mod DirtyKeyLaws
 pub mod OfEntries

@@ -20,10 +20,14 @@ use Rattle.nq_model.specs.Client.{is_push_of, dirty_at, first_dirty, drop_dirty,
 use Rattle.nq_model.specs.Hear.{loss_of}
 use Rattle.nq_model.specs.Settle.{overwritten_at, with_write, write_in}
 
--- the delayed writes have one of the file where the keys do
-pub any_of_file : (file : ℕ) (es : List (Key × Writes)) → list_any (is_push_of file) (delayed es) ≡ list_any (λ k. k.file == file) (keys_of es)
+-- the delayed writes have one of the file where there is a first key of it
+pub any_of_file : (file : ℕ) (es : List (Key × Writes)) → list_any (is_push_of file) (delayed es) ≡ is_some (find (λ k. k.file == file) (keys_of es))
 any_of_file file [] = refl
-any_of_file file (e ∷ es) = ap (λ b. (e.0.file == file) || b) (any_of_file file es)
+any_of_file file (e ∷ es) = any-step (e.0.file == file) e.0 _ _ (any_of_file file es)
+  where
+    any-step : (b : Bool) (k : Key) (c : Bool) (o : Option Key) → c ≡ is_some o → (b || c) ≡ is_some (cond b (Some k) o)
+    any-step true k c o h = refl
+    any-step false k c o h = h
 
 one-more : {A B : Type 0} (b : Bool) (x : A) (y : B) (xs : List A) (ys : List B) → length xs ≡ length ys → length (cond b (x ∷ xs) xs) ≡ length (cond b (y ∷ ys) ys)
 one-more true x y xs ys h = ap (λ n. suc n) h

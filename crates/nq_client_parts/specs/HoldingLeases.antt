@@ -44,7 +44,3 @@ mode_of (Writing l) = Some modes.Writing
 abbrev pub passes : (Lease → Bool) → Option Lease → Bool
 passes test None = false
 passes test (Some l) = test l
-
--- a lease that was used
-abbrev pub as_used : Lease → Lease
-as_used l = record l { used = true }

@@ -1,5 +1,5 @@
 -- Losses as entries.
-use Rattle.std.specs.Prelude.{◌≡◌, ℕ, List, Option, Some, None, if◌then◌else◌}
+use Rattle.std.specs.Prelude.{◌≡◌, ℕ, Bool, true, false, not, nat_le, List, Option, Some, None, if◌then◌else◌}
 use Rattle.nq_base.specs.declared.Entry.{Entry}
 use Rattle.nq_base.specs.declared.Loss.{Loss}
 use Rattle.nq_base.specs.declared.Who.{Who}
@@ -21,3 +21,8 @@ pub record Loses (l : Losing) (file : ℕ) (found unreported : List Loss) : Type
   pub found_are : l.found.items ≡ found
   pub after_are : l.after.items ≡ add_losses file found unreported
   pub told_are : l.told ≡ losses_of file (add_losses file found unreported)
+
+-- whether a loss is of a later file, or of this or an earlier one
+abbrev pub is_beside : (past : Bool) (file : ℕ) → Loss → Bool
+is_beside true file = λ l. not (nat_le l.file file)
+is_beside false file = λ l. nat_le l.file file

@@ -14,11 +14,11 @@ use std::marker::Model;
 
 /// A lease with its kind.
 #[derive(Clone, Copy)]
-pub struct Row {
+pub(crate) struct Row {
     /// Its kind.
-    pub mode: Mode,
+    pub(crate) mode: Mode,
     /// The lease.
-    pub lease: Lease,
+    pub(crate) lease: Lease,
 }
 
 /// The leases that a client holds, one for a file. Clauses see them in order of files, and for how many more files there
@@ -58,7 +58,7 @@ impl Leases {
     }
 
     /// The leases with their kinds, in order of files.
-    pub fn rows(&self) -> &[Row]
+    pub(crate) fn rows(&self) -> &[Row]
         ensures rows { map lease_in result.now ≡ self.now.items }
         ensures ascends { Ascends file_of_row result.now }
     {

@@ -21,7 +21,7 @@ pub use calls::{body_of_call, changed_file, file_at_stake, waits_for};
 pub use counting::{holds_later, inc_of, is_of_procedure, is_put_off, refusal_counts, wants};
 pub use entries::Entries;
 pub use job::Job;
-pub use leases::{Leases, Row};
+pub use leases::Leases;
 pub use leave::Leave;
 pub use losses::{Losing, Named, Unreported};
 pub use notices::Notices;

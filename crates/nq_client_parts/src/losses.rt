@@ -1,10 +1,9 @@
 //! Losses that no answer named yet.
 
-ghost use Rattle.std.specs.Prelude.{◌≡◌, ◌++◌, ◌∷◌, ◌↔◌, [], map, IfOk, OnOk, IsTrue};
-ghost use Rattle.nq_model.specs.ByFile.{past, up_to};
-ghost use Rattle.nq_model.specs.Client.{add_losses, file_of_loss, losses_of, other_losses, span_of};
+ghost use Rattle.std.specs.Prelude.{◌≡◌, ◌++◌, ◌∷◌, ◌↔◌, [], filter, map, IfOk, OnOk, IsTrue};
+ghost use Rattle.nq_model.specs.Client.{add_losses, losses_of, other_losses, span_of};
 ghost use Rattle.nq_model.specs.ClientStep.{changed_file, losses_for};
-ghost use Rattle.nq_client_parts.specs.Lost.{Loses};
+ghost use Rattle.nq_client_parts.specs.Lost.{Loses, is_beside};
 
 use crate::calls::changed_file;
 use nq_base::{Call, FileId, Loss, Losses, NoMemory, Span, Spans};
@@ -37,29 +36,16 @@ impl Unreported {
         }
     }
 
-    /// A copy of the losses of a file.
-    fn of(&self, alloc: Global, file: FileId) -> Result<Losses, NoMemory>
-        ensures { IfOk result (λ l. l.items ≡ losses_of file self.now.items) }
-    {
-        let mut of_file = Losses::new(alloc).unwrap();
-        copy(&self.losses, file, &mut of_file)?;
-        Ok(of_file)
-    }
-
-    /// All losses of a file, as an answer and as a journal name them.
-    fn named(&self, alloc: Global, file: FileId) -> Result<Named, NoMemory>
-        ensures { IfOk result (λ n. n ≡ losses_of file self.now.items) }
-    {
-        Named::new(alloc, self.of(alloc, file)?)
-    }
-
     /// The losses that a call is told before anything else: those of the file that it changes or syncs, if it does.
     pub fn named_for(&self, alloc: Global, call: &Call) -> Result<Named, NoMemory>
         ensures { IfOk result (λ n. n ≡ losses_for (changed_file call.now) self.now.items) }
     {
         match changed_file(call) {
-            Some(file) => self.named(alloc, file),
-            None => Named::new(alloc, Losses::new(alloc).unwrap()),
+            Some(file) => named_of(alloc, &self.losses, file),
+            None => Ok(Named {
+                losses: Losses::new(alloc).unwrap(),
+                spans: Spans::new(alloc).unwrap(),
+            }),
         }
     }
 
@@ -68,7 +54,7 @@ impl Unreported {
         ensures { IfOk result (λ l. Loses l file found.items self.now.items) }
     {
         let after = self.with(alloc, file, &found)?;
-        let told = after.named(alloc, file)?;
+        let told = named_of(alloc, &after.losses, file)?;
         Ok(Losing { found, after, told })
     }
 
@@ -77,9 +63,9 @@ impl Unreported {
         ensures { IfOk result (λ l. l.items ≡ add_losses file found.now.items self.now.items) }
     {
         let mut losses = Vec::new(alloc);
-        copy_up_to(&self.losses, file, &mut losses)?;
+        copy_side(&self.losses, file, false, &mut losses)?;
         copy_all(found, &mut losses)?;
-        copy_past(&self.losses, file, &mut losses)?;
+        copy_side(&self.losses, file, true, &mut losses)?;
         Ok(Unreported { losses })
     }
 
@@ -111,14 +97,6 @@ impl Model for Named {
 }
 
 impl Named {
-    /// These losses.
-    fn new(alloc: Global, losses: Losses) -> Result<Named, NoMemory>
-        ensures { IfOk result (λ n. n ≡ losses.items) }
-    {
-        let spans = spans_of(alloc, &losses)?;
-        Ok(Named { losses, spans })
-    }
-
     /// Whether there are none.
     pub fn is_empty(&self) -> bool
         ensures { IsTrue result ↔ (self.now ≡ []) }
@@ -154,17 +132,27 @@ fn drop_of(losses: &mut Vec<Loss>, file: FileId)
     losses.retain(|loss| loss.file != file);
 }
 
-/// Adds the losses of a file to others.
-#[tactic(auto, using(std::proofs::lemmas::List::Elements::filter_more))]
-fn copy(losses: &[Loss], file: FileId, into: &mut Losses) -> Result<(), NoMemory>
-    ensures { OnOk result (into.new.items ≡ into.old.items ++ losses_of file losses.now) }
+/// The losses of a file, as an answer and as a journal name them.
+#[tactic(auto, using(std::proofs::lemmas::List::Elements::filter_more, std::proofs::lemmas::List::map_push))]
+fn named_of(alloc: Global, losses: &[Loss], file: FileId) -> Result<Named, NoMemory>
+    ensures { IfOk result (λ n. n ≡ losses_of file losses.now) }
 {
+    let mut of_file = Losses::new(alloc).unwrap();
+    let mut spans = Spans::new(alloc).unwrap();
     for loss in losses {
         if loss.file == file {
-            into.push(*loss)?;
+            of_file.push(*loss)?;
+            spans.push(Span {
+                block: loss.block,
+                first: loss.first,
+                last: loss.last,
+            })?;
         }
     }
-    Ok(())
+    Ok(Named {
+        losses: of_file,
+        spans,
+    })
 }
 
 /// Adds a loss to others.
@@ -175,26 +163,26 @@ fn push(losses: &mut Vec<Loss>, loss: Loss) -> Result<(), NoMemory>
     Ok(())
 }
 
-/// Adds the losses of a file and of earlier ones to others.
-#[tactic(auto, using(std::proofs::lemmas::List::Elements::filter_more))]
-fn copy_up_to(losses: &[Loss], file: FileId, into: &mut Vec<Loss>) -> Result<(), NoMemory>
-    ensures { OnOk result (into.new.items ≡ into.old.items ++ up_to file_of_loss file losses.now) }
+/// Whether a loss is of a later file, or of this or an earlier one.
+fn is_beside(loss: &Loss, file: FileId, past: bool) -> bool
+    ensures { result ≡ is_beside past file loss.now }
 {
-    for loss in losses {
-        if loss.file <= file {
-            push(into, *loss)?;
-        }
-    }
-    Ok(())
+    let early = loss.file <= file;
+    if past { !early } else { early }
 }
 
-/// Adds the losses of later files to others.
+/// Adds the losses of later files, or those of a file and of earlier ones, to others.
 #[tactic(auto, using(std::proofs::lemmas::List::Elements::filter_more))]
-fn copy_past(losses: &[Loss], file: FileId, into: &mut Vec<Loss>) -> Result<(), NoMemory>
-    ensures { OnOk result (into.new.items ≡ into.old.items ++ past file_of_loss file losses.now) }
+fn copy_side(
+    losses: &[Loss],
+    file: FileId,
+    past: bool,
+    into: &mut Vec<Loss>,
+) -> Result<(), NoMemory>
+    ensures { OnOk result (into.new.items ≡ into.old.items ++ filter (is_beside past file) losses.now) }
 {
     for loss in losses {
-        if loss.file > file {
+        if is_beside(loss, file, past) {
             push(into, *loss)?;
         }
     }
@@ -211,21 +199,4 @@ fn copy_all(losses: &Losses, into: &mut Vec<Loss>) -> Result<(), NoMemory>
         push(into, loss)?;
     }
     Ok(())
-}
-
-/// Losses as a journal names them.
-#[tactic(auto, using(crate::proofs::Spans::spans_more))]
-fn spans_of(alloc: Global, losses: &Losses) -> Result<Spans, NoMemory>
-    ensures { IfOk result (λ s. s.items ≡ map span_of losses.now.items) }
-{
-    let mut spans = Spans::new(alloc).unwrap();
-    for place in 0..losses.len() {
-        let loss = losses.get(place).unwrap();
-        spans.push(Span {
-            block: loss.block,
-            first: loss.first,
-            last: loss.last,
-        })?;
-    }
-    Ok(spans)
 }

@@ -38,14 +38,6 @@ impl<'a> Clean<'a> {
         Clean { file, dirty }
     }
 
-    /// The file.
-    pub fn file(&self) -> FileId
-        ensures file { result ≡ self.now.file }
-        ensures clean { IsTrue (is_clean_in self.now.file self.now.dirty self.now.push) }
-    {
-        self.file
-    }
-
     /// Spends a notice for this file: its lease is given up with a vacated message.
     pub fn vacates(&self, notice: Notice) -> Vacancy
         requires { notice.file ≡ self.now.file }

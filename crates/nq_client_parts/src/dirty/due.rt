@@ -9,7 +9,8 @@ ghost use Rattle.nq_model.specs.Send.{ending_in, is_to_push_in, is_to_renew_in, 
 
 use crate::dirty::dirty::Dirty;
 use crate::holding::Held;
-use crate::{Leases, Notices, Row};
+use crate::leases::{Leases, Row};
+use crate::notices::Notices;
 use nq_base::{FileId, Mode, Ticks};
 
 /// From so many ticks before a writing lease ends its delayed writes are pushed (Macklem 1994).

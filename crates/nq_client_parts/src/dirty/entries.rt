@@ -1,7 +1,7 @@
 //! Delayed writes on an `IndexMap`: it keeps the order in which blocks became dirty.
 
 ghost use Rattle.std.specs.Prelude.{◌≡◌, ◌≤◌, ◌<◌, ◌+◌, ◌==◌, ◌++◌, not, false, length, filter, map, is_some, slice_get, option_copied, IsTrue, IsSome, IsNone, IsOk, OnOk, IfSome, IfNone};
-ghost use Rattle.std.specs.List.{find, list_any};
+ghost use Rattle.std.specs.List.{find};
 ghost use Rattle.std.specs.Option.{option_map};
 ghost use Rattle.indexmap.specs.IndexMap.{keys, spare};
 ghost use Rattle.nq_model.specs.Client.{is_push_of, dirty_at, first_dirty, drop_dirty, other_dirty};
@@ -103,20 +103,15 @@ pub(crate) fn read<'a>(entries: &'a Entries, key: &Key) -> Option<&'a Block>
 pub(crate) fn nth(entries: &Entries, place: usize) -> Option<Loss>
     ensures { result ≡ option_map loss_of (slice_get (delayed entries.now.entries) place) }
 {
-    let (key, writes) = entries.get_index(place)?;
-    Some(Loss {
-        file: key.file,
-        block: key.block,
-        first: writes.first,
-        last: writes.last,
-    })
-}
-
-/// Whether a file has delayed writes.
-pub(crate) fn has_file(entries: &Entries, file: FileId) -> bool
-    ensures { result ≡ list_any (λ k. k.file == file) (keys entries.now) }
-{
-    entries.keys().any(|key| key.file == file)
+    match entries.get_index(place) {
+        Some((key, writes)) => Some(Loss {
+            file: key.file,
+            block: key.block,
+            first: writes.first,
+            last: writes.last,
+        }),
+        None => None,
+    }
 }
 
 /// How many blocks of a file have delayed writes.
@@ -131,6 +126,13 @@ fn first_of(entries: &Entries, file: FileId) -> Option<Key>
     ensures { result ≡ find (λ k. k.file == file) (keys entries.now) }
 {
     entries.keys().copied().find(|key| key.file == file)
+}
+
+/// Whether a file has delayed writes.
+pub(crate) fn has_file(entries: &Entries, file: FileId) -> bool
+    ensures { result ≡ is_some (find (λ k. k.file == file) (keys entries.now)) }
+{
+    first_of(entries, file).is_some()
 }
 
 /// Takes the first delayed writes of a file out.

@@ -1,6 +1,6 @@
 //! What is held on a file.
 
-ghost use Rattle.std.specs.Prelude.{◌≡◌, Some, option_map, option_copied};
+ghost use Rattle.std.specs.Prelude.{◌≡◌, Some, option_copied};
 ghost use Rattle.nq_model.specs.Client.{is_live, lets_read, lets_write, renew_due};
 
 use crate::holding::lease::Lease;
@@ -20,10 +20,10 @@ pub enum Held {
 }
 
 impl Held {
-    ghost use Rattle.nq_client_parts.specs.HoldingLeases.{of_kind, lease_of, plain_lease, mode_of, passes, as_used};
+    ghost use Rattle.nq_client_parts.specs.HoldingLeases.{of_kind, lease_of, plain_lease, mode_of, passes};
 
     /// A lease of a kind, as it is held.
-    pub fn of_kind(mode: Mode, lease: Lease) -> Held
+    pub(crate) fn of_kind(mode: Mode, lease: Lease) -> Held
         ensures { lease_of result ≡ Some (of_kind mode lease) }
     {
         match mode {
@@ -34,7 +34,7 @@ impl Held {
     }
 
     /// The lease, if one is held.
-    pub fn lease(&self) -> Option<&Lease>
+    pub(crate) fn lease(&self) -> Option<&Lease>
         ensures { option_copied result ≡ plain_lease self.now }
     {
         match self {
@@ -68,7 +68,7 @@ impl Held {
     }
 
     /// Whether a lease is held that runs and lets its holder cache.
-    pub fn caches(&self, now: Ticks) -> bool
+    pub(crate) fn caches(&self, now: Ticks) -> bool
         ensures { result ≡ passes (lets_read now) (lease_of self.now) }
     {
         match self {
@@ -78,7 +78,7 @@ impl Held {
     }
 
     /// Whether a lease is held that runs and lets its holder delay writes.
-    pub fn delays(&self, now: Ticks) -> bool
+    pub(crate) fn delays(&self, now: Ticks) -> bool
         ensures { result ≡ passes (lets_write now) (lease_of self.now) }
     {
         match self {
@@ -88,24 +88,12 @@ impl Held {
     }
 
     /// Whether the lease is to be renewed: it caches, runs, was used and is about to end.
-    pub fn renew_due(&self, now: Ticks) -> bool
+    pub(crate) fn renew_due(&self, now: Ticks) -> bool
         ensures { result ≡ passes (renew_due now) (lease_of self.now) }
     {
         match self {
             Held::Nothing | Held::NonCaching(_) => false,
             Held::Reading(lease) | Held::Writing(lease) => lease.is_live(now) && lease.is_due(now),
-        }
-    }
-
-    /// Notes that the lease was used.
-    pub fn mark_used(&mut self)
-        ensures { lease_of self.new ≡ option_map as_used (lease_of self.old) }
-    {
-        match self {
-            Held::Nothing => {}
-            Held::NonCaching(lease) => lease.used = true,
-            Held::Reading(lease) => lease.used = true,
-            Held::Writing(lease) => lease.used = true,
         }
     }
 }

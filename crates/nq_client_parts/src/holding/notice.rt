@@ -37,7 +37,7 @@ impl Notice {
     }
 
     /// The tag.
-    pub fn tag(&self) -> Tag
+    pub(crate) fn tag(&self) -> Tag
         ensures { result ≡ self.now.tag }
     {
         self.tag
@@ -49,7 +49,7 @@ impl Notice {
     }
 
     /// Two notices for one file, as one: it has the later tag.
-    pub fn join(self, later: Notice) -> Notice
+    pub(crate) fn join(self, later: Notice) -> Notice
         requires { later.file ≡ self.file }
         ensures { result ≡ record self { tag = later_tag self.tag later.tag } }
     {

@@ -1,6 +1,6 @@
 use Rattle.std.proofs.Common.{reverse}
 use Rattle.nq_base.specs.Plain.{plain}
-use Rattle.nq_client_parts.proofs.Spans.{map-reverse}
+use Rattle.nq_client_parts.proofs.Reversed.{map-reverse}
 use Rattle.nq_client_parts.proofs.entries.tell.Goals as goal
 
 pub returns-clause-told : goal.returns-clause-told
