@@ -11,6 +11,7 @@ use Rattle.nq_client.proofs.Calls.{Within, called, ticked}
 use Rattle.nq_client.proofs.Counts.{within}
 use Rattle.nq_client.proofs.Received.{heard-within}
 use Rattle.nq_client.proofs.Settled.{is_given}
+use Rattle.nq_client.proofs.Spent.{silent}
 use Rattle.nq_client.specs.Counted.{Counted, IsWithin}
 use Rattle.nq_client_parts.specs.Entries.{Tells}
 use Rattle.nq_client.specs.Finishing.{Grows, to_server}
@@ -29,10 +30,6 @@ use Rattle.nq_model.specs.ClientStep.{at_time, client_call, client_tick}
 use Rattle.nq_model.specs.Message.{Message}
 use Rattle.nq_model.specs.Profile.{most_taken_by_client}
 use Rattle.nq_wire.specs.Outbox.{Datagrams}
-
-silent : (o : Option Ticket) → request_message false o ≡ []
-silent None = refl
-silent (Some t) = refl
 
 nothing-sent : (who : Who) (v : Option Vacated) (b : Bool) (o : Option Ticket) → v ≡ None → b ≡ false → vacated_message who v ++ request_message b o ≡ []
 nothing-sent who None false o p q = silent o

@@ -1,6 +1,6 @@
 //! The request under way.
 
-ghost use Rattle.std.specs.Prelude.{◌≡◌, ◌<◌, ◌+◌, ◌^◌, nat_le};
+ghost use Rattle.std.specs.Prelude.{◌≡◌, ◌<◌, ◌+◌, ◌^◌, nat_le, Some};
 ghost use Rattle.nq_client_parts.specs.Jobs.{job_of};
 ghost use Rattle.nq_model.specs.Profile.{patience};
 ghost use Rattle.nq_wire.specs.Request.{HasSpelling};
@@ -105,5 +105,15 @@ impl Asked {
             request: _request,
             job: _,
         } = self;
+    }
+}
+
+/// Puts a request under way, in the place of another.
+pub(crate) fn put_under_way(slot: &mut Option<Asked>, asked: Asked)
+    ensures { slot.new ≡ Some asked }
+{
+    match slot.replace(asked) {
+        Some(old) => old.spent(),
+        None => {}
     }
 }

@@ -142,6 +142,31 @@ impl State {
         Need::Ask(self.get_lease(file, Mode::Writing))
     }
 
+    /// The RESIZE of a call.
+    fn resize(&self, call: u64, file: FileId, blocks: u32) -> Request
+        ensures { result ≡ Request.Resize self.now.who self.now.seq call file blocks }
+    {
+        Request::Resize {
+            who: self.who,
+            seq: self.seq,
+            call,
+            file,
+            blocks,
+        }
+    }
+
+    /// The REMOVE of a call.
+    fn remove(&self, call: u64, file: FileId) -> Request
+        ensures { result ≡ Request.Remove self.now.who self.now.seq call file }
+    {
+        Request::Remove {
+            who: self.who,
+            seq: self.seq,
+            call,
+            file,
+        }
+    }
+
     /// What a call needs that is under way. Where the client pauses, it needs a push at most.
     fn need_by(&self, u: &UnderWay) -> Option<Need>
         ensures { result ≡ need_by (client_of self.now) (under_way u.now) (nat_le self.now.pause self.now.time) u.now.call }
@@ -171,23 +196,10 @@ impl State {
             }
             Call::Sync { file } => push_for(&self.dirty, file),
             Call::Resize { file, blocks } => {
-                let request = Request::Resize {
-                    who,
-                    seq,
-                    call,
-                    file,
-                    blocks,
-                };
-                change_need(&self.dirty, file, may_ask, request)
+                change_need(&self.dirty, file, may_ask, self.resize(call, file, blocks))
             }
             Call::Remove { file } => {
-                let request = Request::Remove {
-                    who,
-                    seq,
-                    call,
-                    file,
-                };
-                change_need(&self.dirty, file, may_ask, request)
+                change_need(&self.dirty, file, may_ask, self.remove(call, file))
             }
         }
     }

@@ -229,13 +229,6 @@ impl Client {
         self.step.state.who
     }
 
-    /// The number of this incarnation.
-    pub fn inc(&self) -> Inc
-        ensures { result ≡ self.now.client.who.inc }
-    {
-        self.step.state.who.inc
-    }
-
     /// The term that it wants, in ticks.
     pub fn term(&self) -> u32
         ensures { result ≡ self.now.client.term }

@@ -1,7 +1,7 @@
 //! What a client makes of a notice.
 
-ghost use Rattle.std.specs.Prelude.{◌≡◌, ◌≤◌, None, false, OnErr, OnOk};
-ghost use Rattle.nq_model.specs.Hear.{cancelled, cancels, spends};
+ghost use Rattle.std.specs.Prelude.{◌≡◌, ◌≤◌, OnErr, OnOk};
+ghost use Rattle.nq_model.specs.Hear.{cancelled};
 ghost use Rattle.nq_model.specs.Send.{send_next};
 ghost use Rattle.nq_model.specs.Settle.{settle};
 ghost use Rattle.nq_model.specs.Table.{same_who};
@@ -30,6 +30,18 @@ fn is_wanted(asked: &Option<Asked>, file: FileId) -> bool
     }
 }
 
+/// Gives the request under way up where it wants a lease on the file.
+fn cancel(asked: &mut Option<Asked>, file: FileId)
+    ensures { asked.new ≡ cancelled file asked.old }
+{
+    if is_wanted(asked, file) {
+        match asked.take() {
+            Some(given_up) => given_up.spent(),
+            None => {}
+        }
+    }
+}
+
 /// Whether two incarnations are one.
 pub(crate) fn is_same(who: &Who, other: &Who) -> bool
     ensures { result ≡ same_who who.now other.now }
@@ -38,30 +50,6 @@ pub(crate) fn is_same(who: &Who, other: &Who) -> bool
 }
 
 impl Step {
-    /// The request under way is no more under way.
-    pub(crate) fn spends(&mut self)
-        requires { self.old.asks ≡ false }
-        ensures step { step_of self.new ≡ spends (step_of self.old) }
-        ensures asked { self.new ≡ record self.old { state = record self.old.state { asked = None } } }
-    {
-        match self.state.asked.take() {
-            Some(asked) => asked.spent(),
-            None => {}
-        }
-    }
-
-    /// A request that wants a lease on the file is given up.
-    #[tactic(auto, unfolding(nq_model::specs::Hear::spends, nq_model::specs::Hear::cancels))]
-    fn cancels(&mut self, file: FileId)
-        requires silent { self.old.asks ≡ false }
-        ensures step { step_of self.new ≡ cancels (step_of self.old) file }
-        ensures asked { self.new ≡ record self.old { state = record self.old.state { asked = cancelled file self.old.state.asked } } }
-    {
-        if is_wanted(&self.state.asked, file) {
-            self.spends();
-        }
-    }
-
     /// What comes after a datagram that counted, or in a tick: what needs no packet, and the next request.
     pub(crate) fn goes_on(&mut self, in_tick: bool, rooms: &mut Rooms)
         requires rooms { HasRooms rooms.old }
@@ -86,7 +74,7 @@ impl Step {
     {
         match request {
             Request::Evicted { file, tag, .. } => {
-                self.cancels(*file);
+                cancel(&mut self.state.asked, *file);
                 self.evicted(*file, *tag);
                 self.goes_on(false, rooms);
             }

@@ -1,6 +1,6 @@
 //! Replies to the request under way.
 
-ghost use Rattle.std.specs.Prelude.{◌≡◌, ◌<◌, ◌^◌, Some, OnOk, OnErr};
+ghost use Rattle.std.specs.Prelude.{◌≡◌, ◌<◌, ◌^◌, OnOk, OnErr};
 ghost use Rattle.std.specs.Option.{ForSome};
 ghost use Rattle.nq_model.specs.Client.{pushing};
 ghost use Rattle.nq_model.specs.Hear.{done, done_push, done_renewal, refused, replied};
@@ -11,7 +11,7 @@ ghost use Rattle.nq_client.specs.Receiving.{answered, at_stake};
 ghost use Rattle.nq_client.specs.Step.{HasRoom, step_of};
 ghost use Rattle.nq_client.specs.Tied.{Tied, TiedFor};
 
-use crate::asked::Asked;
+use crate::asked::{Asked, put_under_way};
 use crate::step::Step;
 use nq_base::{NoMemory, Refusal, Reply, Request, Ticks};
 use nq_client_parts::{Job, is_put_off};
@@ -116,16 +116,6 @@ impl Step {
         }
     }
 
-    /// A request is under way again that was taken out.
-    fn puts_back(&mut self, asked: Asked)
-        ensures { self.new ≡ record self.old { state = record self.old.state { asked = Some asked } } }
-    {
-        match self.state.asked.replace(asked) {
-            Some(old) => old.spent(),
-            None => {}
-        }
-    }
-
     /// The request under way was answered in the packet of this number, and is spent.
     ///
     /// # Errors
@@ -147,7 +137,7 @@ impl Step {
                 Ok(())
             }
             Err(fault) => {
-                self.puts_back(asked);
+                put_under_way(&mut self.state.asked, asked);
                 Err(fault)
             }
         }

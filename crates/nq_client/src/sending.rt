@@ -9,7 +9,7 @@ ghost use Rattle.nq_client_parts.specs.Jobs.{job_of};
 ghost use Rattle.nq_client.specs.Settling.{called_body};
 ghost use Rattle.nq_client.specs.Step.{HasNumbers, step_of};
 
-use crate::asked::Asked;
+use crate::asked::{Asked, put_under_way};
 use crate::settling::called_body;
 use crate::step::Step;
 use nq_base::{BlockNo, FileId, Number, PushBase, Request, Seq, Spare};
@@ -40,10 +40,7 @@ impl Step {
         let asked = Asked::new(xid, self.state.time, request, job);
         self.state.xid = xid + 1;
         self.asks = true;
-        match self.state.asked.replace(asked) {
-            Some(old) => old.spent(),
-            None => {}
-        }
+        put_under_way(&mut self.state.asked, asked);
     }
 
     /// Pushes the first delayed writes of a file, if it has some, with a copy of their block in room that is there.

@@ -2,7 +2,7 @@
 
 ghost use Rattle.std.specs.Prelude.{◌≡◌, ◌≤◌, ◌<◌, ◌+◌, ◌^◌, false, nat_le, option_map, if◌then◌else◌};
 ghost use Rattle.nq_model.specs.Client.{begun};
-ghost use Rattle.nq_model.specs.ClientStep.{client_tick, tick_asking};
+ghost use Rattle.nq_model.specs.ClientStep.{client_tick};
 ghost use Rattle.nq_client.specs.Finishing.{HasRooms};
 ghost use Rattle.nq_client.specs.Step.{HasNumbers, HasRoom, step_of};
 ghost use Rattle.nq_client.specs.Ticking.{is_due, sent_at};
@@ -30,7 +30,9 @@ fn asks_again(asked: &mut Option<Asked>, now: Ticks) -> bool
 
 impl Step {
     /// A tick of the client's clock, which now shows this time.
-    #[tactic(auto, unfolding(nq_model::specs::ClientStep::at_time))]
+    ///
+    /// The request under way is sent again where it is due; where there is none, the call goes on.
+    #[tactic(auto, unfolding(nq_model::specs::ClientStep::at_time, nq_model::specs::ClientStep::sends_again))]
     pub(crate) fn tick(&mut self, now: Ticks, rooms: &mut Rooms)
         requires rooms { HasRooms rooms.old }
         requires room { HasRoom self.old }
@@ -42,21 +44,8 @@ impl Step {
         ensures { step_of self.new ≡ client_tick (step_of self.old).client now }
     {
         self.state.time = now;
-        self.ticks(rooms);
-    }
-
-    /// The request under way is sent again where it is due; where there is none, the call goes on.
-    #[tactic(auto, unfolding(nq_model::specs::ClientStep::sends_again))]
-    fn ticks(&mut self, rooms: &mut Rooms)
-        requires rooms { HasRooms rooms.old }
-        requires room { HasRoom self.old }
-        requires numbers { HasNumbers 2 self.old.state }
-        requires silent { self.old.asks ≡ false }
-        requires tied { Tied self.old.state.asked self.old.state.dirty.push }
-        ensures { step_of self.new ≡ tick_asking (step_of self.old) self.old.state.asked }
-    {
         match &self.state.asked {
-            Some(_) => self.asks = asks_again(&mut self.state.asked, self.state.time),
+            Some(_) => self.asks = asks_again(&mut self.state.asked, now),
             None => self.goes_on(true, rooms),
         }
     }
