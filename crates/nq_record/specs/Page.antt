@@ -22,11 +22,6 @@ abbrev pub spelled : Part → List ℕ
 spelled (Part.Text text) = text.now
 spelled (Part.Number number) = decimal number
 
--- the name of a byte that has one, and else the byte itself
-abbrev pub entity_or : ℕ → Option (List ℕ) → List ℕ
-entity_or byte None = byte ∷ []
-entity_or byte (Some name) = name
-
 -- a page with more behind it: where memory was wanting there is no text
 abbrev pub added : Option (List ℕ) → List ℕ → Option (List ℕ)
 added None more = None

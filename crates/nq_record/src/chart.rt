@@ -22,5 +22,4 @@ pub use chart::{Bar, Chart, Column, Note, Packet, Row, Side, Sign, Tint};
 pub use drawing::draw;
 pub use nq_memory::NoMemory;
 pub use pages::Page;
-pub(crate) use parts::filled;
 pub use parts::{Part, text_of};

@@ -3,12 +3,12 @@
 ghost use Rattle.std.specs.Prelude.{◌≡◌, ◌+◌, vec_len, IfOk};
 
 use crate::NoMemory;
-use crate::chart::{Bar, Chart, Column, Packet, Part, Side, Tint, text_of};
-use crate::lists::Growing;
+use crate::chart::{Bar, Chart, Column, Packet, Part, Side, Tint};
+use crate::making::Maker;
 use crate::picture_rows::{Rows, packet_words, rows_of};
 use crate::record::{Record, Sent};
 use crate::spans::{Kind, Span};
-use crate::text::{owned, party_parts};
+use crate::text::party_parts;
 use nq_base::{Host, Mode, Party};
 use std::alloc::Global;
 
@@ -59,39 +59,40 @@ pub fn picture(
 ) -> Result<Chart, NoMemory>
     ensures { IfOk result (λ chart. vec_len chart.columns ≡ «record».now.hosts + 1) }
 {
-    let columns = columns(alloc, record.hosts)?;
-    let shown = rows_of(alloc, record, from, to);
-    let packets = packets(alloc, record, &shown);
-    let bars = bars(alloc, record, &shown);
-    if shown.is_short() || packets.is_short || bars.is_short {
+    let mut maker = Maker::new(alloc);
+    let columns = columns(&mut maker, record.hosts);
+    let shown = rows_of(&mut maker, record, from, to);
+    let packets = packets(&mut maker, record, &shown);
+    let bars = bars(&mut maker, record, &shown);
+    // A column is missing only where memory was wanting.
+    if maker.is_short || columns.len() != record.hosts as usize + 1 {
         return Err(NoMemory::Memory);
     }
     Ok(Chart {
         title,
         columns,
         rows: shown.into_rows(),
-        packets: packets.into_items(),
-        bars: bars.into_items(),
+        packets,
+        bars,
     })
 }
 
 /// The parties: the server stands between the hosts.
-fn columns(alloc: Global, hosts: u32) -> Result<Vec<Column>, NoMemory>
-    ensures { IfOk result (λ columns. vec_len columns ≡ hosts + 1) }
-{
-    let mut columns = Vec::new(alloc);
+fn columns(maker: &mut Maker, hosts: u32) -> Vec<Column> {
+    let mut columns = Vec::new(maker.alloc);
     let left = hosts_left(hosts);
     for place in 0..=hosts {
-        columns.push(column(alloc, hosts, &party_at(left, place))?)?;
+        let column = column(maker, hosts, &party_at(left, place));
+        maker.push(&mut columns, column);
     }
-    Ok(columns)
+    columns
 }
 
 /// A party.
-fn column(alloc: Global, hosts: u32, party: &Party) -> Result<Column, NoMemory> {
+fn column(maker: &mut Maker, hosts: u32, party: &Party) -> Column {
     let bars = outer(hosts, *party);
-    let name = text_of(alloc, &party_parts(*party))?;
-    Ok(Column { name, bars })
+    let name = maker.text(&party_parts(*party));
+    Column { name, bars }
 }
 
 /// The party at a place, where so many hosts stand left of the server.
@@ -106,11 +107,12 @@ fn party_at(left: u32, place: u32) -> Party {
 }
 
 /// The packets that are sent or arrive in the rows that are shown.
-fn packets(alloc: Global, record: &Record, shown: &Rows) -> Growing<Packet> {
-    let mut packets = Growing::new(alloc);
+fn packets(maker: &mut Maker, record: &Record, shown: &Rows) -> Vec<Packet> {
+    let mut packets = Vec::new(maker.alloc);
     for (number, sent) in record.packets.iter().enumerate() {
         if is_shown(sent, shown) {
-            packets.add(packet(alloc, record.hosts, number as u64, sent, shown));
+            let packet = packet(maker, record.hosts, number as u64, sent, shown);
+            maker.push(&mut packets, packet);
         }
     }
     packets
@@ -130,44 +132,37 @@ fn is_shown(sent: &Sent, shown: &Rows) -> bool {
 }
 
 /// A packet of this number.
-fn packet(
-    alloc: Global,
-    hosts: u32,
-    number: u64,
-    sent: &Sent,
-    shown: &Rows,
-) -> Result<Packet, NoMemory> {
-    let text = packet_words(alloc, number, sent, "")?;
-    let arrivals = arrivals(alloc, sent, shown)?;
-    Ok(Packet {
+fn packet(maker: &mut Maker, hosts: u32, number: u64, sent: &Sent, shown: &Rows) -> Packet {
+    Packet {
         from: place_of(hosts, sent.from),
         to: place_of(hosts, sent.to),
         sent: shown.row_of(sent.sent),
-        arrivals,
-        text,
-    })
+        arrivals: arrivals(maker, sent, shown),
+        text: packet_words(maker, number, sent, ""),
+    }
 }
 
 /// The rows in which a packet arrives.
-fn arrivals(alloc: Global, sent: &Sent, shown: &Rows) -> Result<Vec<usize>, NoMemory> {
-    let mut arrivals = Growing::new(alloc);
+fn arrivals(maker: &mut Maker, sent: &Sent, shown: &Rows) -> Vec<usize> {
+    let mut arrivals = Vec::new(maker.alloc);
     for moment in &sent.arrivals {
         if let Some(row) = shown.row_of(*moment) {
-            arrivals.push(row);
+            maker.push(&mut arrivals, row);
         }
     }
-    arrivals.finish()
+    arrivals
 }
 
 /// The bars of what lasts in the rows that are shown.
-fn bars(alloc: Global, record: &Record, shown: &Rows) -> Growing<Bar> {
-    let mut bars = Growing::new(alloc);
+fn bars(maker: &mut Maker, record: &Record, shown: &Rows) -> Vec<Bar> {
+    let mut bars = Vec::new(maker.alloc);
     for span in &record.spans {
         if span.first <= shown.to && span.last >= shown.from {
             let first = shown.row_of(span.first.max(shown.from));
             let last = shown.row_of(span.last.min(shown.to));
             if let (Some(first), Some(last)) = (first, last) {
-                bars.add(bar(alloc, record.hosts, span, first, last));
+                let bar = bar(maker, record.hosts, span, first, last);
+                maker.push(&mut bars, bar);
             }
         }
     }
@@ -175,34 +170,29 @@ fn bars(alloc: Global, record: &Record, shown: &Rows) -> Growing<Bar> {
 }
 
 /// The bar of something that lasts.
-fn bar(alloc: Global, hosts: u32, span: &Span, first: usize, last: usize) -> Result<Bar, NoMemory> {
-    let text = bar_text(alloc, span.kind)?;
-    Ok(Bar {
+fn bar(maker: &mut Maker, hosts: u32, span: &Span, first: usize, last: usize) -> Bar {
+    Bar {
         party: place_of(hosts, span.party),
         first,
         last,
         tint: tint(span.kind),
-        text,
-    })
+        text: bar_text(maker, span.kind),
+    }
 }
 
 /// The name of a bar: the kind of the lease by its letter, the file, and at the server the host.
-fn bar_text(alloc: Global, kind: Kind) -> Result<String, NoMemory> {
+fn bar_text(maker: &mut Maker, kind: Kind) -> String {
     match kind {
-        Kind::Recovery => owned(alloc, "recovery"),
-        Kind::Lease { file, mode } => text_of(
-            alloc,
-            &[Part::Text(letter(mode)), Part::Number(file.0 as u64)],
-        ),
-        Kind::Row { file, host, mode } => text_of(
-            alloc,
-            &[
-                Part::Text(letter(mode)),
-                Part::Number(file.0 as u64),
-                Part::Text(" h"),
-                Part::Number(host.0 as u64),
-            ],
-        ),
+        Kind::Recovery => maker.text(&[Part::Text("recovery")]),
+        Kind::Lease { file, mode } => {
+            maker.text(&[Part::Text(letter(mode)), Part::Number(file.0 as u64)])
+        }
+        Kind::Row { file, host, mode } => maker.text(&[
+            Part::Text(letter(mode)),
+            Part::Number(file.0 as u64),
+            Part::Text(" h"),
+            Part::Number(host.0 as u64),
+        ]),
     }
 }
 

@@ -4,17 +4,22 @@ ghost use Rattle.std.specs.Prelude.{◌≡◌, IfOk};
 ghost use Rattle.nq_record.specs.Words.{sign_of};
 
 use crate::NoMemory;
-use crate::chart::{Sign, filled};
+use crate::chart::{Part, Sign};
+use crate::making::Maker;
 use crate::record::Noted;
-use crate::text::named;
-use nq_base::{Entry, Mode, Name, Said, Spans, Told};
+use crate::text::letters;
+use nq_base::{Entry, Mode, Said, Spans, Told};
 use std::alloc::Global;
 
 /// An entry in words.
 pub fn entry_words(alloc: Global, entry: &Entry) -> Result<Noted, NoMemory>
     ensures { IfOk result (λ noted. noted.sign ≡ sign_of entry.now) }
 {
-    let words = words_of(alloc, entry)?;
+    let mut maker = Maker::new(alloc);
+    let words = words_of(&mut maker, entry);
+    if maker.is_short {
+        return Err(NoMemory::Memory);
+    }
     Ok(Noted {
         sign: sign_of(entry),
         words,
@@ -22,54 +27,34 @@ pub fn entry_words(alloc: Global, entry: &Entry) -> Result<Noted, NoMemory>
 }
 
 /// What an entry says.
-fn words_of(alloc: Global, entry: &Entry) -> Result<String, NoMemory> {
-    let (form, numbers) = form_of(entry);
-    match name_of(entry) {
-        Some(name) => named(alloc, form, name),
-        None => filled(alloc, form, &numbers),
-    }
-}
-
-/// The name with which the words of an entry end, if they end with one.
-fn name_of(entry: &Entry) -> Option<&Name> {
-    let Entry::C { told, .. } = entry else {
-        return None;
-    };
-    match told {
-        Told::Create { name, .. } | Told::Lookup { name } => Some(name),
-        _ => None,
-    }
-}
-
-/// The words of an entry, and the numbers that stand in them for the signs `#`.
-fn form_of(entry: &Entry) -> (&'static str, [u64; 4]) {
+fn words_of(maker: &mut Maker, entry: &Entry) -> String {
     match entry {
-        Entry::C { told, .. } => told_form(told),
-        Entry::A { said, .. } => said_form(said),
-        Entry::W { .. } | Entry::R { .. } => block_form(entry),
-        Entry::S { .. } => ("stores #:#, writes #-#", writes_of(entry)),
-        Entry::L { .. } => ("lost #:#, writes #-#", writes_of(entry)),
+        Entry::C { told, .. } => call_words(maker, told),
+        Entry::A { said, .. } => answer_words(maker, said),
+        Entry::W { .. } | Entry::R { .. } => block_words(maker, entry),
+        Entry::S { .. } => maker.filled("stores #:#, writes #-#", &writes_of(entry)),
+        Entry::L { .. } => maker.filled("lost #:#, writes #-#", &writes_of(entry)),
         Entry::G {
             who,
             file,
             mode,
             term,
             ..
-        } => (
-            grant_words(*mode),
-            [who.host.0 as u64, file.0 as u64, *term as u64, 0],
+        } => maker.filled(
+            grant_form(*mode),
+            &[who.host.0 as u64, file.0 as u64, *term as u64],
         ),
-        Entry::F { who, file, .. } => (
+        Entry::F { who, file, .. } => maker.filled(
             "fences host # on #",
-            [who.host.0 as u64, file.0 as u64, 0, 0],
+            &[who.host.0 as u64, file.0 as u64],
         ),
-        Entry::Z { file, from, to, .. } => (
+        Entry::Z { file, from, to, .. } => maker.filled(
             "file # from # to # blocks",
-            [file.0 as u64, *from as u64, *to as u64, 0],
+            &[file.0 as u64, *from as u64, *to as u64],
         ),
-        Entry::B { who } => ("starts again, incarnation #", [who.inc.0 as u64, 0, 0, 0]),
-        Entry::X { boot, .. } => ("boots again, boot #", [*boot as u64, 0, 0, 0]),
-        Entry::O { boot, .. } => ("recovery of boot # ends", [*boot as u64, 0, 0, 0]),
+        Entry::B { who } => maker.filled("starts again, incarnation #", &[who.inc.0 as u64]),
+        Entry::X { boot, .. } => maker.filled("boots again, boot #", &[*boot as u64]),
+        Entry::O { boot, .. } => maker.filled("recovery of boot # ends", &[*boot as u64]),
     }
 }
 
@@ -87,7 +72,7 @@ fn sign_of(entry: &Entry) -> Sign
 }
 
 /// The words of a write or a read.
-fn block_form(entry: &Entry) -> (&'static str, [u64; 4]) {
+fn block_words(maker: &mut Maker, entry: &Entry) -> String {
     match entry {
         Entry::W {
             file,
@@ -103,7 +88,7 @@ fn block_form(entry: &Entry) -> (&'static str, [u64; 4]) {
                 "delays #:# = #, write #"
             };
             let numbers = [file.0 as u64, block.0 as u64, *value as u64, number.0];
-            (form, numbers)
+            maker.filled(form, &numbers)
         }
         Entry::R {
             file,
@@ -117,9 +102,9 @@ fn block_form(entry: &Entry) -> (&'static str, [u64; 4]) {
             } else {
                 "has #:# = #"
             };
-            (form, [file.0 as u64, block.0 as u64, *value as u64, 0])
+            maker.filled(form, &[file.0 as u64, block.0 as u64, *value as u64])
         }
-        _ => ("", [0; 4]),
+        _ => maker.text(&[]),
     }
 }
 
@@ -144,8 +129,8 @@ fn writes_of(entry: &Entry) -> [u64; 4] {
     }
 }
 
-/// The words of a grant.
-fn grant_words(mode: Mode) -> &'static str {
+/// The form of a grant.
+fn grant_form(mode: Mode) -> &'static str {
     match mode {
         Mode::NonCaching => "grants host # noncaching on #, # ticks",
         Mode::Reading => "grants host # reading on #, # ticks",
@@ -153,51 +138,62 @@ fn grant_words(mode: Mode) -> &'static str {
     }
 }
 
-/// The words of a call, but for a name.
-fn told_form(told: &Told) -> (&'static str, [u64; 4]) {
+/// The words of a call.
+fn call_words(maker: &mut Maker, told: &Told) -> String {
     match told {
-        Told::Create { .. } => ("call create ", [0; 4]),
-        Told::Lookup { .. } => ("call lookup ", [0; 4]),
-        Told::Attr { file } => ("call attr #", [file.0 as u64, 0, 0, 0]),
-        Told::Read { file, block } => ("call read # #", [file.0 as u64, block.0 as u64, 0, 0]),
-        Told::Fetch { file, block } => ("call fetch # #", [file.0 as u64, block.0 as u64, 0, 0]),
-        Told::Write { file, block, value } => (
-            "call write # # #",
-            [file.0 as u64, block.0 as u64, *value as u64, 0],
-        ),
-        Told::WriteSync { file, block, value } => (
-            "call put # # #",
-            [file.0 as u64, block.0 as u64, *value as u64, 0],
-        ),
-        Told::Sync { file } => ("call sync #", [file.0 as u64, 0, 0, 0]),
-        Told::Resize { file, blocks } => {
-            ("call resize # #", [file.0 as u64, *blocks as u64, 0, 0])
+        Told::Create { name, .. } => {
+            maker.text(&[Part::Text("call create "), Part::Text(letters(name))])
         }
-        Told::Remove { file } => ("call remove #", [file.0 as u64, 0, 0, 0]),
+        Told::Lookup { name } => {
+            maker.text(&[Part::Text("call lookup "), Part::Text(letters(name))])
+        }
+        Told::Attr { file } => maker.filled("call attr #", &[file.0 as u64]),
+        Told::Read { file, block } => {
+            maker.filled("call read # #", &[file.0 as u64, block.0 as u64])
+        }
+        Told::Fetch { file, block } => {
+            maker.filled("call fetch # #", &[file.0 as u64, block.0 as u64])
+        }
+        Told::Write { file, block, value } => maker.filled(
+            "call write # # #",
+            &[file.0 as u64, block.0 as u64, *value as u64],
+        ),
+        Told::WriteSync { file, block, value } => maker.filled(
+            "call put # # #",
+            &[file.0 as u64, block.0 as u64, *value as u64],
+        ),
+        Told::Sync { file } => maker.filled("call sync #", &[file.0 as u64]),
+        Told::Resize { file, blocks } => {
+            maker.filled("call resize # #", &[file.0 as u64, *blocks as u64])
+        }
+        Told::Remove { file } => maker.filled("call remove #", &[file.0 as u64]),
     }
 }
 
 /// The words of an answer.
-fn said_form(said: &Said) -> (&'static str, [u64; 4]) {
-    match said {
-        Said::OkValue(value) => ("answer ok #", [*value as u64, 0, 0, 0]),
-        Said::OkBy { value, packet } => ("answer ok # by #", [*value as u64, *packet, 0, 0]),
-        Said::Lost(spans) => lost_form(spans),
-        Said::Ok => ("answer ok", [0; 4]),
-        Said::Busy => ("answer busy", [0; 4]),
-        Said::Stale => ("answer stale", [0; 4]),
-        Said::NoEntry => ("answer noentry", [0; 4]),
-        Said::Exists => ("answer exists", [0; 4]),
-        Said::NoSpace => ("answer nospace", [0; 4]),
-        Said::Range => ("answer range", [0; 4]),
-        Said::DirtyFull => ("answer dirtyfull", [0; 4]),
-    }
+fn answer_words(maker: &mut Maker, said: &Said) -> String {
+    let word = match said {
+        Said::OkValue(value) => return maker.filled("answer ok #", &[*value as u64]),
+        Said::OkBy { value, packet } => {
+            return maker.filled("answer ok # by #", &[*value as u64, *packet]);
+        }
+        Said::Lost(spans) => return lost_words(maker, spans),
+        Said::Ok => "answer ok",
+        Said::Busy => "answer busy",
+        Said::Stale => "answer stale",
+        Said::NoEntry => "answer noentry",
+        Said::Exists => "answer exists",
+        Said::NoSpace => "answer nospace",
+        Said::Range => "answer range",
+        Said::DirtyFull => "answer dirtyfull",
+    };
+    maker.text(&[Part::Text(word)])
 }
 
 /// The words of an answer that names losses: the first of them, and how many more there are.
-fn lost_form(spans: &Spans) -> (&'static str, [u64; 4]) {
+fn lost_words(maker: &mut Maker, spans: &Spans) -> String {
     let Some(span) = spans.get(0) else {
-        return ("answer lost", [0; 4]);
+        return maker.text(&[Part::Text("answer lost")]);
     };
     let more = spans.len().saturating_sub(1);
     let form = if more > 0 {
@@ -205,8 +201,6 @@ fn lost_form(spans: &Spans) -> (&'static str, [u64; 4]) {
     } else {
         "answer lost #:#-#"
     };
-    (
-        form,
-        [span.block.0 as u64, span.first.0, span.last.0, more as u64],
-    )
+    let numbers = [span.block.0 as u64, span.first.0, span.last.0, more as u64];
+    maker.filled(form, &numbers)
 }

@@ -6,7 +6,7 @@ pub mod chart;
 mod columns;
 mod drawing;
 mod entries;
-mod lists;
+mod making;
 mod packets;
 mod picture_rows;
 mod reasons;

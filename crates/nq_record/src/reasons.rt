@@ -4,7 +4,7 @@ ghost use Rattle.nq_record.specs.Page.{Extends};
 
 use crate::NoMemory;
 use crate::chart::Page;
-use crate::lists::Growing;
+use crate::making::Maker;
 use crate::record::{Act, Record};
 use crate::telling::tell_moment;
 use nq_base::{BlockNo, Entry, FileId, Number, Said, Who};
@@ -28,7 +28,11 @@ pub fn why(
 ) -> Result<(), NoMemory>
     ensures { Extends out.old.items out.new.items }
 {
-    let led = led_to(alloc, record, entries, place)?;
+    let mut maker = Maker::new(alloc);
+    let led = led_to(&mut maker, record, entries, place);
+    if maker.is_short {
+        return Err(NoMemory::Memory);
+    }
     let mut page = Page::new(alloc);
     let count = record.moments.len();
     for back in 0..count {
@@ -41,31 +45,25 @@ pub fn why(
 }
 
 /// The places of the events that led to an entry.
-fn led_to(
-    alloc: Global,
-    record: &Record,
-    entries: &[Entry],
-    place: usize,
-) -> Result<Vec<usize>, NoMemory> {
-    let mut led = Growing::new(alloc);
-    let mut open = Growing::new(alloc);
-    open.push(place);
+fn led_to(maker: &mut Maker, record: &Record, entries: &[Entry], place: usize) -> Vec<usize> {
+    let mut led = Vec::new(maker.alloc);
+    let mut open = Vec::new(maker.alloc);
+    maker.push(&mut open, place);
     for _ in 0..entries.len() {
         let Some(entry) = open.pop() else {
             break;
         };
         if let Some(moment) = moment_of(record, entry) {
-            follow_packets(record, moment, &mut led);
+            follow_packets(maker, record, moment, &mut led);
         }
         if let Some(source) = source_of(entries, entry) {
-            open.push(source);
+            maker.push(&mut open, source);
             if let Some(end) = end_between(entries, source, entry) {
-                open.push(end);
+                maker.push(&mut open, end);
             }
         }
     }
-    open.finish()?;
-    led.finish()
+    led
 }
 
 /// The event that made an entry.
@@ -79,10 +77,10 @@ fn moment_of(record: &Record, entry: usize) -> Option<usize> {
 }
 
 /// Adds an event, the event that sent the packet that arrives in it, and so on.
-fn follow_packets(record: &Record, first: usize, led: &mut Growing<usize>) {
+fn follow_packets(maker: &mut Maker, record: &Record, first: usize, led: &mut Vec<usize>) {
     let mut place = first;
     for _ in 0..record.moments.len() {
-        led.push(place);
+        maker.push(led, place);
         let Some(moment) = record.moments.get(place) else {
             return;
         };

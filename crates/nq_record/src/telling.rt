@@ -50,11 +50,6 @@ fn tell_act(record: &Record, place: usize, moment: &Moment, page: &mut Page) {
     let counts = page.len().saturating_add(52);
     tell_what(record, place, moment.act, page);
     put_blanks(page, counts);
-    tell_counts(moment, page);
-}
-
-/// Puts how many rows, leases and blocks with delayed writes there then are.
-fn tell_counts(moment: &Moment, page: &mut Page) {
     page.put(&[Part::Text(" rows ")]);
     put_right(page, moment.rows as u64, 3, " leases ");
     put_right(page, moment.leases as u64, 3, " delayed ");
@@ -130,21 +125,16 @@ fn tell_lease(word: &str, mode: Mode, file: u32, page: &mut Page) {
     ]);
 }
 
-/// Puts the packets that an event sends.
+/// Puts the packets that an event sends, each behind a bar: its number, to whom it goes, and what it says.
 fn tell_packets(record: &Record, moment: &Moment, page: &mut Page) {
     let end = moment.packets.saturating_add(moment.sent);
     for number in moment.packets..end {
         if let Some(sent) = record.packets.get(number as usize) {
-            tell_packet(number, sent, page);
+            page.fill(" | sends # to ", &[number]);
+            page.put(&party_parts(sent.to));
+            page.put(&[Part::Text(": "), Part::Text(sent.words.as_str())]);
         }
     }
-}
-
-/// Puts a packet that is sent, behind a bar: its number, to whom it goes, and what it says.
-fn tell_packet(number: u64, sent: &Sent, page: &mut Page) {
-    page.fill(" | sends # to ", &[number]);
-    page.put(&party_parts(sent.to));
-    page.put(&[Part::Text(": "), Part::Text(sent.words.as_str())]);
 }
 
 /// Puts the entries that an event makes.

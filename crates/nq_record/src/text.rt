@@ -10,13 +10,16 @@ use nq_base::{Mode, Name, Party};
 use std::alloc::Global;
 use std::str;
 
-/// Appends a name, which is printable ASCII, behind a word.
+/// Appends a name behind a word.
 pub(crate) fn named(alloc: Global, word: &str, name: &Name) -> Result<String, NoMemory>
     ensures { IfOk result (λ text. Extends word.now (string_bytes text)) }
 {
-    let letters = str::from_utf8(name.as_bytes()).unwrap_or("");
-    let text = text_of(alloc, &[Part::Text(word), Part::Text(letters)])?;
-    Ok(text)
+    text_of(alloc, &[Part::Text(word), Part::Text(letters(name))])
+}
+
+/// The letters of a name, which are printable ASCII.
+pub(crate) fn letters(name: &Name) -> &str {
+    str::from_utf8(name.as_bytes()).unwrap_or("")
 }
 
 /// Words as a text of their own.

@@ -3,8 +3,7 @@
 use crate::chart::bars::Lanes;
 use crate::chart::chart::{Chart, Side};
 use crate::chart::style::{CLOCK, LANE, LETTER};
-use crate::lists::Growing;
-use std::alloc::Global;
+use crate::making::Maker;
 
 /// How far from its line the first thing beside a party stands, in pixels.
 pub(crate) const BESIDE: u64 = 8;
@@ -37,15 +36,15 @@ impl Post {
 /// The parties on the page.
 #[derive(Drop)]
 pub(crate) struct Posts {
-    pub(crate) posts: Growing<Post>,
+    pub(crate) posts: Vec<Post>,
     /// How wide the page is, in pixels.
     pub(crate) width: u64,
 }
 
 impl Posts {
     /// Gives each party its place: so far from the next one that no text of the one reaches the line of the other.
-    pub(crate) fn of(alloc: Global, chart: &Chart, lanes: &Lanes) -> Posts {
-        let mut posts = Growing::new(alloc);
+    pub(crate) fn of(maker: &mut Maker, chart: &Chart, lanes: &Lanes) -> Posts {
+        let mut posts = Vec::new(maker.alloc);
         let mut x = edge(chart.columns.len() as u64);
         let mut before = 0;
         for (place, column) in chart.columns.iter().enumerate() {
@@ -63,7 +62,7 @@ impl Posts {
             x = x.saturating_add(apart);
             post.x = x;
             before = room(chart, place, Side::Right, &post);
-            posts.push(post);
+            maker.push(&mut posts, post);
         }
         let width = x.saturating_add(before).max(360);
         Posts { posts, width }

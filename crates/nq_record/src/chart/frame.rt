@@ -3,7 +3,7 @@
 use crate::chart::chart::Chart;
 use crate::chart::columns::edge;
 use crate::chart::layout::Layout;
-use crate::chart::legend::{Entry, SAMPLE, Sample};
+use crate::chart::legend::{Entry, SAMPLE, SAMPLES, Sample};
 use crate::chart::pages::Page;
 use crate::chart::parts::Part;
 use crate::chart::style::{CLOCK, HEADS, STYLE};
@@ -17,11 +17,7 @@ pub(crate) fn open(page: &mut Page, chart: &Chart, layout: &Layout) {
         &[width, height, width, height],
     );
     page.put(&[Part::Text(STYLE), Part::Text(HEADS)]);
-    titles(page, chart);
-}
-
-/// The title, for those who see the page and for those who hear it.
-fn titles(page: &mut Page, chart: &Chart) {
+    // The title, for those who hear the page and for those who see it.
     let title = chart.title.as_str();
     page.put_within("\n<title>", &[], title, "</title>\n");
     page.put_within(
@@ -34,31 +30,30 @@ fn titles(page: &mut Page, chart: &Chart) {
 
 /// The legend.
 pub(crate) fn legend(page: &mut Page, layout: &Layout) {
-    for entry in &layout.legend.entries.items {
-        put_sample(page, entry);
-        page.fill(
-            "<text x=\"#\" y=\"#\">",
-            &[entry.x.saturating_add(SAMPLE), entry.y],
-        );
-        page.put(&[Part::Text(entry.sample.name()), Part::Text("</text>\n")]);
+    for entry in &layout.legend.entries {
+        if let Some(sample) = SAMPLES.get(entry.sample) {
+            put_sample(page, sample, entry);
+            page.fill(
+                "<text x=\"#\" y=\"#\">",
+                &[entry.x.saturating_add(SAMPLE), entry.y],
+            );
+            page.put(&[Part::Text(sample.name), Part::Text("</text>\n")]);
+        }
     }
 }
 
 /// The sample of an entry: a bar or an arrow.
-fn put_sample(page: &mut Page, entry: &Entry) {
-    let (mark, form, above) = match entry.sample {
-        Sample::Packet | Sample::Again | Sample::Lost => (
-            "<path class=\"",
-            "\" d=\"M# #h26\"/>",
-            4,
-        ),
-        _ => (
+fn put_sample(page: &mut Page, sample: &Sample, entry: &Entry) {
+    let (mark, form, above) = if sample.is_arrow {
+        ("<path class=\"", "\" d=\"M# #h26\"/>", 4)
+    } else {
+        (
             "<rect class=\"",
             "\" x=\"#\" y=\"#\" width=\"26\" height=\"12\"/>",
             10,
-        ),
+        )
     };
-    page.put(&[Part::Text(mark), Part::Text(entry.sample.class())]);
+    page.put(&[Part::Text(mark), Part::Text(sample.class)]);
     page.fill(form, &[entry.x, entry.y.saturating_sub(above)]);
 }
 

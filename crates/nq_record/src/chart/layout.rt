@@ -5,7 +5,7 @@ use crate::chart::chart::Chart;
 use crate::chart::columns::Posts;
 use crate::chart::legend::Legend;
 use crate::chart::rows::Steps;
-use std::alloc::Global;
+use crate::making::Maker;
 
 /// Where all of a chart stands on the page.
 #[derive(Drop)]
@@ -18,24 +18,16 @@ pub(crate) struct Layout {
 
 impl Layout {
     /// Gives all of a chart its place.
-    pub(crate) fn of(alloc: Global, chart: &Chart) -> Layout {
-        let lanes = Lanes::of(alloc, chart);
-        let posts = Posts::of(alloc, chart, &lanes);
-        let legend = Legend::of(alloc, posts.width);
-        let steps = Steps::of(alloc, chart, legend.end);
+    pub(crate) fn of(maker: &mut Maker, chart: &Chart) -> Layout {
+        let lanes = Lanes::of(maker, chart);
+        let posts = Posts::of(maker, chart, &lanes);
+        let legend = Legend::of(maker, posts.width);
+        let steps = Steps::of(maker, chart, legend.end);
         Layout {
             lanes,
             posts,
             legend,
             steps,
         }
-    }
-
-    /// Whether memory was wanting.
-    pub(crate) fn is_short(&self) -> bool {
-        self.lanes.is_short()
-            || self.posts.posts.is_short
-            || self.legend.entries.is_short
-            || self.steps.steps.is_short
     }
 }

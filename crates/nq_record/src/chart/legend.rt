@@ -1,64 +1,63 @@
 //! What the colours and arrows mean.
 
 use crate::chart::style::LETTER;
-use crate::lists::Growing;
-use std::alloc::Global;
+use crate::making::Maker;
 
-/// What a sample in the legend shows: arrows, and bars.
+/// What a sample in the legend shows.
 #[derive(Clone, Copy)]
-pub(crate) enum Sample {
-    Packet,
-    Again,
-    Lost,
-    Reading,
-    Writing,
-    NonCaching,
-    Recovery,
-}
-
-impl Sample {
+pub(crate) struct Sample {
+    /// Whether it is an arrow, and else a bar.
+    pub(crate) is_arrow: bool,
     /// Its class.
-    pub(crate) fn class(self) -> &'static str {
-        match self {
-            Sample::Packet => "a",
-            Sample::Again => "a g",
-            Sample::Lost => "x",
-            Sample::Reading => "n1",
-            Sample::Writing => "n2",
-            Sample::NonCaching => "n0",
-            Sample::Recovery => "n3",
-        }
-    }
-
+    pub(crate) class: &'static str,
     /// Its name.
-    pub(crate) fn name(self) -> &'static str {
-        match self {
-            Sample::Packet => "packet",
-            Sample::Again => "arrives again",
-            Sample::Lost => "lost",
-            Sample::Reading => "reading lease",
-            Sample::Writing => "writing lease",
-            Sample::NonCaching => "non-caching lease",
-            Sample::Recovery => "recovery",
-        }
-    }
+    pub(crate) name: &'static str,
 }
 
 /// The samples, in their order.
-const SAMPLES: [Sample; 7] = [
-    Sample::Packet,
-    Sample::Again,
-    Sample::Lost,
-    Sample::Reading,
-    Sample::Writing,
-    Sample::NonCaching,
-    Sample::Recovery,
+pub(crate) const SAMPLES: [Sample; 7] = [
+    Sample {
+        is_arrow: true,
+        class: "a",
+        name: "packet",
+    },
+    Sample {
+        is_arrow: true,
+        class: "a g",
+        name: "arrives again",
+    },
+    Sample {
+        is_arrow: true,
+        class: "x",
+        name: "lost",
+    },
+    Sample {
+        is_arrow: false,
+        class: "n1",
+        name: "reading lease",
+    },
+    Sample {
+        is_arrow: false,
+        class: "n2",
+        name: "writing lease",
+    },
+    Sample {
+        is_arrow: false,
+        class: "n0",
+        name: "non-caching lease",
+    },
+    Sample {
+        is_arrow: false,
+        class: "n3",
+        name: "recovery",
+    },
 ];
 
 /// A sample, and where it stands on the page, in pixels from the left and from the upper edge.
 #[derive(Clone, Copy)]
 pub(crate) struct Entry {
-    pub(crate) sample: Sample,
+    /// The place of the sample among all.
+    pub(crate) sample: usize,
     pub(crate) x: u64,
     pub(crate) y: u64,
 }
@@ -75,29 +74,30 @@ const APART: u64 = 18;
 /// The legend.
 #[derive(Drop)]
 pub(crate) struct Legend {
-    pub(crate) entries: Growing<Entry>,
+    pub(crate) entries: Vec<Entry>,
     /// Where the first row begins, in pixels from the upper edge.
     pub(crate) end: u64,
 }
 
 impl Legend {
     /// Gives each entry its place, in lines that are no wider than the page.
-    pub(crate) fn of(alloc: Global, width: u64) -> Legend {
-        let mut entries = Growing::new(alloc);
+    pub(crate) fn of(maker: &mut Maker, width: u64) -> Legend {
+        let mut entries = Vec::new(maker.alloc);
         let mut x = LEFT;
         let mut y = 44;
-        for sample in &SAMPLES {
-            let letters = sample.name().len() as u64;
+        for (place, sample) in SAMPLES.iter().enumerate() {
+            let letters = sample.name.len() as u64;
             let wide = SAMPLE.saturating_add(letters.saturating_mul(LETTER));
             if x.saturating_add(wide) > width {
                 x = LEFT;
                 y = APART.saturating_add(y);
             }
-            entries.push(Entry {
-                sample: *sample,
+            let entry = Entry {
+                sample: place,
                 x,
                 y,
-            });
+            };
+            maker.push(&mut entries, entry);
             x = x.saturating_add(wide).saturating_add(16);
         }
         Legend {

@@ -25,15 +25,10 @@ fn class(sign: Sign) -> &'static str {
 pub(crate) fn names(page: &mut Page, chart: &Chart, layout: &Layout) {
     for (place, row) in chart.rows.iter().enumerate() {
         if let Some(step) = layout.steps.get(place) {
-            edge_of(page, layout.posts.width, row, step);
+            name(page, layout.posts.width, row, step);
+            clocks(page, row, step);
         }
     }
-}
-
-/// The name and the clocks of a moment.
-fn edge_of(page: &mut Page, width: u64, row: &Row, step: Step) {
-    name(page, width, row, step);
-    clocks(page, row, step);
 }
 
 /// The name of a moment, over a thin line.

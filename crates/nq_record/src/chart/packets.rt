@@ -41,20 +41,15 @@ fn arrows(page: &mut Page, layout: &Layout, packet: &Packet, from: Post, to: Pos
     for (count, row) in packet.arrivals.iter().enumerate() {
         if let Some(step) = layout.steps.get(*row) {
             let class = if count > 0 { "a g" } else { "a" };
-            arrow(page, class, (from.x, sent), (to.x, step.arrive), text);
+            arrow(page, class, &[from.x, sent, to.x, step.arrive], text);
         }
     }
 }
 
-/// An arrow from a sending to an arrival, each a place in pixels from the left and from the upper edge.
-fn arrow(page: &mut Page, class: &str, from: (u64, u64), to: (u64, u64), text: &str) {
+/// An arrow between two ends, the sending and the arrival, each a place in pixels from the left and from the upper edge.
+fn arrow(page: &mut Page, class: &str, ends: &[u64], text: &str) {
     page.put(&[Part::Text("<path class=\""), Part::Text(class)]);
-    page.put_within(
-        "\" d=\"M# #L# #\"><title>",
-        &[from.0, from.1, to.0, to.1],
-        text,
-        "</title></path>\n",
-    );
+    page.put_within("\" d=\"M# #L# #\"><title>", ends, text, "</title></path>\n");
 }
 
 /// The arrow of a lost packet.
@@ -65,7 +60,7 @@ fn lost(page: &mut Page, from: Post, to: Post, sent: u64, text: &str) {
     } else {
         x.saturating_add(LOST)
     };
-    arrow(page, "x", (x, sent), (end, sent), text);
+    arrow(page, "x", &[x, sent, end, sent], text);
 }
 
 /// All bars.

@@ -2,20 +2,20 @@
 
 ghost use Rattle.std.specs.Prelude.{◌≡◌, ◌++◌, ◌⊎◌, [], IfSome, None, OnErr, OnOk, Some, length};
 ghost use Rattle.std.specs.List.{flat_map};
-ghost use Rattle.nq_record.specs.Page.{Closes, Extends, added, escaped_byte, spelled};
+ghost use Rattle.nq_record.specs.Page.{Closes, Extends, added, spelled};
 
 use crate::chart::NoMemory;
-use crate::chart::parts::{Part, filled, text_of};
+use crate::chart::parts::{Part, text_of};
 use crate::chart::text::escape;
+use crate::making::Maker;
 use std::alloc::Global;
 use std::marker::Model;
 
 /// A text that grows. Once memory was wanting there is no text any more, and `close` tells of it.
 #[derive(Drop)]
 pub struct Page {
-    alloc: Global,
+    maker: Maker,
     text: Vec<u8>,
-    is_short: bool,
 }
 
 impl Model for Page {
@@ -23,7 +23,7 @@ impl Model for Page {
 
     ghost Value = { Option (List ℕ) };
 
-    ghost view = { λ p. if p.is_short then None else Some p.text.items };
+    ghost view = { λ p. if p.maker.is_short then None else Some p.text.items };
 }
 
 impl Page {
@@ -32,9 +32,11 @@ impl Page {
         ensures { result ≡ Some [] }
     {
         Page {
-            alloc,
+            maker: Maker {
+                alloc,
+                is_short: false,
+            },
             text: Vec::new(alloc),
-            is_short: false,
         }
     }
 
@@ -49,33 +51,24 @@ impl Page {
     pub fn put(&mut self, parts: &[Part])
         ensures { self.new ≡ None ⊎ self.new ≡ added self.old (flat_map spelled parts.now) }
     {
-        if !self.is_short {
-            self.is_short = put_all(self.alloc, &mut self.text, parts).is_err();
+        if !self.maker.is_short {
+            self.maker.is_short = put_all(self.maker.alloc, &mut self.text, parts).is_err();
         }
     }
 
     /// Adds a form in which these numbers stand for the signs `#`, in their order.
     pub(crate) fn fill(&mut self, form: &str, numbers: &[u64]) {
-        match filled(self.alloc, form, numbers) {
-            Ok(text) => self.put(&[Part::Text(text.as_str())]),
-            Err(_) => self.is_short = true,
-        }
+        let text = self.maker.filled(form, numbers);
+        self.put(&[Part::Text(text.as_str())]);
     }
 
     /// Adds a text as XML reads it again, between a form with its numbers before it and an end behind it.
     pub(crate) fn put_within(&mut self, form: &str, numbers: &[u64], text: &str, end: &str) {
         self.fill(form, numbers);
-        self.escape(text);
-        self.put(&[Part::Text(end)]);
-    }
-
-    /// Adds a text as XML reads it again.
-    fn escape(&mut self, text: &str)
-        ensures { self.new ≡ None ⊎ self.new ≡ added self.old (flat_map escaped_byte text.now) }
-    {
-        if !self.is_short {
-            self.is_short = escape(&mut self.text, text).is_err();
+        if escape(&mut self.text, text).is_err() {
+            self.maker.is_short = true;
         }
+        self.put(&[Part::Text(end)]);
     }
 
     /// Appends the page to a text.
@@ -88,12 +81,8 @@ impl Page {
         ensures refused { OnErr result (out.new.items ≡ out.old.items) }
         ensures extends { Extends out.old.items out.new.items }
     {
-        let Page {
-            alloc: _,
-            text,
-            is_short,
-        } = self;
-        if is_short {
+        let Page { maker, text } = self;
+        if maker.is_short {
             return Err(NoMemory::Memory);
         }
         if out.is_empty() {

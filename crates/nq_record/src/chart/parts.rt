@@ -6,7 +6,6 @@ ghost use Rattle.std.specs.List.{flat_map};
 ghost use Rattle.nq_record.specs.Page.{spelled};
 
 use crate::chart::NoMemory;
-use crate::lists::Growing;
 use std::alloc::Global;
 
 /// A part of a text.
@@ -31,23 +30,6 @@ pub fn text_of(alloc: Global, parts: &[Part]) -> Result<String, NoMemory>
         push_part(alloc, &mut text, part)?;
     }
     Ok(text)
-}
-
-/// A form in which these numbers stand for the signs `#`, in their order. A sign for which there is no number is left out, and so is
-/// a number for which there is no sign.
-pub(crate) fn filled(alloc: Global, form: &str, numbers: &[u64]) -> Result<String, NoMemory> {
-    let mut parts = Growing::new(alloc);
-    let mut signs = 0usize;
-    for words in form.split('#') {
-        if signs > 0 {
-            if let Some(number) = numbers.get(signs - 1) {
-                parts.push(Part::Number(*number));
-            }
-        }
-        parts.push(Part::Text(words));
-        signs = signs.saturating_add(1);
-    }
-    text_of(alloc, &parts.finish()?)
 }
 
 /// Adds a part to a text.

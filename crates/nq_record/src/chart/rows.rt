@@ -2,8 +2,7 @@
 
 use crate::chart::chart::{Chart, Row, Side};
 use crate::chart::style::LINE;
-use crate::lists::Growing;
-use std::alloc::Global;
+use crate::making::Maker;
 
 /// A moment on the page. All is in pixels from the upper edge.
 #[derive(Clone, Copy)]
@@ -19,20 +18,20 @@ pub(crate) struct Step {
 /// The moments on the page.
 #[derive(Drop)]
 pub(crate) struct Steps {
-    pub(crate) steps: Growing<Step>,
+    pub(crate) steps: Vec<Step>,
     /// Where the last one ends.
     pub(crate) end: u64,
 }
 
 impl Steps {
     /// Gives each moment its place, the first one below the head: so high that its notes stand one below the other.
-    pub(crate) fn of(alloc: Global, chart: &Chart, head: u64) -> Steps {
-        let mut steps = Growing::new(alloc);
+    pub(crate) fn of(maker: &mut Maker, chart: &Chart, head: u64) -> Steps {
+        let mut steps = Vec::new(maker.alloc);
         let mut top = head;
         for row in &chart.rows {
             let arrive = top.saturating_add(6);
             let send = arrive.saturating_add(height(row));
-            steps.push(Step { top, arrive, send });
+            maker.push(&mut steps, Step { top, arrive, send });
             top = send.saturating_add(6);
         }
         Steps { steps, end: top }
@@ -50,10 +49,16 @@ impl Steps {
 /// How high the notes of a row are, in pixels.
 fn height(row: &Row) -> u64 {
     let lines = lines(row, Side::Left).max(lines(row, Side::Right)).max(1);
-    (lines as u64).saturating_mul(LINE).saturating_add(4)
+    lines.saturating_mul(LINE).saturating_add(4)
 }
 
 /// How many notes of a row stand on a side.
-fn lines(row: &Row, side: Side) -> usize {
-    row.notes.iter().filter(|note| note.side == side).count()
+fn lines(row: &Row, side: Side) -> u64 {
+    let mut lines = 0u64;
+    for note in &row.notes {
+        if note.side == side {
+            lines = lines.saturating_add(1);
+        }
+    }
+    lines
 }

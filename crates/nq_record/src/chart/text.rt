@@ -1,10 +1,11 @@
 //! Text within marks.
 
-ghost use Rattle.std.specs.Prelude.{◌≡◌, ◌++◌, OnOk, option_map};
+ghost use Rattle.std.specs.Prelude.{◌≡◌, ◌++◌, OnOk};
 ghost use Rattle.std.specs.List.{flat_map};
-ghost use Rattle.nq_record.specs.Page.{entity_or, escaped_byte};
+ghost use Rattle.nq_record.specs.Page.{escaped_byte};
 
 use crate::chart::NoMemory;
+use std::slice;
 
 /// Appends text so that a reader of XML reads it again, whatever stands in it: each `&`, `<`, `>` and `"` is written by its name
 /// (XML 1.0 section 4.6).
@@ -13,31 +14,20 @@ pub(crate) fn escape(page: &mut Vec<u8>, text: &str) -> Result<(), NoMemory>
 {
     let bytes = text.as_bytes();
     for byte in bytes {
-        escape_byte(page, *byte)?;
+        page.extend_from_slice(escaped(byte))?;
     }
     Ok(())
 }
 
-/// Appends a byte as it is read again behind a mark of XML.
-fn escape_byte(page: &mut Vec<u8>, byte: u8) -> Result<(), NoMemory>
-    ensures { OnOk result (page.new.items ≡ page.old.items ++ escaped_byte byte) }
+/// A byte as it is written: `&`, `<`, `>` and `"` by their names, and any other byte as it is.
+fn escaped(byte: &u8) -> &[u8]
+    ensures { result.now ≡ escaped_byte byte.now }
 {
-    match entity(byte) {
-        Some(name) => page.extend_from_slice(name.as_bytes())?,
-        None => page.push(byte)?,
-    }
-    Ok(())
-}
-
-/// The name of a byte that has one in XML: `&`, `<`, `>` and `"`. Any other byte stands for itself.
-fn entity(byte: u8) -> Option<&'static str>
-    ensures { entity_or byte (option_map (λ name. name.now) result) ≡ escaped_byte byte }
-{
-    match byte {
-        b'&' => Some("&amp;"),
-        b'<' => Some("&lt;"),
-        b'>' => Some("&gt;"),
-        b'"' => Some("&quot;"),
-        _ => None,
+    match *byte {
+        b'&' => b"&amp;",
+        b'<' => b"&lt;",
+        b'>' => b"&gt;",
+        b'"' => b"&quot;",
+        _ => slice::from_ref(byte),
     }
 }
