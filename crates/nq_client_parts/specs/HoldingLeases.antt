@@ -1,5 +1,5 @@
 -- What a client holds on a file, as a lease of the model.
-use Rattle.std.specs.Prelude.{Bool, false, true, Option, Some, None}
+use Rattle.std.specs.Prelude.{Bool, false, Option, Some, None}
 use Rattle.nq_base.specs.declared.Mode.{Mode}
 use Rattle.nq_base.specs.declared.Mode.TheVariants as modes
 use Rattle.nq_client_parts.specs.declared.holding.held.Held.{Held}
