@@ -1,20 +1,19 @@
 //! For what an image stands.
 
-use crate::page::Page;
-use nq_base::{HostRow, Verdict};
+use crate::page::{field, say, tell_words};
+use nq_base::HostRow;
 use nq_image::{FoundFile, read_kept};
 use std::alloc::Global;
-use std::str;
 
 /// Adds for what an image stands: the numbers of the server, the rows of hosts that sent something, and the files with their blocks.
-pub(crate) fn tell(alloc: Global, bytes: &[u8], page: &mut Page) {
+pub(crate) fn tell(alloc: Global, bytes: &[u8], page: &mut Vec<u8>) {
     let Ok(kept) = read_kept(alloc, bytes) else {
         return;
     };
-    page.field("\n  heads boot", kept.heads.boot.into());
-    page.field(" opened", kept.heads.opened.into());
-    page.field(" longest", kept.heads.longest.into());
-    page.field(" next", kept.heads.next.into());
+    field(page, "\n  heads boot", u64::from(kept.heads.boot));
+    field(page, " opened", u64::from(kept.heads.opened));
+    field(page, " longest", u64::from(kept.heads.longest));
+    field(page, " next", u64::from(kept.heads.next));
     for (host, row) in kept.hosts.iter().enumerate() {
         tell_host(host, row, page);
     }
@@ -24,48 +23,30 @@ pub(crate) fn tell(alloc: Global, bytes: &[u8], page: &mut Page) {
 }
 
 /// Adds the row of a host, if it sent something.
-fn tell_host(host: usize, row: &HostRow, page: &mut Page) {
+fn tell_host(host: usize, row: &HostRow, page: &mut Vec<u8>) {
     if row.inc.0 > 0 || row.seq.0 > 0 {
-        page.field("\n  host", host as u64);
-        page.field(" inc", row.inc.0.into());
-        page.field(" seq", row.seq.0);
-        page.field(" verdict", number_in(row.verdict));
-        page.field(" value", row.value);
-    }
-}
-
-/// The number of a verdict in an image.
-fn number_in(verdict: Verdict) -> u64 {
-    match verdict {
-        Verdict::Done => 0,
-        Verdict::Fenced => 1,
-        Verdict::Exist => 2,
-        Verdict::NoSpace => 3,
-        Verdict::Invalid => 4,
-        Verdict::Stale => 5,
-        Verdict::TryLater => 6,
+        field(page, "\n  host", host as u64);
+        field(page, " inc", u64::from(row.inc.0));
+        field(page, " seq", row.seq.0);
+        field(page, " verdict", row.verdict as u64);
+        field(page, " value", row.value);
     }
 }
 
 /// Adds a file and its blocks.
-fn tell_file(file: &FoundFile, blocks: &[u32], bytes: &[u8], page: &mut Page) {
+fn tell_file(file: &FoundFile, blocks: &[u32], bytes: &[u8], page: &mut Vec<u8>) {
     let row = &file.row;
-    let id = u64::from(row.id.0);
-    page.field("\n  file", id);
-    page.say(" name ");
-    page.say(str::from_utf8(row.name.as_bytes()).unwrap_or("no text"));
-    page.field(" blocks", row.blocks.into());
-    page.field(" rev", row.rev.0);
-    let own = blocks.get(file.start as usize..).unwrap_or(&[]);
-    for (number, block) in own.iter().take(row.blocks as usize).enumerate() {
-        page.field("\n  block", id);
-        page.field("", number as u64);
-        page.words(body_of(bytes, *block));
+    field(page, "\n  file", u64::from(row.id.0));
+    say(page, " name ");
+    page.extend_from_slice(row.name.as_bytes()).ok();
+    field(page, " blocks", u64::from(row.blocks));
+    field(page, " rev", row.rev.0);
+    for number in 0..row.blocks as usize {
+        if let Some(block) = blocks.get(number.saturating_add(file.start as usize)) {
+            field(page, "\n  block", u64::from(row.id.0));
+            field(page, "", number as u64);
+            let place = 40960 + 4096 * *block as usize;
+            tell_words(page, bytes.get(place..place + 4096).unwrap_or(&[]));
+        }
     }
-}
-
-/// The body of a block.
-fn body_of(bytes: &[u8], block: u32) -> &[u8] {
-    let place = 40960 + 4096 * block as usize;
-    bytes.get(place..place + 4096).unwrap_or(&[])
 }

@@ -1,12 +1,12 @@
 //! What is the machine's: its clock, UDP, and a disk in a file.
 
-use crate::page::Page;
+use crate::page::{digits, say};
 use nq_base::{Host, Party};
 use nq_clock::{Clock, StdClock};
 use nq_disk::{Disk, FileDisk};
 use nq_link::{Came, Link, Sent, UdpLink};
+use std::fs;
 use std::net::{IpAddr, Ipv4Addr, SocketAddr, UdpSocket};
-use std::{fs, str};
 
 const PATH: &str = "story_parts.img";
 
@@ -14,10 +14,9 @@ const PATH: &str = "story_parts.img";
 const PORT: u16 = 20603;
 
 /// Tries a part of the machine.
-pub(crate) fn try_part(rt: &HostRuntime, part: &str, page: &mut Page) {
-    page.say("== ");
-    page.say(part);
-    page.say("\n");
+pub(crate) fn try_part(rt: &HostRuntime, part: &str, page: &mut Vec<u8>) {
+    say(page, "== ");
+    say(page, part);
     match part {
         "clock" => clocks(rt, page),
         "UDP" => {
@@ -27,21 +26,17 @@ pub(crate) fn try_part(rt: &HostRuntime, part: &str, page: &mut Page) {
             disks(rt, page);
         }
     }
-}
-
-/// Adds whether something is so.
-fn tell(page: &mut Page, what: &str, is_so: bool) {
-    page.say(what);
-    page.say(if is_so { "true\n" } else { "false\n" });
+    say(page, "\n");
 }
 
 /// Two readings of the machine's clock, which does not go back and has not run for a minute.
-fn clocks(rt: &HostRuntime, page: &mut Page) {
+fn clocks(rt: &HostRuntime, page: &mut Vec<u8>) {
     if let Ok(machine) = rt.clone() {
         let mut clock = StdClock::new(machine);
         let first = clock.now().0;
         let second = clock.now().0;
-        tell(page, "", first <= second && second < 60);
+        let is_so = first <= second && second < 60;
+        say(page, if is_so { "\ntrue" } else { "\nfalse" });
     }
 }
 
@@ -51,21 +46,38 @@ fn link_of(rt: &HostRuntime, host: u32) -> Option<UdpLink<HostRuntime>> {
 }
 
 /// Tells the length of the datagram that comes next from a host, if one comes.
-fn receive(link: &mut UdpLink<HostRuntime>, room: &mut [u8], page: &mut Page) {
+fn receive(link: &mut UdpLink<HostRuntime>, page: &mut Vec<u8>) {
+    let mut room = [0u8; 4401];
     for _ in 0..100 {
-        if let Came::Datagram { length, sender } = link.receive(room) {
-            page.debug(&length);
-            tell(page, " bytes ", sender == Party::Client(Host(43)));
+        if let Came::Datagram { length, sender } = link.receive(&mut room) {
+            let is_host = sender == Party::Client(Host(43));
+            say(page, "\n");
+            digits(page, length as u64, 10);
+            say(
+                page,
+                if is_host {
+                    " bytes true"
+                } else {
+                    " bytes false"
+                },
+            );
             return;
         }
     }
-    page.say("nothing\n");
+    say(page, "\nnothing");
 }
 
 /// Sends a datagram to a host, and tells whether it was taken.
-fn send(link: &mut UdpLink<HostRuntime>, host: u32, datagram: &[u8], page: &mut Page) {
-    let sent = link.send(Party::Client(Host(host)), datagram);
-    tell(page, "sent ", sent == Sent::All);
+fn send(link: &mut UdpLink<HostRuntime>, host: u32, datagram: &[u8], page: &mut Vec<u8>) {
+    let is_sent = link.send(Party::Client(Host(host)), datagram) == Sent::All;
+    say(
+        page,
+        if is_sent {
+            "\nsent true"
+        } else {
+            "\nsent false"
+        },
+    );
 }
 
 /// Sends a datagram to host 42 from a port that is nobody's.
@@ -77,18 +89,16 @@ fn ask_as_stranger(rt: &HostRuntime) {
 }
 
 /// A stranger, at a port that is nobody's, is not heard. A datagram may be empty, and a long one is cut. There is no host 64.
-fn strangers(rt: &HostRuntime, page: &mut Page) -> Option<()> {
-    let mut room = vec![in rt.alloc(); 0u8; 4401].ok()?;
-    let long = vec![in rt.alloc(); 7u8; 5000].ok()?;
+fn strangers(rt: &HostRuntime, page: &mut Vec<u8>) -> Option<()> {
     let mut here = link_of(rt, 42)?;
     let mut there = link_of(rt, 43)?;
     // The socket is bound in the first call.
-    receive(&mut here, &mut room, page);
+    receive(&mut here, page);
     ask_as_stranger(rt);
     send(&mut there, 42, b"", page);
-    send(&mut there, 42, &long, page);
+    send(&mut there, 42, &[7; 5000], page);
     for _ in 0..3 {
-        receive(&mut here, &mut room, page);
+        receive(&mut here, page);
     }
     send(&mut here, 64, b"ask", page);
     Some(())
@@ -96,30 +106,32 @@ fn strangers(rt: &HostRuntime, page: &mut Page) -> Option<()> {
 
 /// A disk in a file.
 fn disk_of(rt: &HostRuntime, path: &str) -> Option<FileDisk> {
-    FileDisk::new(rt.alloc(), rt.clone().ok()?, path).ok()
+    let disk = FileDisk::new(rt.alloc(), rt.clone().ok()?, path).ok()?;
+    Some(disk)
+}
+
+/// Tells whether something was done.
+fn tell_done(page: &mut Vec<u8>, what: &str, is_done: bool) {
+    say(page, what);
+    say(page, if is_done { "Some(())" } else { "None" });
 }
 
 /// A file is a disk for one at a time.
-fn disks(rt: &HostRuntime, page: &mut Page) -> Option<()> {
+fn disks(rt: &HostRuntime, page: &mut Vec<u8>) -> Option<()> {
     let mut disk = disk_of(rt, PATH)?;
-    page.say("write ");
-    page.debug(&disk.write_at(3, b"abc").ok());
-    page.say("\nsync ");
-    page.debug(&disk.sync().ok());
     let mut other = disk_of(rt, PATH)?;
-    page.say("\nsize of another ");
-    page.debug(&other.size().ok());
+    let mut nowhere = disk_of(rt, "no_folder/none.img")?;
+    tell_done(page, "\nwrite ", disk.write_at(3, b"abc").is_ok());
+    tell_done(page, "\nsync ", disk.sync().is_ok());
+    tell_done(page, "\nsize of another ", other.size().is_ok());
     drop(disk);
     let mut into = *b"------";
-    page.say("\nread ");
-    page.debug(&other.read(2, &mut into).ok());
-    page.say("\n");
-    page.debug(&str::from_utf8(&into).unwrap_or("no text"));
-    drop(other);
+    if let Ok(4) = other.read(2, &mut into)
+        && into == *b"\0abc--"
+    {
+        say(page, "\nread Some(4)\n\"\\0abc--\"");
+    }
     fs::remove_file(rt, PATH).ok();
-    let mut nowhere = disk_of(rt, "no_folder/none.img")?;
-    page.say("\nsync ");
-    page.debug(&nowhere.sync().ok());
-    page.say("\n");
+    tell_done(page, "\nsync ", nowhere.sync().is_ok());
     Some(())
 }

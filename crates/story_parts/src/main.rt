@@ -38,28 +38,27 @@ mod serving;
 mod stops;
 mod timed;
 
-use crate::page::{Page, bytes_of, cut, hex_of, number_of};
-use crate::serving::Event;
+use crate::page::{cut, digits, say};
+use crate::serving::event_of;
 use crate::stops::Bench;
-use std::alloc::Global;
-use std::env;
+use std::io::Write;
 use std::process::ExitCode;
+use std::{env, io};
 
 fn main(rt: HostRuntime) -> ExitCode {
-    let mut page = Page::new(rt.alloc());
-    if fill(&rt, &mut page).is_none() {
-        return ExitCode::from(1);
-    }
-    match print!(rt; "{}", page.as_str()) {
-        Ok(()) => ExitCode::from(0),
-        Err(_) => ExitCode::from(1),
+    let mut page = Vec::new(rt.alloc());
+    if fill(&rt, &mut page).is_some() && io::writer(&rt).write_all(&page).is_ok() {
+        ExitCode::from(0)
+    } else {
+        ExitCode::from(1)
     }
 }
 
 /// Does what the words behind the program's name say, or plays the stories where there are none. None where the words say nothing that is here,
 /// memory is wanting, or a disk fails.
-fn fill(rt: &HostRuntime, page: &mut Page) -> Option<()> {
-    let mut words = env::args(rt).ok()?.skip(1);
+fn fill(rt: &HostRuntime, page: &mut Vec<u8>) -> Option<()> {
+    let mut words = env::args(rt).ok()?;
+    words.next();
     let Some(what) = words.next() else {
         play_all(rt, page);
         return Some(());
@@ -67,19 +66,25 @@ fn fill(rt: &HostRuntime, page: &mut Page) -> Option<()> {
     let way = words.next()?;
     let times = words.next()?;
     tell_often(rt, what.as_str(), way.as_str(), times.as_str(), page)?;
-    page.say("\n");
+    say(page, "\n");
     Some(())
 }
 
 /// Does one thing so many times, and tells the number that stands on all that came out.
-fn tell_often(rt: &HostRuntime, what: &str, way: &str, times: &str, page: &mut Page) -> Option<()> {
-    let times = times.parse::<u64>().ok()?;
-    page.debug(&timed::often(rt, what, way, times)?);
+fn tell_often(
+    rt: &HostRuntime,
+    what: &str,
+    way: &str,
+    times: &str,
+    page: &mut Vec<u8>,
+) -> Option<()> {
+    let times = u32::from_str_radix(times, 10).ok()?;
+    digits(page, timed::often(rt, what, way, times)?, 10);
     Some(())
 }
 
 /// Plays the stories of the standard input.
-fn play_all(rt: &HostRuntime, page: &mut Page) {
+fn play_all(rt: &HostRuntime, page: &mut Vec<u8>) {
     let mut bench = Bench::new(rt.alloc());
     for line in rt.lines(rt.alloc()) {
         if let Ok(line) = line {
@@ -89,54 +94,48 @@ fn play_all(rt: &HostRuntime, page: &mut Page) {
 }
 
 /// Plays a line, and tells what comes of it.
-fn play(rt: &HostRuntime, bench: &mut Bench, line: &str, page: &mut Page) {
+fn play(rt: &HostRuntime, bench: &mut Bench, line: &str, page: &mut Vec<u8>) {
     let alloc = rt.alloc();
-    let (verb, rest) = cut(line);
+    let (verb, rest) = cut(line, ' ');
     match verb {
         "#" => return,
         "machine" => return machine::try_part(rt, rest, page),
         "base" | "size" | "put" | "keep" => return bench.build(alloc, verb, rest),
         "image" => {
             bench.build(alloc, verb, rest);
-            page.say(rest);
+            say(page, rest);
         }
         "open" => bench.open(alloc, page),
         "stopped" => bench.stop(rt, rest, page),
         "=" => {
             bench.serve(alloc);
-            page.say(line);
+            say(page, line);
         }
         _ => answer(rt, bench, line, page),
     }
-    page.say("\n");
+    say(page, "\n");
 }
 
 /// Tells a line, and behind it what is read again, what is done often, or what a server answers.
-fn answer(rt: &HostRuntime, bench: &mut Bench, line: &str, page: &mut Page) {
+fn answer(rt: &HostRuntime, bench: &mut Bench, line: &str, page: &mut Vec<u8>) {
     let alloc = rt.alloc();
-    let (verb, rest) = cut(line);
-    page.say(line);
-    page.say(if matches!(verb, "tick" | "crash") {
-        ": "
-    } else {
-        " -> "
-    });
+    let (verb, rest) = cut(line, ' ');
+    say(page, line);
+    say(
+        page,
+        if matches!(verb, "tick" | "crash") {
+            ": "
+        } else {
+            " -> "
+        },
+    );
     match verb {
         "file" | "message" | "request" | "reply" => codecs::tell(alloc, verb, rest, page),
         "often" => {
-            let (what, rest) = cut(rest);
-            let (way, times) = cut(rest);
+            let (what, rest) = cut(rest, ' ');
+            let (way, times) = cut(rest, ' ');
             tell_often(rt, what, way, times, page);
         }
         _ => bench.answer(alloc, event_of(alloc, verb, rest), page),
-    }
-}
-
-/// What comes to a server.
-fn event_of(alloc: Global, verb: &str, rest: &str) -> Event {
-    match verb {
-        "tick" => Event::Tick(number_of(rest)),
-        "crash" => Event::Crash(number_of(rest)),
-        host => Event::Datagram(hex_of(host), bytes_of(alloc, rest)),
     }
 }

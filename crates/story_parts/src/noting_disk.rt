@@ -4,6 +4,7 @@ ghost use Rattle.std.specs.Prelude.{◌≡◌, Some};
 ghost use Rattle.nq_disk.specs.MemDisk.{GoesOn, Image, Left, reads};
 ghost use Rattle.nq_disk.specs.MemLaws.{goes-on-itself, goes-on-further, never-silent, reads-may-stay, left-now, left-ends, left-parts, left-joins};
 
+use crate::page::copy_of;
 use nq_disk::{Disk, DiskFault, MemDisk};
 use std::alloc::Global;
 use std::marker::Model;
@@ -58,28 +59,17 @@ impl NotingDisk {
         self.disk.bytes()
     }
 
-    /// Notes the moment of a call that writes nothing, or wrote what was noted last.
-    fn note(&mut self, before: usize)
+    /// Notes the moment of a call, of which so many writes were noted.
+    fn note(&mut self, came: usize)
         ensures { self.new ≡ self.old }
     {
+        let with_it = self.writes.len();
         let moment = Moment {
             settled: self.settled,
-            before,
-            with_it: self.writes.len(),
+            before: with_it.saturating_sub(came),
+            with_it,
         };
         self.moments.push(moment).ok();
-    }
-
-    /// Notes what is written.
-    fn note_write(&mut self, place: u64, bytes: &[u8])
-        ensures { self.new ≡ self.old }
-    {
-        let before = self.writes.len();
-        if let Ok(bytes) = Vec::from_slice(self.alloc, bytes) {
-            let place = place as usize;
-            self.writes.push(Write { place, bytes }).ok();
-        }
-        self.note(before);
     }
 }
 
@@ -113,25 +103,27 @@ impl Disk for NotingDisk {
     ghost joins = { left-joins };
 
     fn size(&mut self) -> Result<u64, DiskFault> {
-        let before = self.writes.len();
-        self.note(before);
+        self.note(0);
         self.disk.size()
     }
 
     fn read(&mut self, place: u64, into: &mut [u8]) -> Result<usize, DiskFault> {
-        let before = self.writes.len();
-        self.note(before);
+        self.note(0);
         self.disk.read(place, into)
     }
 
     fn write_at(&mut self, place: u64, bytes: &[u8]) -> Result<(), DiskFault> {
-        self.note_write(place, bytes);
+        let write = Write {
+            place: place as usize,
+            bytes: copy_of(self.alloc, bytes),
+        };
+        self.writes.push(write).ok();
+        self.note(1);
         self.disk.write_at(place, bytes)
     }
 
     fn sync(&mut self) -> Result<(), DiskFault> {
-        let before = self.writes.len();
-        self.note(before);
+        self.note(0);
         self.settled = self.writes.len();
         self.disk.sync()
     }

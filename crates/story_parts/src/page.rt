@@ -1,73 +1,62 @@
-//! What is printed, and what is read.
+//! What is printed, and what is read. Where memory is wanting, something is left out.
 
 use std::alloc::Global;
-use std::fmt::Debug;
 
 /// How many bytes a block has.
 const BLOCK: usize = 4096;
 
-/// A text that grows. Where memory is wanting, something is left out.
-#[derive(Drop)]
-pub(crate) struct Page {
-    text: String,
+/// Adds a text.
+pub(crate) fn say(page: &mut Vec<u8>, text: &str) {
+    page.extend_from_slice(text.as_bytes()).ok();
 }
 
-impl Page {
-    /// A page with nothing on it.
-    pub(crate) fn new(alloc: Global) -> Page {
-        Page {
-            text: String::new(alloc),
+/// Adds a name and a number.
+pub(crate) fn field(page: &mut Vec<u8>, name: &str, number: u64) {
+    say(page, name);
+    say(page, " ");
+    digits(page, number, 10);
+}
+
+/// Adds a number in hexadecimal.
+pub(crate) fn hex(page: &mut Vec<u8>, number: u32) {
+    digits(page, u64::from(number), 16);
+}
+
+/// Adds the digits of a number to this base.
+pub(crate) fn digits(page: &mut Vec<u8>, number: u64, base: u64) {
+    let base = base.max(2);
+    let mut unit: u64 = 1;
+    for _ in 0..19 {
+        if unit > 0 && number / unit >= base {
+            unit = unit.wrapping_mul(base);
         }
     }
-
-    /// All that stands on it.
-    pub(crate) fn as_str(&self) -> &str {
-        self.text.as_str()
-    }
-
-    /// Adds a text.
-    pub(crate) fn say(&mut self, text: &str) {
-        self.text.push_str(text).ok();
-    }
-
-    /// Adds a name and a number.
-    pub(crate) fn field(&mut self, name: &str, number: u64) {
-        write!(self.text, "{name} {number}").ok();
-    }
-
-    /// Adds a number in hexadecimal.
-    pub(crate) fn hex(&mut self, number: u32) {
-        write!(self.text, "{number:x}").ok();
-    }
-
-    /// Adds a value as a debugger shows it.
-    pub(crate) fn debug<T: Debug>(&mut self, value: &T) {
-        write!(self.text, "{value:?}").ok();
-    }
-
-    /// Adds the words of bytes, where a block that repeats a word stands as that word behind a star.
-    pub(crate) fn words(&mut self, bytes: &[u8]) {
-        let mut rest = bytes;
-        for _ in 0..bytes.len() / 4 {
-            let word = first_word(rest);
-            if repeats_a_word(rest) {
-                self.say(" *");
-                self.hex(word);
-                rest = rest.get(BLOCK..).unwrap_or(&[]);
-            } else if rest.len() >= 4 {
-                self.say(" ");
-                self.hex(word);
-                rest = &rest[4..];
-            }
+    for _ in 0..20 {
+        if unit > 0 {
+            page.push(digit(number / unit % base)).ok();
+            unit /= base;
         }
     }
 }
 
-/// The word at the front of bytes; 0 where there is none.
-fn first_word(bytes: &[u8]) -> u32 {
-    match bytes {
-        [a, b, c, d, ..] => u32::from_be_bytes([*a, *b, *c, *d]),
-        _ => 0,
+/// The digit of this value.
+fn digit(value: u64) -> u8 {
+    match b"0123456789abcdef".get(value as usize) {
+        Some(digit) => *digit,
+        None => b'?',
+    }
+}
+
+/// Adds the words of bytes, where a block that repeats a word stands as that word behind a star.
+pub(crate) fn tell_words(page: &mut Vec<u8>, bytes: &[u8]) {
+    let mut rest = bytes;
+    for _ in 0..bytes.len() / 4 {
+        if let [a, b, c, d, ..] = rest {
+            let repeats = repeats_a_word(rest);
+            say(page, if repeats { " *" } else { " " });
+            hex(page, u32::from_be_bytes([*a, *b, *c, *d]));
+            rest = rest.get(if repeats { BLOCK } else { 4 }..).unwrap_or(&[]);
+        }
     }
 }
 
@@ -79,14 +68,14 @@ fn repeats_a_word(bytes: &[u8]) -> bool {
     }
 }
 
-/// What stands before the first blank, and behind it.
-pub(crate) fn cut(line: &str) -> (&str, &str) {
-    line.split_once(' ').unwrap_or((line, ""))
+/// What stands before the first such mark, and behind it.
+pub(crate) fn cut(text: &str, mark: char) -> (&str, &str) {
+    text.split_once(mark).unwrap_or((text, ""))
 }
 
 /// The number that a word writes; 0 where it writes none.
-pub(crate) fn number_of(word: &str) -> u64 {
-    u64::from_str_radix(word, 10).unwrap_or(0)
+pub(crate) fn number_of(word: &str) -> u32 {
+    u32::from_str_radix(word, 10).unwrap_or(0)
 }
 
 /// The number that a word writes in hexadecimal; 0 where it writes none.
@@ -97,26 +86,55 @@ pub(crate) fn hex_of(word: &str) -> u32 {
 /// The bytes of these words, the highest byte of each first.
 pub(crate) fn bytes_of(alloc: Global, words: &str) -> Vec<u8> {
     let mut bytes = Vec::new(alloc);
-    for word in words.split_whitespace() {
-        push_word(&mut bytes, word);
+    let mut rest = words;
+    for _ in 0..words.len() {
+        if !rest.is_empty() {
+            let (word, behind) = cut(rest, ' ');
+            push_word(&mut bytes, word);
+            rest = behind;
+        }
     }
     bytes
 }
 
 /// Adds the bytes of a word.
 fn push_word(bytes: &mut Vec<u8>, word: &str) {
-    if let Some(byte) = word.strip_prefix('+') {
-        bytes.push((hex_of(byte) & 0xff) as u8).ok();
-        return;
+    let (_, byte) = cut(word, '+');
+    let (times, repeated) = cut(word, '*');
+    if !byte.is_empty() {
+        bytes
+            .extend_from_slice(&hex_of(byte).to_be_bytes()[3..])
+            .ok();
+    } else if repeated.is_empty() {
+        push_numbers(bytes, &[hex_of(word)]);
+    } else {
+        for _ in 0..number_of(times) {
+            push_numbers(bytes, &[hex_of(repeated)]);
+        }
     }
-    let (times, digits) = word.split_once('*').unwrap_or(("1", word));
-    let number = hex_of(digits).to_be_bytes();
-    for _ in 0..number_of(times) {
-        bytes.extend_from_slice(&number).ok();
+}
+
+/// Adds the bytes of numbers, the highest byte of each first.
+pub(crate) fn push_numbers(bytes: &mut Vec<u8>, numbers: &[u32]) {
+    for number in numbers {
+        bytes.extend_from_slice(&number.to_be_bytes()).ok();
     }
 }
 
 /// A copy of bytes.
 pub(crate) fn copy_of(alloc: Global, bytes: &[u8]) -> Vec<u8> {
-    bytes.to_vec(alloc).unwrap_or(Vec::new(alloc))
+    let mut copy = Vec::new(alloc);
+    copy.extend_from_slice(bytes).ok();
+    copy
+}
+
+/// Writes bytes over others, and past their end.
+pub(crate) fn write_over(into: &mut Vec<u8>, place: usize, bytes: &[u8]) {
+    let end = place.saturating_add(bytes.len());
+    if into.len() < end {
+        into.resize(end, 0).ok();
+    }
+    if place <= end && end <= into.len() && end - place == bytes.len() {
+        into[place..end].copy_from_slice(bytes);
+    }
 }

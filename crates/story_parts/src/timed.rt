@@ -7,52 +7,21 @@
 
 mod clients;
 mod datagrams;
-mod disks;
 mod finds;
 mod servers;
 mod stores;
 
-use crate::timed::clients::Act;
-use crate::timed::datagrams::Kind;
-use crate::timed::servers::Ask;
-use crate::timed::stores::{Asked, Deed};
-use std::alloc::Global;
+use crate::page::cut;
 
 /// Does so many times what the words say, and gives a number that stands on all that came out; None where they say nothing that is
 /// here, memory is wanting, or a disk fails.
-pub(crate) fn often(rt: &HostRuntime, what: &str, way: &str, times: u64) -> Option<u64> {
-    match deed_of(what) {
-        Some(deed) => stores::often(rt, deed, way, times),
-        None => without_store(rt.alloc(), what, way, times),
-    }
-}
-
-/// What is done with a store, where the word says such a thing.
-fn deed_of(what: &str) -> Option<Deed> {
-    match what {
-        "store-commit" => Some(Deed::Asked(Asked::Commit)),
-        "store-read" => Some(Deed::Asked(Asked::Read)),
-        "store-bare" => Some(Deed::Bare),
-        "store-open" => Some(Deed::Open { full: false }),
-        "store-open-full" => Some(Deed::Open { full: true }),
-        _ => None,
-    }
-}
-
-fn without_store(alloc: Global, what: &str, way: &str, times: u64) -> Option<u64> {
-    match what {
-        "lookup" => datagrams::often(alloc, Kind::Lookup, way, times),
-        "lookup-reply" => datagrams::often(alloc, Kind::LookupReply, way, times),
-        "read-reply" => datagrams::often(alloc, Kind::ReadReply, way, times),
-        "client-read" => clients::often(alloc, Act::Read, way, times),
-        "client-read-cached" => clients::often(alloc, Act::ReadCached, way, times),
-        "client-write" => clients::often(alloc, Act::Write, way, times),
-        "find" => finds::often(alloc, way, times),
-        "server-lookup" => servers::often(alloc, Ask::Lookup, way, times),
-        "server-read" => servers::often(alloc, Ask::Read, way, times),
-        "server-read-wanted" => servers::often(alloc, Ask::ReadWanted, way, times),
-        "server-write" => servers::often(alloc, Ask::Write, way, times),
-        "server-push" => servers::often(alloc, Ask::Push, way, times),
-        _ => None,
+pub(crate) fn often(rt: &HostRuntime, what: &str, way: &str, times: u32) -> Option<u64> {
+    let alloc = rt.alloc();
+    match cut(what, '-') {
+        ("client", act) => clients::often(alloc, act, way, times),
+        ("find", _) => finds::often(alloc, way, times),
+        ("server", ask) => servers::often(alloc, ask, way, times),
+        ("store", deed) => stores::often(rt, deed, way, times),
+        _ => datagrams::often(alloc, what, way, times),
     }
 }

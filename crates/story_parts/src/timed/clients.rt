@@ -1,11 +1,8 @@
 //! A client that holds leases on so many files: its cached reads and its delayed writes.
 
-use nq_base::{
-    Answer, Block, BlockNo, Call, FileId, Grant, Host, Inc, Journal, Mode, Reply, Rev, Spare, Tag,
-    Ticks, Value,
-};
+use crate::page::{cut, number_of, push_numbers};
+use nq_base::{Answer, Block, BlockNo, Call, FileId, Host, Inc, Journal, Spare, Ticks, Value};
 use nq_client::Client;
-use nq_datagrams::reply_bytes;
 use nq_wire::Outbox;
 use std::alloc::Global;
 
@@ -16,11 +13,11 @@ const TERM: u32 = 30;
 const LENGTH: u32 = 512;
 
 /// A journal is begun anew after so many calls.
-const CALLS: u64 = 64;
+const CALLS: u32 = 64;
 
 /// What is done again and again.
 #[derive(Clone, Copy)]
-pub(crate) enum Act {
+enum Act {
     /// A call that reads a block.
     Read,
     /// A read without a call.
@@ -37,153 +34,115 @@ struct Extent {
     blocks: u32,
 }
 
-impl Extent {
-    /// The extent of this word, which has the files first.
-    fn of(way: &str) -> Option<Extent> {
-        let (files, there, blocks) = match way {
-            "1-1" => (1, 1, 1),
-            "1-32" => (1, 32, 32),
-            "1-512" => (1, 512, 512),
-            "1-1-of-512" => (1, 512, 1),
-            "256-1" => (256, 1, 1),
-            "256-32" => (256, 32, 32),
-            "256-512" => (256, 512, 512),
-            _ => return None,
-        };
-        Some(Extent {
-            files,
-            there,
-            blocks,
-        })
-    }
-
-    /// The file and the block that come at this place, where the files take turns.
-    fn at(self, place: u32) -> (FileId, BlockNo) {
-        let file = place.checked_rem(self.files).unwrap_or(0);
-        let block = place.checked_div(self.files).unwrap_or(0);
-        (FileId(file), BlockNo(block))
-    }
-
-    /// The place behind this one, or the first.
-    fn next(self, place: u32) -> u32 {
-        let next = place.wrapping_add(1);
-        if next < self.blocks { next } else { 0 }
-    }
-}
-
 /// What a client is lent.
 #[derive(Drop)]
 struct Desk {
-    alloc: Global,
     out: Outbox,
     log: Journal,
+    room: Spare,
 }
 
 /// Does one thing so many times, with a client that has all that it needs for it; None where there is no such word, memory
 /// is wanting, or a call is not answered at once.
-pub(crate) fn often(alloc: Global, act: Act, way: &str, times: u64) -> Option<u64> {
-    let extent = Extent::of(way)?;
+pub(crate) fn often(alloc: Global, act: &str, way: &str, times: u32) -> Option<u64> {
+    let act = match act {
+        "read" => Act::Read,
+        "read-cached" => Act::ReadCached,
+        "write" => Act::Write,
+        _ => return None,
+    };
+    let extent = extent_of(way);
+    if extent.blocks == 0 {
+        return None;
+    }
     let mut client = Client::attached(alloc, Host(0), Inc(1), TERM, Ticks(0)).ok()?;
-    let sum = filled_and_used(alloc, &mut client, act, extent, times);
+    let sum = act_often(alloc, &mut client, act, extent, times);
     client.stop();
     sum
 }
 
-fn filled_and_used(
+/// The extent of these words: the files, the blocks in turn, and behind `of` the blocks that are there, if they are more.
+fn extent_of(way: &str) -> Extent {
+    let (files, rest) = cut(way, '-');
+    let (blocks, rest) = cut(rest, '-');
+    let blocks = number_of(blocks);
+    Extent {
+        files: number_of(files).max(1),
+        there: blocks.max(number_of(cut(rest, '-').1)),
+        blocks,
+    }
+}
+
+/// Has each file held and each block read or written once, and then does the thing so many times.
+fn act_often(
     alloc: Global,
     client: &mut Client,
     act: Act,
     extent: Extent,
-    times: u64,
+    times: u32,
 ) -> Option<u64> {
-    let mut desk = Desk::new(alloc);
-    desk.fill(client, act, extent);
-    match act {
-        Act::ReadCached => read_cached_often(alloc, client, extent, times),
-        Act::Read | Act::Write => desk.call_often(client, act, extent, times),
+    let mut desk = Desk {
+        out: Outbox::new(alloc, 0).unwrap(),
+        log: Journal::new(alloc).unwrap(),
+        room: Spare::none(),
+    };
+    for place in 0..extent.files.max(extent.there) {
+        desk.fill(alloc, client, act, extent.files, place);
     }
-}
-
-impl Desk {
-    fn new(alloc: Global) -> Desk {
-        Desk {
-            alloc,
-            out: Outbox::new(alloc, 0).unwrap(),
-            log: Journal::new(alloc).unwrap(),
-        }
-    }
-
-    /// Has each file held and each block read or written once. The server answers what is asked on the way.
-    fn fill(&mut self, client: &mut Client, act: Act, extent: Extent) {
-        for place in 0..extent.files.max(extent.there) {
-            let (file, block) = extent.at(place);
-            if let Answer::Pending = self.call(client, act, file, block) {
-                self.answer(client, act, place);
-            }
-        }
-    }
-
-    /// Has the server answer what was asked at this place.
-    fn answer(&mut self, client: &mut Client, act: Act, place: u32) {
-        let xid = place.wrapping_add(1);
-        if let Ok(bytes) = reply_bytes(self.alloc, xid, &reply(act, place)) {
-            client.receive(u64::from(place), &bytes, &mut self.out, &mut self.log);
-        }
-    }
-
-    fn call_often(
-        &mut self,
-        client: &mut Client,
-        act: Act,
-        extent: Extent,
-        times: u64,
-    ) -> Option<u64> {
-        let mut sum: u64 = 0;
-        let mut place: u32 = 0;
-        for time in 0..times {
-            if time % CALLS == 0 {
-                self.log = Journal::new(self.alloc).unwrap();
-            }
-            let (file, block) = extent.at(place);
-            sum = sum.wrapping_add(told(&self.call(client, act, file, block))?);
-            place = extent.next(place);
-        }
-        Some(sum)
-    }
-
-    fn call(&mut self, client: &mut Client, act: Act, file: FileId, block: BlockNo) -> Answer {
-        client.call(&call(act, file, block), &mut self.out, &mut self.log)
-    }
-}
-
-/// None where the client does not have a block.
-fn read_cached_often(
-    alloc: Global,
-    client: &mut Client,
-    extent: Extent,
-    times: u64,
-) -> Option<u64> {
-    let mut room = Spare::none();
     let mut sum: u64 = 0;
     let mut place: u32 = 0;
-    for _ in 0..times {
-        let (file, block) = extent.at(place);
-        room.reserve(alloc).ok()?;
-        let body = client.read_cached(file, block, &mut room)?;
-        sum = sum.wrapping_add(u64::from(body.value()));
-        place = extent.next(place);
+    for time in 0..times {
+        if time % CALLS == 0 {
+            desk.log = Journal::new(alloc).unwrap();
+        }
+        sum = sum.wrapping_add(desk.act(alloc, client, act, extent.files, place)?);
+        place = place.wrapping_add(1);
+        if place >= extent.blocks {
+            place = 0;
+        }
     }
     Some(sum)
 }
 
-fn call(act: Act, file: FileId, block: BlockNo) -> Call {
-    match act {
-        Act::Read | Act::ReadCached => Call::Read { file, block },
-        Act::Write => Call::Write {
-            file,
-            block,
-            body: Block::fill(7),
-        },
+impl Desk {
+    /// Has a block read or written once. The server answers what is asked on the way.
+    fn fill(&mut self, alloc: Global, client: &mut Client, act: Act, files: u32, place: u32) {
+        let act = match act {
+            Act::Write => Act::Write,
+            _ => Act::Read,
+        };
+        if self.act(alloc, client, act, files, place).is_none() {
+            let bytes = reply_of(alloc, act, place);
+            client.receive(u64::from(place), &bytes, &mut self.out, &mut self.log);
+        }
+    }
+
+    /// Does the thing at the file and the block that come at this place, where the files take turns. A number that stands on what
+    /// comes out; None where nothing comes at once.
+    fn act(
+        &mut self,
+        alloc: Global,
+        client: &mut Client,
+        act: Act,
+        files: u32,
+        place: u32,
+    ) -> Option<u64> {
+        let files = files.max(1);
+        let (file, block) = (FileId(place % files), BlockNo(place / files));
+        let call = match act {
+            Act::ReadCached => {
+                self.room.reserve(alloc).ok()?;
+                let body = client.read_cached(file, block, &mut self.room)?;
+                return Some(u64::from(body.value()));
+            }
+            Act::Read => Call::Read { file, block },
+            Act::Write => Call::Write {
+                file,
+                block,
+                body: Block::fill(7),
+            },
+        };
+        told(&client.call(&call, &mut self.out, &mut self.log))
     }
 }
 
@@ -196,30 +155,20 @@ fn told(answer: &Answer) -> Option<u64> {
     }
 }
 
-/// What the server answers: a lease, and the block where one is read.
-fn reply(act: Act, place: u32) -> Reply {
-    match act {
-        Act::Read | Act::ReadCached => Reply::Read {
-            inc: Inc(1),
-            rev: Rev(0),
-            body: Block::fill(place),
-            grant: Some(grant(Mode::Reading)),
-        },
-        Act::Write => Reply::GetLease {
-            inc: Inc(1),
-            grant: Some(grant(Mode::Writing)),
-        },
+/// What the server answers to the request of this place: the block where one is read, and a lease.
+fn reply_of(alloc: Global, act: Act, place: u32) -> Vec<u8> {
+    let mut bytes = Vec::new(alloc);
+    push_numbers(&mut bytes, &[place.wrapping_add(1), 1, 0, 0, 0, 0, 1, 0]);
+    let mode = match act {
+        Act::Write => 2,
+        _ => 1,
+    };
+    if mode == 1 {
+        push_numbers(&mut bytes, &[0, 0, 4096]);
+        for _ in 0..1024 {
+            push_numbers(&mut bytes, &[place]);
+        }
     }
-}
-
-fn grant(mode: Mode) -> Grant {
-    let tag = Tag { boot: 1, number: 1 };
-    Grant {
-        mode,
-        term: TERM,
-        tag,
-        since: tag,
-        rev: Rev(0),
-        blocks: LENGTH,
-    }
+    push_numbers(&mut bytes, &[1, mode, TERM, 1, 0, 1, 1, 0, 1, 0, 0, LENGTH]);
+    bytes
 }

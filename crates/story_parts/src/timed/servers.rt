@@ -1,16 +1,10 @@
-//! A server with so many files and lease rows, and the requests of one host that it answers again and again.
+//! A server with so many files and lease rows, and the requests of one host that it answers again and again. Requests are spelled here, since
+//! only their numbers differ.
 
-ghost use Rattle.std.specs.Prelude.{IfSome};
-ghost use Rattle.nq_wire.specs.Parts.{IsWanted};
-ghost use Rattle.nq_wire.specs.Request.{HasSpelling};
-
-use nq_base::{
-    Block, BlockNo, FileId, Host, Inc, Journal, Mode, Name, Number, PushBase, Request, Rev, Seq,
-    Ticks, Want, Who,
-};
-use nq_datagrams::call_bytes;
+use crate::page::{cut, number_of, push_numbers, write_over};
+use nq_base::{Host, Journal, Ticks};
 use nq_keeper::ListKeeper;
-use nq_server::{Received, Server};
+use nq_server::Server;
 use nq_wire::Outbox;
 use std::alloc::Global;
 
@@ -21,55 +15,59 @@ const LONGEST: u32 = 60;
 const LENGTH: u32 = 64;
 
 /// A journal is begun anew after so many requests.
-const REQUESTS: u64 = 64;
+const REQUESTS: u32 = 64;
 
-/// The host that asks again and again.
-const ASKER: u32 = 0;
+/// The numbers of procedures.
+const ATTACH: u32 = 1;
 
-/// The bytes of a request at which the lower half of its sequence stands.
+const LOOKUP: u32 = 2;
+
+const CREATE: u32 = 3;
+
+const READ: u32 = 5;
+
+const WRITE: u32 = 6;
+
+const GETLEASE: u32 = 7;
+
+/// The name of the first file.
+const NAME: u32 = 0x6161_0000;
+
+/// The bytes of a WRITE at which the lower half of its sequence stands.
 const SEQUENCE: usize = 52;
 
 /// The bytes of a push at which the lower half of the revision stands that it rests on.
 const BASE: usize = 92;
 
-/// What is asked again and again.
-#[derive(Clone, Copy, PartialEq, Eq)]
-pub(crate) enum Ask {
-    /// The id of a name.
-    Lookup,
-    /// A block.
-    Read,
-    /// A block and a reading lease, which renews the one that the host has.
-    ReadWanted,
-    /// A write that goes through.
-    Write,
-    /// A push of a delayed write, under a writing lease.
-    Push,
+/// What host 0 asks again and again.
+fn asked(alloc: Global, ask: &str) -> Option<Vec<u8>> {
+    let call = match ask {
+        "lookup" => call_of(alloc, LOOKUP, &[0, 1, 2, NAME]),
+        "read" => call_of(alloc, READ, &[0, 1, 0, 1, 1, 0, 0]),
+        "read-wanted" => call_of(alloc, READ, &[0, 1, 0, 1, 1, 0, 1, 1, LONGEST]),
+        "write" => call_of(alloc, WRITE, &[0, 1, 0, 0, 1, 0, 0, 1, 0, 1, 0, 4096]),
+        "push" => call_of(
+            alloc,
+            WRITE,
+            &[0, 1, 0, 0, 1, 0, 0, 1, 0, 1, 1, 1, 0, 0, 4096],
+        ),
+        _ => return None,
+    };
+    Some(call)
 }
 
-/// How many files there are, and how many rows: on each of the last files, so many hosts hold a reading lease.
-#[derive(Clone, Copy)]
-struct Extent {
-    files: u32,
-    shared: u32,
-    holders: u32,
-}
-
-impl Extent {
-    /// The extent of this word, which has the files first and then the rows. The asker's own row is one of them.
-    fn of(way: &str) -> Option<Extent> {
-        let (files, shared, holders) = match way {
-            "1-1" => (1, 0, 0),
-            "256-1" => (256, 0, 0),
-            "256-2048" => (256, 32, 64),
-            _ => return None,
-        };
-        Some(Extent {
-            files,
-            shared,
-            holders,
-        })
+/// The datagram of a call.
+fn call_of(alloc: Global, procedure: u32, arguments: &[u32]) -> Vec<u8> {
+    let mut bytes = Vec::new(alloc);
+    push_numbers(
+        &mut bytes,
+        &[1, 0, 2, 0x2000_4e51, 1, procedure, 0, 0, 0, 0],
+    );
+    push_numbers(&mut bytes, arguments);
+    if procedure == WRITE {
+        bytes.extend_from_slice(&[7; 4096]).ok();
     }
+    bytes
 }
 
 /// A server, with what it is lent, and whether it answered OK each time.
@@ -83,11 +81,35 @@ struct Desk {
 }
 
 /// Asks one thing so many times; None where there is no such word, memory is wanting, or the server does not answer OK.
-pub(crate) fn often(alloc: Global, ask: Ask, way: &str, times: u64) -> Option<u64> {
-    let extent = Extent::of(way)?;
+pub(crate) fn often(alloc: Global, ask: &str, way: &str, times: u32) -> Option<u64> {
+    let mut datagram = asked(alloc, ask)?;
+    let (files, rows) = cut(way, '-');
+    let is_push = ask == "push";
+    let is_write = is_push || ask == "write";
     let mut desk = Desk::new(alloc)?;
-    desk.fill(ask, extent);
-    desk.ask_often(ask, times)
+    desk.fill(
+        number_of(files),
+        number_of(rows),
+        if is_push { 2 } else { 1 },
+    );
+    let mut sum: u64 = 0;
+    for time in 0..times {
+        if time % REQUESTS == 0 {
+            desk.log = Journal::new(alloc).unwrap();
+        }
+        if is_write {
+            write_over(
+                &mut datagram,
+                SEQUENCE,
+                &time.wrapping_add(1000).to_be_bytes(),
+            );
+        }
+        if is_push {
+            write_over(&mut datagram, BASE, &time.to_be_bytes());
+        }
+        sum = sum.wrapping_add(desk.take_in(0, &datagram));
+    }
+    if desk.is_well { Some(sum) } else { None }
 }
 
 impl Desk {
@@ -102,206 +124,48 @@ impl Desk {
         })
     }
 
-    /// Makes the files and the rows.
-    fn fill(&mut self, ask: Ask, extent: Extent) {
+    /// Makes the files and the rows: host 0 has a lease of a mode on the first file, and 64 hosts have reading leases on each of the last ones.
+    fn fill(&mut self, files: u32, rows: u32, mode: u32) {
         for host in 0..64 {
-            self.ask_once(&Request::Attach { who: who(host) });
+            self.ask(host, ATTACH, &[host, 1]);
         }
-        for number in 1..=extent.files {
-            if let Some(request) = create(number) {
-                self.ask_once(&request);
-            }
+        for number in 0..files {
+            let name = NAME + number / 16 % 16 * 0x0100_0000 + number % 16 * 0x0001_0000;
+            self.ask(
+                0,
+                CREATE,
+                &[0, 1, 0, number.wrapping_add(1), 2, name, LENGTH],
+            );
         }
-        self.ask_once(&lease(ASKER, 1, mode_of(ask)));
-        for place in 0..extent.shared {
-            for host in 0..extent.holders {
-                self.lease_beside(host, extent.files.wrapping_sub(place));
-            }
-        }
-    }
-
-    /// Has a host hold one more reading lease, as far as the table has room.
-    fn lease_beside(&mut self, host: u32, file: u32) {
-        if self.server.table().len() < 2048 {
-            self.ask_once(&lease(host, file, Mode::Reading));
+        self.ask(0, GETLEASE, &[0, 1, 1, mode, LONGEST]);
+        for row in 1..rows {
+            let (host, file) = (row % 64, files.wrapping_sub(row / 64));
+            self.ask(host, GETLEASE, &[host, 1, file, 1, LONGEST]);
         }
     }
 
-    fn ask_once(&mut self, request: &Request)
-        requires { HasSpelling request.now }
-    {
-        match call_bytes(self.alloc, 1, request) {
-            Ok(datagram) => {
-                self.take_in(host_of(request), &datagram);
-            }
-            Err(_) => self.is_well = false,
-        }
+    fn ask(&mut self, host: u32, procedure: u32, arguments: &[u32]) {
+        let datagram = call_of(self.alloc, procedure, arguments);
+        self.take_in(host, &datagram);
     }
 
-    /// Asks again and again. Where requests have a sequence, it rises by one each time, and so does the revision of the file.
-    fn ask_often(&mut self, ask: Ask, times: u64) -> Option<u64> {
-        let mut datagram = call_bytes(self.alloc, 1, &request(ask)?).ok()?;
-        let mut sum: u64 = 0;
-        let mut asked: u32 = 0;
-        for time in 0..times {
-            if time % REQUESTS == 0 {
-                self.log = Journal::new(self.alloc).unwrap();
-            }
-            number(&mut datagram, ask, asked);
-            asked = asked.wrapping_add(1);
-            sum = sum.wrapping_add(self.take_in(ASKER, &datagram));
-        }
-        if self.is_well { Some(sum) } else { None }
-    }
-
-    /// How many bytes the server answers.
+    /// How many bytes the server answers that say OK.
     fn take_in(&mut self, host: u32, datagram: &[u8]) -> u64 {
         self.out.cut(0);
-        let host = Host(host);
-        let received = self
-            .server
-            .receive(self.alloc, host, datagram, &mut self.out, &mut self.log);
-        let answered = answered(&self.out);
-        if received != Received::Done || answered == 0 {
+        self.server.receive(
+            self.alloc,
+            Host(host),
+            datagram,
+            &mut self.out,
+            &mut self.log,
+        );
+        let answered = match self.out.get(0) {
+            Some((_, bytes)) if bytes.get(28..32) == Some([0; 4].as_slice()) => bytes.len() as u64,
+            _ => 0,
+        };
+        if answered == 0 {
             self.is_well = false;
         }
         answered
     }
-}
-
-/// How many bytes the one datagram that was sent has; 0 where it does not say OK.
-fn answered(out: &Outbox) -> u64 {
-    match out.get(0) {
-        Some((_, bytes)) if says_ok(bytes) => bytes.len() as u64,
-        _ => 0,
-    }
-}
-
-/// Whether the status of a reply is 0.
-fn says_ok(reply: &[u8]) -> bool {
-    match reply.get(28..32) {
-        Some(status) => status == [0; 4].as_slice(),
-        None => false,
-    }
-}
-
-/// Numbers a request that is decided once, and a push by the revision that it rests on.
-fn number(datagram: &mut [u8], ask: Ask, asked: u32) {
-    if ask == Ask::Write || ask == Ask::Push {
-        put_word(datagram, SEQUENCE, asked.wrapping_add(1000));
-    }
-    if ask == Ask::Push {
-        put_word(datagram, BASE, asked);
-    }
-}
-
-fn put_word(datagram: &mut [u8], place: usize, word: u32) {
-    for (byte, written) in datagram.iter_mut().skip(place).zip(word.to_be_bytes()) {
-        *byte = written;
-    }
-}
-
-fn who(host: u32) -> Who {
-    Who {
-        host: Host(host),
-        inc: Inc(1),
-    }
-}
-
-fn host_of(request: &Request) -> u32 {
-    match request {
-        Request::Attach { who } | Request::GetLease { who, .. } => who.host.0,
-        _ => ASKER,
-    }
-}
-
-/// The name of the file of this number: two letters.
-fn name_of(number: u32) -> Option<Name> {
-    let high = b'a' + (number / 16 % 26) as u8;
-    let low = b'a' + (number % 16) as u8;
-    Name::new(&[high, low])
-}
-
-fn create(number: u32) -> Option<Request>
-    ensures { IfSome result HasSpelling }
-{
-    Some(Request::Create {
-        who: who(ASKER),
-        seq: Seq(u64::from(number)),
-        name: name_of(number)?,
-        blocks: LENGTH,
-    })
-}
-
-/// The lease that the asker has before it asks.
-fn mode_of(ask: Ask) -> Mode
-    ensures { IsWanted result }
-{
-    match ask {
-        Ask::Push => Mode::Writing,
-        _ => Mode::Reading,
-    }
-}
-
-fn lease(host: u32, file: u32, mode: Mode) -> Request
-    requires { IsWanted mode }
-    ensures { HasSpelling result }
-{
-    Request::GetLease {
-        who: who(host),
-        file: FileId(file),
-        want: Want {
-            mode,
-            term: LONGEST,
-        },
-    }
-}
-
-fn read(want: Option<Want>) -> Request
-    requires { IfSome want (λ w. IsWanted w.mode) }
-    ensures { HasSpelling result }
-{
-    Request::Read {
-        who: who(ASKER),
-        call: 1,
-        file: FileId(1),
-        block: BlockNo(0),
-        want,
-    }
-}
-
-fn write(push: Option<PushBase>) -> Request
-    ensures { HasSpelling result }
-{
-    Request::Write {
-        who: who(ASKER),
-        seq: Seq(1000),
-        file: FileId(1),
-        block: BlockNo(0),
-        first: Number(1),
-        last: Number(1),
-        push,
-        body: Block::fill(7),
-    }
-}
-
-fn request(ask: Ask) -> Option<Request>
-    ensures { IfSome result HasSpelling }
-{
-    Some(match ask {
-        Ask::Lookup => Request::Lookup {
-            who: who(ASKER),
-            name: name_of(1)?,
-        },
-        Ask::Read => read(None),
-        Ask::ReadWanted => read(Some(Want {
-            mode: Mode::Reading,
-            term: LONGEST,
-        })),
-        Ask::Write => write(None),
-        Ask::Push => write(Some(PushBase {
-            boot: 1,
-            base: Rev(0),
-        })),
-    })
 }
