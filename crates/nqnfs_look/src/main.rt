@@ -23,13 +23,9 @@ use nq_io::streams::{StdSink, StdSource};
 use nq_io::{MemSink, MemSource, Put, Sink, Source, Whole, read_all};
 use nq_keeper::ListKeeper;
 use nq_replay::{read_script, replay};
-use std::alloc::Global;
 use std::io::ErrorKind;
 use std::process::ExitCode;
 use std::{env, io};
-
-// The status of a run for which memory was wanting.
-const NO_MEMORY: u8 = 7;
 
 // The most bytes of a schedule that are read.
 const MOST_BYTES: usize = 16_777_216;
@@ -38,86 +34,92 @@ const MOST_BYTES: usize = 16_777_216;
 const FAULT_LINE: usize = 128;
 
 fn main(rt: HostRuntime) -> ExitCode {
-    match shown(&rt) {
-        Ok(status) => ExitCode::from(status),
-        Err(NoMemory::Memory) => ExitCode::from(NO_MEMORY),
+    ExitCode::from(shown(&rt).status())
+}
+
+/// Shows what the words say; how that ends.
+fn shown(rt: &HostRuntime) -> Ending {
+    match words_of(rt) {
+        Ok(words) => match view_of(words.as_slice()) {
+            Some(view) => show(rt, view),
+            None => put(rt, b"usage\n", Ending::Usage),
+        },
+        Err(NoMemory::Memory) => Ending::Memory,
     }
 }
 
-/// Shows what the words say; the status.
-fn shown(rt: &HostRuntime) -> Result<u8, NoMemory> {
-    let mut out = StdSink::new(io::writer(rt));
-    match words_of(rt)? {
-        Some(view) => show(rt, view, &mut out),
-        None => Ok(put(&mut out, b"usage\n", Ending::Usage)),
-    }
-}
-
-/// Reads a schedule and shows its run; the status.
-fn show<K: Sink>(rt: &HostRuntime, view: View, out: &mut K) -> Result<u8, NoMemory> {
-    let alloc = rt.alloc();
+/// Reads a schedule and shows its run; how that ends.
+fn show(rt: &HostRuntime, view: View) -> Ending {
     let mut input = StdSource::new(rt.reader());
-    match read_all(alloc, &mut input, MOST_BYTES) {
-        Whole::All(text) => show_text(alloc, &text, view, out),
-        Whole::Over(text) => tell_fault(alloc, &text, out),
-        Whole::Failed => Ok(Ending::ReadFault.status()),
-        Whole::Memory => Err(NoMemory::Memory),
+    match read_all(rt.alloc(), &mut input, MOST_BYTES) {
+        Whole::All(text) => show_text(rt, &text, view),
+        Whole::Over(text) => tell_fault(rt, &text),
+        Whole::Failed => Ending::ReadFault,
+        Whole::Memory => Ending::Memory,
     }
 }
 
-/// Shows the run of a schedule that was read, or tells its fault; the status.
-fn show_text<K: Sink>(alloc: Global, text: &[u8], view: View, out: &mut K) -> Result<u8, NoMemory>
+/// Shows the run of a schedule that was read, or tells its fault; how that ends.
+fn show_text(rt: &HostRuntime, text: &[u8], view: View) -> Ending
     requires { length text.now < 2 ^ 31 }
 {
-    let status = tell_fault(alloc, text, out)?;
-    if status != Ending::Done.status() {
-        return Ok(status);
+    let ending = tell_fault(rt, text);
+    if !matches!(ending, Ending::Done) {
+        return ending;
     }
-    let mut page = Vec::new(alloc);
-    match look(alloc, text, view, &mut page)? {
-        Shown::All => Ok(put(out, &page, Ending::Done)),
-        Shown::Nothing => Ok(put(out, b"no entry\n", Ending::Usage)),
+    let mut page = Vec::new(rt.alloc());
+    match look(rt.alloc(), text, view, &mut page) {
+        Ok(Shown::All) => put(rt, &page, Ending::Done),
+        Ok(Shown::Nothing) => put(rt, b"no entry\n", Ending::Usage),
+        Err(NoMemory::Memory) => Ending::Memory,
     }
 }
 
-/// Replays a schedule, and prints the line that tells its fault, if it has one; the status.
-fn tell_fault<K: Sink>(alloc: Global, text: &[u8], out: &mut K) -> Result<u8, NoMemory> {
-    let mut source = MemSource::new(text.to_vec(alloc)?, Vec::new(alloc));
-    let mut told = MemSink::new(alloc, FAULT_LINE, Vec::new(alloc))?;
+/// Replays a schedule, and prints the line that tells its fault, if it has one; how that ends.
+fn tell_fault(rt: &HostRuntime, text: &[u8]) -> Ending {
+    let alloc = rt.alloc();
+    let Ok(copy) = text.to_vec(alloc) else {
+        return Ending::Memory;
+    };
+    let Ok(sink) = MemSink::new(alloc, FAULT_LINE, Vec::new(alloc)) else {
+        return Ending::Memory;
+    };
+    let Ok(keeper) = ListKeeper::new(alloc, Vec::new(alloc)) else {
+        return Ending::Memory;
+    };
+    let mut told = sink;
+    let mut source = MemSource::new(copy, Vec::new(alloc));
     let end = match read_script(alloc, &mut source, &mut told, MOST_BYTES) {
-        Ok(script) => {
-            let keeper = ListKeeper::new(alloc, Vec::new(alloc))?;
-            replay(alloc, keeper, &script, &mut told).end
-        }
+        Ok(script) => replay(alloc, keeper, &script, &mut told).end,
         Err(end) => end,
     };
     match end {
         // A journal that does not fit is that of a schedule without a fault.
-        Ending::Done | Ending::WriteFault => Ok(Ending::Done.status()),
-        fault => Ok(put(out, told.bytes(), fault)),
+        Ending::Done | Ending::WriteFault => Ending::Done,
+        fault => put(rt, told.bytes(), fault),
     }
 }
 
-/// Puts bytes out; the status of this end, or of a sink that failed.
-fn put<K: Sink>(out: &mut K, bytes: &[u8], end: Ending) -> u8 {
+/// Puts bytes out; this end, or that of a sink that failed.
+fn put(rt: &HostRuntime, bytes: &[u8], end: Ending) -> Ending {
+    let mut out = StdSink::new(io::writer(rt));
     match out.put(bytes) {
-        Put::All => end.status(),
-        Put::Failed => Ending::WriteFault.status(),
+        Put::All => end,
+        Put::Failed => Ending::WriteFault,
     }
 }
 
-/// How a run is shown by the words behind the program's name; None where they say nothing.
-fn words_of(rt: &HostRuntime) -> Result<Option<View>, NoMemory> {
-    let alloc = rt.alloc();
-    let mut words: Vec<String> = Vec::new(alloc);
+/// The words behind the program's name; none where they cannot be told.
+fn words_of(rt: &HostRuntime) -> Result<Vec<String>, NoMemory> {
+    let mut words = Vec::new(rt.alloc());
     match env::args(rt) {
         Ok(args) => {
             for word in args.skip(1) {
-                words.push(String::from_str(alloc, word.as_str())?)?;
+                words.push(word)?;
             }
+            Ok(words)
         }
-        Err(error) if error.kind() == ErrorKind::OutOfMemory => return Err(NoMemory::Memory),
-        Err(_) => {}
+        Err(error) if error.kind() == ErrorKind::OutOfMemory => Err(NoMemory::Memory),
+        Err(_) => Ok(words),
     }
-    Ok(view_of(&words))
 }

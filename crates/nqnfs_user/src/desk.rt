@@ -1,13 +1,14 @@
 //! A client at work, call by call.
 
 use nq_base::ending::Halt;
-use nq_base::{Answer, Call, Inc, Journal, Who};
+use nq_base::{Answer, Call, Inc, Journal, Value, Who};
 use nq_client::Client;
 use nq_clock::{Clock, StdClock};
 use nq_hosts::node::{ClientTurn, client_turn};
 use nq_link::{UdpLink, send_all};
 use nq_wire::Outbox;
 use std::alloc::Global;
+use std::mem;
 
 /// The most turns that are taken for one call.
 const MOST_TURNS: u32 = 1 << 30;
@@ -15,120 +16,152 @@ const MOST_TURNS: u32 = 1 << 30;
 /// The term that a client wants, in ticks.
 const TERM: u32 = 30;
 
+/// After how many ticks without an answer a call is given up: a recovery and the leases of somebody else come within it.
+const PATIENCE: u64 = 120;
+
 /// After how many ticks without an answer the leases are not given back.
 const FAREWELL: u64 = 10;
 
-/// A client that begins an incarnation now. It asks the server to attach it.
+/// A client that begins an incarnation now, if there is memory for it. It asks the server to attach it.
 fn begin(
     alloc: Global,
     who: Who,
     link: &mut UdpLink<HostRuntime>,
     clock: &mut StdClock<HostRuntime>,
-) -> Result<Client, Halt> {
+) -> Option<Client> {
     let now = clock.now();
     let mut out = Outbox::new(alloc, 0).unwrap();
     let Ok(client) = Client::start(alloc, who.host, who.inc, TERM, now, &mut out) else {
-        return Err(Halt::Memory);
+        return None;
     };
     let _sent = send_all(link, &out);
-    Ok(client)
+    Some(client)
 }
 
 /// A client at work, with its link and its clock. A turn that the link stopped is borne: what was not sent is sent again later.
-/// It has to be closed in the end.
+/// It remembers why no more can be asked, and what refused a step. It has to be closed in the end.
 pub(crate) struct UserDesk {
+    pub(crate) alloc: Global,
     client: Client,
-    patience: u64,
     next: u64,
     link: UdpLink<HostRuntime>,
     clock: StdClock<HostRuntime>,
+    /// Why no more can be asked: `NoAnswer` where a call was not answered in time and goes on, `Memory` where memory was wanting, and
+    /// `Spent` where the client takes in no more.
+    pub(crate) halt: Option<Halt>,
+    /// The answer that refused a step, until it is taken out.
+    pub(crate) refusal: Option<Answer>,
 }
 
 impl UserDesk {
-    /// A client that begins an incarnation, which no start before this one had, and is attached. A call is given up after so many ticks
-    /// without an answer.
-    ///
-    /// # Errors
-    ///
-    /// `NoAnswer` where the server did not attach it in time, and `Memory` where memory was wanting.
+    /// A client that begins an incarnation, which no start before this one had, if there is memory for it. It is attached, or cannot
+    /// ask.
     pub(crate) fn open(
         alloc: Global,
         who: Who,
-        patience: u64,
         link: UdpLink<HostRuntime>,
         clock: StdClock<HostRuntime>,
-    ) -> Result<UserDesk, Halt> {
+    ) -> Option<UserDesk> {
         let mut clock = clock;
         let mut link = link;
         let client = begin(alloc, who, &mut link, &mut clock)?;
         let mut desk = UserDesk {
+            alloc,
             client,
-            patience,
             next: 0,
             link,
             clock,
+            halt: None,
+            refusal: None,
         };
-        match desk.wait(alloc) {
-            Ok(_) => Ok(desk),
-            Err(why) => {
-                desk.close();
-                Err(why)
+        let _attached = desk.wait(PATIENCE);
+        Some(desk)
+    }
+
+    /// Makes a call, and takes turns until it is answered. There is no answer where no more can be asked.
+    pub(crate) fn ask(&mut self, call: Call) -> Option<Answer> {
+        match self.make(call) {
+            Answer::Pending => self.wait_for_answer(),
+            Answer::Memory => self.stop(Halt::Memory),
+            Answer::Spent => self.stop(Halt::Spent),
+            answer => Some(answer),
+        }
+    }
+
+    /// What a call brings that is a step of more. Where it is refused it brings nothing, and the steps behind it are not taken.
+    pub(crate) fn step(&mut self, call: Call) -> Value {
+        if self.is_stopped() {
+            return Value::Nothing;
+        }
+        let answer = self.ask(call);
+        self.value_in(answer)
+    }
+
+    /// What the answer to a step brings.
+    pub(crate) fn value_in(&mut self, answer: Option<Answer>) -> Value {
+        match answer {
+            Some(Answer::Ok(value)) => value,
+            refusal => {
+                self.refusal = refusal;
+                Value::Nothing
             }
         }
     }
 
-    /// Makes a call, and takes turns until it is answered.
-    ///
-    /// # Errors
-    ///
-    /// `NoAnswer` where it was not answered in time: it goes on, and no other call can be made. `Memory` where memory was wanting, and
-    /// `Spent` where the client takes in no more.
-    pub(crate) fn ask(&mut self, alloc: Global, call: Call) -> Result<Answer, Halt> {
-        match self.make(alloc, call) {
-            Answer::Pending => match self.wait(alloc)? {
-                Some(answer) => Ok(answer),
-                None => Err(Halt::NoAnswer),
-            },
-            Answer::Memory => Err(Halt::Memory),
-            Answer::Spent => Err(Halt::Spent),
-            answer => Ok(answer),
-        }
+    /// Whether no more steps are taken.
+    pub(crate) fn is_stopped(&self) -> bool {
+        self.halt.is_some() || self.refusal.is_some()
+    }
+
+    /// Notes why no more can be asked. No answer.
+    fn stop(&mut self, why: Halt) -> Option<Answer> {
+        self.halt = Some(why);
+        None
     }
 
     /// Makes a call, and sends what it pushes.
-    fn make(&mut self, alloc: Global, call: Call) -> Answer {
-        let mut out = Outbox::new(alloc, 0).unwrap();
-        let mut log = Journal::new(alloc).unwrap();
+    fn make(&mut self, call: Call) -> Answer {
+        let mut out = Outbox::new(self.alloc, 0).unwrap();
+        let mut log = Journal::new(self.alloc).unwrap();
         let answer = self.client.call(&call, &mut out, &mut log);
         let _sent = send_all(&mut self.link, &out);
         answer
     }
 
-    /// Takes turns until the call under way is answered or, where there is none, the client is attached.
-    fn wait(&mut self, alloc: Global) -> Result<Option<Answer>, Halt> {
+    /// Takes turns until the call under way is answered.
+    fn wait_for_answer(&mut self) -> Option<Answer> {
+        let answer = self.wait(PATIENCE);
+        if answer.is_none() && self.halt.is_none() {
+            return self.stop(Halt::NoAnswer);
+        }
+        answer
+    }
+
+    /// Takes turns until the call under way is answered or, where there is none, the client is attached; for so many ticks at most.
+    fn wait(&mut self, patience: u64) -> Option<Answer> {
         let began = self.client.time().0;
         for _turn in 0..MOST_TURNS {
-            match self.turn(alloc) {
+            match self.turn() {
                 ClientTurn::Quiet | ClientTurn::Link => {}
-                ClientTurn::Answered(answer) => return Ok(Some(answer)),
-                ClientTurn::Memory => return Err(Halt::Memory),
-                ClientTurn::Spent => return Err(Halt::Spent),
+                ClientTurn::Answered(answer) => return Some(answer),
+                ClientTurn::Memory => return self.stop(Halt::Memory),
+                ClientTurn::Spent => return self.stop(Halt::Spent),
             }
             if self.client.is_attached() && self.client.call_under_way().is_none() {
-                return Ok(None);
+                return None;
             }
-            if self.client.time().0.saturating_sub(began) > self.patience {
-                return Err(Halt::NoAnswer);
+            if self.client.time().0.saturating_sub(began) > patience {
+                break;
             }
         }
-        Err(Halt::NoAnswer)
+        self.stop(Halt::NoAnswer)
     }
 
     /// Takes a turn, with a journal that is dropped behind it.
-    fn turn(&mut self, alloc: Global) -> ClientTurn {
-        let mut log = Journal::new(alloc).unwrap();
+    fn turn(&mut self) -> ClientTurn {
+        let mut log = Journal::new(self.alloc).unwrap();
         client_turn(
-            alloc,
+            self.alloc,
             &mut self.client,
             &mut self.link,
             &mut self.clock,
@@ -138,34 +171,29 @@ impl UserDesk {
     }
 
     /// Gives all leases back: the host begins this incarnation, and the server ends the leases of those before as it attaches it. What
-    /// was delayed still is lost.
-    ///
-    /// # Errors
-    ///
-    /// Those of [`UserDesk::open`]. The leases may then run on.
-    pub(crate) fn give_back(self, alloc: Global, inc: Inc) -> Result<(), Halt> {
-        let UserDesk {
-            client,
-            patience: _,
-            next: _,
-            link,
-            clock,
-        } = self;
-        let host = client.who().host;
-        client.stop();
-        let desk = UserDesk::open(alloc, Who { host, inc }, FAREWELL, link, clock)?;
-        desk.close();
-        Ok(())
+    /// was delayed still is lost. Whether it went well; else the leases may run on.
+    pub(crate) fn give_back(&mut self, inc: Inc) -> bool {
+        let host = self.client.who().host;
+        let who = Who { host, inc };
+        let Some(client) = begin(self.alloc, who, &mut self.link, &mut self.clock) else {
+            return false;
+        };
+        mem::replace(&mut self.client, client).stop();
+        self.next = 0;
+        let _attached = self.wait(FAREWELL);
+        self.halt.is_none()
     }
 
     /// Ends the client. What it delays still is lost.
     pub(crate) fn close(self) {
         let UserDesk {
+            alloc: _,
             client,
-            patience: _,
             next: _,
             link: _link,
             clock: _clock,
+            halt: _,
+            refusal: _refusal,
         } = self;
         client.stop();
     }

@@ -1,176 +1,118 @@
-//! Whole files of the machine, in blocks.
+//! Whole files of the machine, in blocks. Each call is a step at the desk: where one is refused, those behind it are not made.
 
-ghost use Rattle.std.specs.Prelude.{◌<◌};
+ghost use Rattle.std.specs.Prelude.{◌≤◌, length};
 
 use crate::desk::UserDesk;
 use nq_base::ending::Halt;
 use nq_base::{Answer, Block, BlockNo, Call, FileId, Name, NoMemory, Value};
-use nq_command::prompt::{
-    MOST_BYTES, blocks_for, cut_to, first_block, length_in, piece, push_body,
-};
-use std::alloc::Global;
-
-/// Why a file was not put or not got.
-#[derive(Drop)]
-pub(crate) enum FileFault {
-    /// It is longer than [`MOST_BYTES`].
-    TooLong,
-    /// A call was answered so.
-    Answered(Answer),
-    /// A call was not answered.
-    Halted(Halt),
-    /// The file was not put as a whole file, or not to its end.
-    NotWhole,
-    /// What was read back is not what was written.
-    Differs,
-}
-
-impl From<Halt> for FileFault {
-    fn from(why: Halt) -> FileFault {
-        FileFault::Halted(why)
-    }
-}
-
-impl From<NoMemory> for FileFault {
-    fn from(_: NoMemory) -> FileFault {
-        FileFault::Halted(Halt::Memory)
-    }
-}
+use nq_command::prompt::{blocks_for, cut_to, first_block, length_in, piece, push_body};
 
 /// Puts these bytes as the file of this name, which is made or gets another length. All is stored behind the call, and was read back
-/// from the server and compared. The first block has 0 until all else is stored, and then one more than the length, and a mark.
-///
-/// # Errors
-///
-/// Then the file, if there is one, has nothing that can be got whole, or what it had before.
-pub(crate) fn put_file(
-    alloc: Global,
-    desk: &mut UserDesk,
-    name: Name,
-    bytes: &[u8],
-) -> Result<FileId, FileFault> {
-    if bytes.len() > MOST_BYTES {
-        return Err(FileFault::TooLong);
-    }
-    let file = make(alloc, desk, name, blocks_for(bytes.len()))?;
-    put(alloc, desk, file, 0, Block::fill(0))?;
-    let pieces = bytes.len().div_ceil(Block::SIZE);
-    for place in 0..pieces {
-        let body = piece(alloc, bytes, place)?;
-        put(alloc, desk, file, block_of(place), body)?;
-    }
-    let found = fetch_all(alloc, desk, file, blocks_for(bytes.len()), bytes.len())?;
-    if found.as_slice() != bytes {
-        return Err(FileFault::Differs);
-    }
-    let first = first_block(alloc, bytes.len())?;
-    put(alloc, desk, file, 0, first)?;
-    Ok(file)
-}
-
-/// In which block a piece of a file stands.
-fn block_of(place: usize) -> u32
-    requires { place < 1024 }
+/// from the server and compared. The first block has 0 until all else is stored, and then one more than the length, and a mark. None where
+/// a step was not taken or something else was read back. Then the file, if there is one, has nothing that can be got whole, or what it had
+/// before.
+pub(crate) fn put_file(desk: &mut UserDesk, name: Name, bytes: &[u8]) -> Option<FileId>
+    requires { length bytes.now ≤ 4190208 }
 {
-    1 + place as u32
+    let blocks = blocks_for(bytes.len());
+    let file = make(desk, name, blocks);
+    put(desk, file, 0, Ok(Block::fill(0)));
+    put_pieces(desk, file, bytes);
+    let found = fetch_all(desk, file, blocks, bytes.len())?;
+    if found.as_slice() != bytes {
+        return None;
+    }
+    let first = first_block(desk.alloc, bytes.len());
+    put(desk, file, 0, first);
+    if desk.is_stopped() { None } else { Some(file) }
 }
 
-/// So many bytes of a file, behind its first block. Each block is read from the server.
-fn fetch_all(
-    alloc: Global,
-    desk: &mut UserDesk,
-    file: FileId,
-    blocks: u32,
-    length: usize,
-) -> Result<Vec<u8>, FileFault> {
-    let mut bytes = Vec::new(alloc);
+/// Stores the pieces of a file, behind its first block.
+fn put_pieces(desk: &mut UserDesk, file: FileId, bytes: &[u8])
+    requires { length bytes.now ≤ 4190208 }
+{
+    for place in 0..bytes.len().div_ceil(Block::SIZE) {
+        let body = piece(desk.alloc, bytes, place);
+        put(desk, file, 1 + place as u32, body);
+    }
+}
+
+/// Stores a block of a file, if there was memory to make it.
+fn put(desk: &mut UserDesk, file: FileId, block: u32, body: Result<Block, NoMemory>) {
+    match body {
+        Ok(body) => {
+            let block = BlockNo(block);
+            let _stored = desk.step(Call::WriteSync { file, block, body });
+        }
+        Err(_) => desk.halt = Some(Halt::Memory),
+    }
+}
+
+/// So many bytes of a file, behind its first block, if all steps were taken. Each block is read from the server.
+fn fetch_all(desk: &mut UserDesk, file: FileId, blocks: u32, length: usize) -> Option<Vec<u8>> {
+    let mut bytes = Vec::new(desk.alloc);
     for block in 1..blocks {
-        let body = fetch(alloc, desk, file, block)?;
-        push_body(&mut bytes, &body)?;
+        let body = fetch(desk, file, block);
+        if push_body(&mut bytes, &body).is_err() {
+            desk.halt = Some(Halt::Memory);
+        }
     }
     cut_to(&mut bytes, length);
-    Ok(bytes)
+    if desk.is_stopped() { None } else { Some(bytes) }
 }
 
-/// The bytes of the file of this name, which was put as a whole file. Each block is read from the server.
-pub(crate) fn get_file(
-    alloc: Global,
-    desk: &mut UserDesk,
-    name: Name,
-) -> Result<Vec<u8>, FileFault> {
-    let file = look_up(alloc, desk, name)?;
-    let blocks = match desk.ask(alloc, Call::Attr { file })? {
-        Answer::Ok(Value::Blocks(blocks)) => blocks,
-        answer => return Err(FileFault::Answered(answer)),
-    };
+/// The bytes of the file of this name, if it was put as a whole file and all steps were taken. Each block is read from the server.
+pub(crate) fn get_file(desk: &mut UserDesk, name: Name) -> Option<Vec<u8>> {
+    let file = look_up(desk, name);
+    let blocks = blocks_of(desk, file);
     if blocks == 0 {
-        return Err(FileFault::NotWhole);
+        return None;
     }
-    let first = fetch(alloc, desk, file, 0)?;
+    let first = fetch(desk, file, 0);
     match length_in(&first, blocks) {
-        Some(length) => fetch_all(alloc, desk, file, blocks, length),
-        None => Err(FileFault::NotWhole),
+        Some(length) => fetch_all(desk, file, blocks, length),
+        None => None,
     }
 }
 
 /// The file of this name with so many blocks; it is made where there is none.
-fn make(alloc: Global, desk: &mut UserDesk, name: Name, blocks: u32) -> Result<FileId, FileFault> {
-    match desk.ask(alloc, Call::Create { name, blocks })? {
-        Answer::Exists => {
-            let file = look_up(alloc, desk, name)?;
-            carry_out(alloc, desk, Call::Resize { file, blocks })?;
-            Ok(file)
+fn make(desk: &mut UserDesk, name: Name, blocks: u32) -> FileId {
+    match desk.ask(Call::Create { name, blocks }) {
+        Some(Answer::Exists) => {
+            let file = look_up(desk, name);
+            let _resized = desk.step(Call::Resize { file, blocks });
+            file
         }
-        answer => file_in(answer),
+        answer => file_in(&desk.value_in(answer)),
     }
 }
 
 /// The file of this name.
-fn look_up(alloc: Global, desk: &mut UserDesk, name: Name) -> Result<FileId, FileFault> {
-    file_in(desk.ask(alloc, Call::Lookup { name })?)
+fn look_up(desk: &mut UserDesk, name: Name) -> FileId {
+    file_in(&desk.step(Call::Lookup { name }))
 }
 
-/// The file that an answer brings.
-fn file_in(answer: Answer) -> Result<FileId, FileFault> {
-    match file_of(&answer) {
-        Some(file) => Ok(file),
-        None => Err(FileFault::Answered(answer)),
+/// The file that a step brings.
+fn file_in(value: &Value) -> FileId {
+    match value {
+        Value::File(file) => *file,
+        _ => FileId(0),
     }
 }
 
-/// The file that an answer brings, if it brings one.
-fn file_of(answer: &Answer) -> Option<FileId> {
-    match answer {
-        Answer::Ok(Value::File(file)) => Some(*file),
-        _ => None,
+/// How many blocks a file has.
+fn blocks_of(desk: &mut UserDesk, file: FileId) -> u32 {
+    match desk.step(Call::Attr { file }) {
+        Value::Blocks(blocks) => blocks,
+        _ => 0,
     }
-}
-
-/// Makes a call that brings nothing.
-fn carry_out(alloc: Global, desk: &mut UserDesk, call: Call) -> Result<(), FileFault> {
-    match desk.ask(alloc, call)? {
-        Answer::Ok(_) => Ok(()),
-        answer => Err(FileFault::Answered(answer)),
-    }
-}
-
-/// Writes a block of a file, which is stored behind the call.
-fn put(
-    alloc: Global,
-    desk: &mut UserDesk,
-    file: FileId,
-    block: u32,
-    body: Block,
-) -> Result<(), FileFault> {
-    let block = BlockNo(block);
-    carry_out(alloc, desk, Call::WriteSync { file, block, body })
 }
 
 /// A block of a file, as the server has it.
-fn fetch(alloc: Global, desk: &mut UserDesk, file: FileId, block: u32) -> Result<Block, FileFault> {
+fn fetch(desk: &mut UserDesk, file: FileId, block: u32) -> Block {
     let block = BlockNo(block);
-    match desk.ask(alloc, Call::Fetch { file, block })? {
-        Answer::Ok(Value::Body(body)) => Ok(body),
-        answer => Err(FileFault::Answered(answer)),
+    match desk.step(Call::Fetch { file, block }) {
+        Value::Body(body) => body,
+        _ => Block::fill(0),
     }
 }

@@ -14,12 +14,8 @@ use nq_base::{Host, Party, Who};
 use nq_clock::StdClock;
 use nq_link::{Came, Link, UdpLink};
 use nq_script::words::number;
-use std::alloc::AllocError;
 use std::env;
 use std::process::ExitCode;
-
-// For how many seconds a call may wait: a recovery and the leases of somebody else come within it.
-const PATIENCE: u64 = 120;
 
 const HELP: &str = "nqnfs_user HOST
 
@@ -28,90 +24,102 @@ The file nqnfs-host-HOST in this folder keeps how often the host was started.
 ";
 
 fn main(rt: HostRuntime) -> ExitCode {
-    match obey(&rt) {
-        Ok(ending) => ExitCode::from(ending.status()),
-        Err(_) => ExitCode::from(Ending::Memory.status()),
-    }
+    ExitCode::from(obey(&rt).status())
 }
 
 /// Does what the words behind the program's name say; how that ends.
-fn obey(rt: &HostRuntime) -> Result<Ending, AllocError> {
+fn obey(rt: &HostRuntime) -> Ending {
     let Ok(args) = env::args(rt) else {
-        return Err(AllocError);
+        return Ending::Memory;
     };
-    let mut words = args.skip(1);
-    let word = words.next();
-    if words.next().is_none() {
-        if let Some(word) = &word {
-            if word.as_str() == "--help" {
-                let _told = print!(rt; "{HELP}");
-                return Ok(Ending::Done);
-            }
-            if let Some(host) = number(word.as_str().as_bytes(), 63) {
-                return be_host(rt, Host(host as u32));
-            }
-        }
+    let mut words = args;
+    let _program = words.next();
+    let Some(word) = words.next() else {
+        return usage(rt);
+    };
+    if words.next().is_some() {
+        return usage(rt);
     }
+    obey_word(rt, word.as_str())
+}
+
+/// Does what a word says; how that ends.
+fn obey_word(rt: &HostRuntime, word: &str) -> Ending {
+    if word == "--help" {
+        let _told = print!(rt; "{HELP}");
+        return Ending::Done;
+    }
+    match number(word.as_bytes(), 63) {
+        Some(host) => be_host(rt, Host(host as u32)),
+        None => usage(rt),
+    }
+}
+
+/// Tells which words there are.
+fn usage(rt: &HostRuntime) -> Ending {
     let _told = eprintln!(rt; "usage: nqnfs_user HOST");
-    Ok(Ending::Usage)
+    Ending::Usage
 }
 
 /// Is this host until its input ends.
-fn be_host(rt: &HostRuntime, host: Host) -> Result<Ending, AllocError> {
+fn be_host(rt: &HostRuntime, host: Host) -> Ending {
+    let Ok(net) = rt.clone() else {
+        return Ending::Memory;
+    };
+    let Ok(watch) = rt.clone() else {
+        return Ending::Memory;
+    };
     let number = host.0;
-    let mut link = UdpLink::new(rt.clone()?, Party::Client(host));
-    if link.receive(&mut [0]) == Came::Failed {
+    let mut link = UdpLink::new(net, Party::Client(host));
+    if matches!(link.receive(&mut [0]), Came::Failed) {
         let _told = eprintln!(rt;
             "nqnfs_user: the port of host {number} is taken or cannot be bound"
         );
-        return Ok(Ending::LinkFault);
+        return Ending::LinkFault;
     }
-    let Ok(inc) = next_inc(rt, host) else {
+    let Some(inc) = next_inc(rt, host) else {
         let _told = eprintln!(rt;
             "nqnfs_user: the file nqnfs-host-{number} cannot be read or written, or holds no number"
         );
-        return Ok(Ending::KeepFault);
+        return Ending::KeepFault;
     };
-    let clock = StdClock::new(rt.clone()?);
-    let ended = match UserDesk::open(rt.alloc(), Who { host, inc }, PATIENCE, link, clock) {
-        Ok(desk) => sit(rt, host, desk),
-        Err(why) => Err(why),
-    };
-    match ended {
-        Ok(()) => Ok(Ending::Done),
-        Err(why) => {
-            let (words, ending) = halt_words(why);
-            let _told = eprintln!(rt; "nqnfs_user: {words}");
-            Ok(ending)
-        }
+    match UserDesk::open(rt.alloc(), Who { host, inc }, link, StdClock::new(watch)) {
+        Some(desk) => sit(rt, host, desk),
+        None => told(rt, Halt::Memory),
     }
 }
 
 /// Reads lines at a desk to their end, and gives the leases back behind them. It is said where that did not go well.
-fn sit(rt: &HostRuntime, host: Host, desk: UserDesk) -> Result<(), Halt> {
+fn sit(rt: &HostRuntime, host: Host, desk: UserDesk) -> Ending {
     let mut desk = desk;
-    if let Err(why) = serve_lines(rt, &mut desk) {
-        desk.close();
-        return Err(why);
+    if desk.halt.is_none() {
+        serve_lines(rt, &mut desk);
     }
+    let ending = match desk.halt {
+        Some(why) => told(rt, why),
+        None => give_back(rt, host, &mut desk),
+    };
+    desk.close();
+    ending
+}
+
+/// Gives the leases back.
+fn give_back(rt: &HostRuntime, host: Host, desk: &mut UserDesk) -> Ending {
     let is_given = match next_inc(rt, host) {
-        Ok(inc) => desk.give_back(rt.alloc(), inc).is_ok(),
-        Err(_) => {
-            desk.close();
-            false
-        }
+        Some(inc) => desk.give_back(inc),
+        None => false,
     };
     if !is_given {
         let _told = eprintln!(rt;
             "nqnfs_user: the leases were not given back; whoever comes next may wait for 38 seconds"
         );
     }
-    Ok(())
+    Ending::Done
 }
 
-/// Why a run has ended before its input, in words, and how it ends.
-fn halt_words(why: Halt) -> (&'static str, Ending) {
-    match why {
+/// Tells why a run has ended before its input; how it ends.
+fn told(rt: &HostRuntime, why: Halt) -> Ending {
+    let (words, ending) = match why {
         Halt::NoAnswer => (
             "no answer: no server runs, it recovers, somebody else has a lease on the file, or the server knows a later start of this host",
             Ending::NoAnswer,
@@ -122,5 +130,7 @@ fn halt_words(why: Halt) -> (&'static str, Ending) {
             Ending::Limit,
         ),
         Halt::Link | Halt::Keep => ("the link failed", Ending::LinkFault),
-    }
+    };
+    let _told = eprintln!(rt; "nqnfs_user: {words}");
+    ending
 }

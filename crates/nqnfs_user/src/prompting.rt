@@ -1,7 +1,7 @@
 //! Lines at the prompt, each answered at once.
 
 use crate::desk::UserDesk;
-use crate::files::{FileFault, get_file, put_file};
+use crate::files::{get_file, put_file};
 use crate::starts::write_synced;
 use nq_base::ending::Halt;
 use nq_base::{Answer, Call, FileId, Name};
@@ -21,71 +21,27 @@ get NAME PATH        get it again, as a new file of this machine
 help, quit
 ";
 
-/// Reads lines to the end of the input and does what each says. The answer stands behind it before the next is read.
-pub(crate) fn serve_lines(rt: &HostRuntime, desk: &mut UserDesk) -> Result<(), Halt> {
+/// Reads lines to the end of the input and does what each says, as long as the desk can ask. The answer stands behind a line before the
+/// next is read.
+pub(crate) fn serve_lines(rt: &HostRuntime, desk: &mut UserDesk) {
     let Ok(reader) = BufReader::new(rt.alloc(), rt.reader()) else {
-        return Err(Halt::Memory);
+        desk.halt = Some(Halt::Memory);
+        return;
     };
     ask(rt);
     for line in reader.lines(rt.alloc()) {
         let Ok(line) = line else {
-            return Ok(());
+            return;
         };
         match line_of(rt.alloc(), line.as_str().trim().as_bytes()) {
-            Line::Quit => return Ok(()),
-            other => serve_line(rt, desk, other)?,
+            Line::Quit => return,
+            other => serve_line(rt, desk, other),
+        }
+        if desk.halt.is_some() {
+            return;
         }
         ask(rt);
     }
-    Ok(())
-}
-
-/// Does what a line says.
-fn serve_line(rt: &HostRuntime, desk: &mut UserDesk, line: Line<'_>) -> Result<(), Halt> {
-    match line {
-        Line::Empty | Line::Quit => Ok(()),
-        Line::Help => {
-            let _told = print!(rt; "{HELP}");
-            Ok(())
-        }
-        Line::Unknown => {
-            say(rt, "no such line; help tells what there is");
-            Ok(())
-        }
-        Line::Call(call) => serve_call(rt, desk, call),
-        Line::Put { path, name } => match str::from_utf8(path) {
-            Ok(path) => serve_put(rt, desk, path, name),
-            Err(_) => Ok(()),
-        },
-        Line::Get { name, path } => match str::from_utf8(path) {
-            Ok(path) => serve_get(rt, desk, name, path),
-            Err(_) => Ok(()),
-        },
-    }
-}
-
-/// Makes a call and tells its answer. What a write delays is stored before the next line, and where that does not go well it is told.
-fn serve_call(rt: &HostRuntime, desk: &mut UserDesk, call: Call) -> Result<(), Halt> {
-    let written = match &call {
-        Call::Write { file, .. } => Some(*file),
-        _ => None,
-    };
-    let answer = desk.ask(rt.alloc(), call)?;
-    tell_answer(rt, &answer);
-    match (written, &answer) {
-        (Some(file), Answer::Ok(_)) => sync(rt, desk, file),
-        _ => Ok(()),
-    }
-}
-
-/// Stores what is delayed of a file, and tells where that does not go well.
-fn sync(rt: &HostRuntime, desk: &mut UserDesk, file: FileId) -> Result<(), Halt> {
-    let stored = desk.ask(rt.alloc(), Call::Sync { file })?;
-    if !matches!(stored, Answer::Ok(_)) {
-        let _told = print!(rt; "file {}: ", file.0);
-        tell_answer(rt, &stored);
-    }
-    Ok(())
 }
 
 /// Shows that a line can be written.
@@ -93,12 +49,52 @@ fn ask(rt: &HostRuntime) {
     let _told = eprint!(rt; "nqnfs> ");
 }
 
+/// Does what a line says.
+fn serve_line(rt: &HostRuntime, desk: &mut UserDesk, line: Line<'_>) {
+    match line {
+        Line::Empty | Line::Quit => {}
+        Line::Help => {
+            let _told = print!(rt; "{HELP}");
+        }
+        Line::Unknown => say(rt, "no such line; help tells what there is"),
+        Line::Call(call) => serve_call(rt, desk, call),
+        Line::Put { path, name } => serve_put(rt, desk, text_in(path), name),
+        Line::Get { name, path } => serve_get(rt, desk, name, text_in(path)),
+    }
+}
+
+/// These bytes as text; nothing where they are none.
+fn text_in(bytes: &[u8]) -> &str {
+    str::from_utf8(bytes).unwrap_or("")
+}
+
+/// Makes a call and tells its answer. What a write delays is stored before the next line, and where that does not go well it is told.
+fn serve_call(rt: &HostRuntime, desk: &mut UserDesk, call: Call) {
+    let written = match &call {
+        Call::Write { file, .. } => Some(*file),
+        _ => None,
+    };
+    if let Some(answer) = desk.ask(call) {
+        tell_answer(rt, &answer);
+        if let (Some(file), Answer::Ok(_)) = (written, &answer) {
+            sync(rt, desk, file);
+        }
+    }
+}
+
+/// Stores what is delayed of a file, and tells where that does not go well.
+fn sync(rt: &HostRuntime, desk: &mut UserDesk, file: FileId) {
+    let _stored = desk.step(Call::Sync { file });
+    if let Some(refusal) = desk.refusal.take() {
+        let _told = print!(rt; "file {}: ", file.0);
+        tell_answer(rt, &refusal);
+    }
+}
+
 /// Tells an answer.
 fn tell_answer(rt: &HostRuntime, answer: &Answer) {
-    if let Ok(line) = answer_text(rt.alloc(), answer) {
-        if let Ok(words) = str::from_utf8(&line) {
-            say(rt, words);
-        }
+    if let Ok(words) = answer_text(rt.alloc(), answer) {
+        say(rt, text_in(&words));
     }
 }
 
@@ -107,56 +103,63 @@ fn say(rt: &HostRuntime, words: &str) {
     let _told = println!(rt; "{words}");
 }
 
-/// Tells why a file was not put or got; a halt ends the run.
-fn tell_fault(rt: &HostRuntime, fault: FileFault) -> Result<(), Halt> {
-    match fault {
-        FileFault::Halted(why) => return Err(why),
-        FileFault::Answered(answer) => tell_answer(rt, &answer),
-        FileFault::TooLong => {
-            let _told = println!(rt; "the file has more than {MOST_BYTES} bytes");
-        }
-        FileFault::NotWhole => say(rt, "it was not put as a whole file, or not to its end"),
-        FileFault::Differs => say(
-            rt,
-            "what was read back differs: somebody else wrote meanwhile",
-        ),
+/// Tells why a file was not put or got: what refused a step, or else these words. A halt is told at the end of the run.
+fn tell_fault(rt: &HostRuntime, desk: &mut UserDesk, words: &str) {
+    match desk.refusal.take() {
+        Some(refusal) => tell_answer(rt, &refusal),
+        None if desk.halt.is_none() => say(rt, words),
+        None => {}
     }
-    Ok(())
 }
 
 /// Puts a file of the machine.
-fn serve_put(rt: &HostRuntime, desk: &mut UserDesk, path: &str, name: Name) -> Result<(), Halt> {
-    let bytes = match fs::read(rt, path) {
-        Ok(bytes) => bytes,
-        Err(error) => {
-            tell_machine(rt, path, error.kind());
-            return Ok(());
-        }
-    };
-    match put_file(rt.alloc(), desk, name, &bytes) {
-        Ok(file) => {
-            let (file, count) = (file.0, bytes.len());
+fn serve_put(rt: &HostRuntime, desk: &mut UserDesk, path: &str, name: Name) {
+    match fs::read(rt, path) {
+        Ok(bytes) => put_bytes(rt, desk, name, &bytes),
+        Err(error) => tell_machine(rt, path, error.kind()),
+    }
+}
+
+/// Puts these bytes as a file.
+fn put_bytes(rt: &HostRuntime, desk: &mut UserDesk, name: Name, bytes: &[u8]) {
+    let count = bytes.len();
+    if count > MOST_BYTES {
+        let _told = println!(rt; "the file has more than {MOST_BYTES} bytes");
+        return;
+    }
+    match put_file(desk, name, bytes) {
+        Some(FileId(file)) => {
             let _told = println!(rt; "ok, file {file}, {count} bytes stored and read back");
-            Ok(())
         }
-        Err(fault) => tell_fault(rt, fault),
+        None => tell_fault(
+            rt,
+            desk,
+            "what was read back differs: somebody else wrote meanwhile",
+        ),
     }
 }
 
 /// Gets a file, as a new one of the machine.
-fn serve_get(rt: &HostRuntime, desk: &mut UserDesk, name: Name, path: &str) -> Result<(), Halt> {
-    let bytes = match get_file(rt.alloc(), desk, name) {
-        Ok(bytes) => bytes,
-        Err(fault) => return tell_fault(rt, fault),
-    };
-    match write_synced(File::create_new(rt, path), &bytes) {
+fn serve_get(rt: &HostRuntime, desk: &mut UserDesk, name: Name, path: &str) {
+    match get_file(desk, name) {
+        Some(bytes) => write_new(rt, path, &bytes),
+        None => tell_fault(
+            rt,
+            desk,
+            "it was not put as a whole file, or not to its end",
+        ),
+    }
+}
+
+/// Writes these bytes as a new file of the machine.
+fn write_new(rt: &HostRuntime, path: &str, bytes: &[u8]) {
+    match write_synced(File::create_new(rt, path), bytes) {
         Ok(()) => {
             let count = bytes.len();
             let _told = println!(rt; "ok, {count} bytes");
         }
         Err(error) => tell_machine(rt, path, error.kind()),
     }
-    Ok(())
 }
 
 /// Tells why the machine did not do something with a file.

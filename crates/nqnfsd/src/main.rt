@@ -35,24 +35,23 @@ IMAGE        the file with all that is kept; nqnfs.img where it is not said.
 ";
 
 fn main(rt: HostRuntime) -> ExitCode {
-    match obey(&rt) {
-        Ok(ending) => ExitCode::from(ending.status()),
-        Err(_) => ExitCode::from(Ending::Memory.status()),
-    }
+    ExitCode::from(obey(&rt).status())
 }
 
 /// Does what the words say; how that ends.
-fn obey(rt: &HostRuntime) -> Result<Ending, AllocError> {
-    let words = words_of(rt)?;
+fn obey(rt: &HostRuntime) -> Ending {
+    let Ok(words) = words_of(rt) else {
+        return Ending::Memory;
+    };
     match order_of(words.as_slice()) {
-        Order::Help => Ok(say(rt, HELP)),
+        Order::Help => say(rt, HELP),
         Order::Version => {
             let _told = println!(rt; "{VERSION}");
-            Ok(Ending::Done)
+            Ending::Done
         }
         Order::Usage => {
             let _told = eprintln!(rt; "usage: nqnfsd [IMAGE] [--longest N] [--every S]");
-            Ok(Ending::Usage)
+            Ending::Usage
         }
         Order::Serve(options) => serve(rt, words.as_slice(), options),
     }
@@ -67,7 +66,7 @@ fn say(rt: &HostRuntime, text: &str) -> Ending {
 }
 
 /// Serves over the image that the words name.
-fn serve(rt: &HostRuntime, words: &[String], options: Options) -> Result<Ending, AllocError> {
+fn serve(rt: &HostRuntime, words: &[String], options: Options) -> Ending {
     let image = match options.image {
         Some(place) => match words.get(place) {
             Some(word) => word.as_str(),

@@ -13,7 +13,6 @@ use nq_service::mount::{Greeter, Survey, serve_image};
 use nq_serving::daemon::{MOST_TURNS, Watcher};
 use nq_serving::traffic::{CountedLink, Report};
 use nq_store::OpenFault;
-use std::alloc::AllocError;
 use std::io;
 
 // The port of the server.
@@ -43,23 +42,24 @@ impl<L, R: Watcher<L>> Watcher<L> for Teller<'_, R> {
 }
 
 /// Serves over the image in this file until something stops it; how that ends.
-pub(crate) fn serve_over(
-    rt: &HostRuntime,
-    image: &str,
-    longest: u32,
-    every: Option<u64>,
-) -> Result<Ending, AllocError>
+pub(crate) fn serve_over(rt: &HostRuntime, image: &str, longest: u32, every: Option<u64>) -> Ending
     requires long { 5 ≤ longest }
     requires short { longest ≤ 600 }
 {
-    let mut link = UdpLink::new(rt.clone()?, Party::Server);
-    if !is_bound(rt, &mut link) {
-        return Ok(Ending::LinkFault);
-    }
-    let Ok(disk) = FileDisk::new(rt.alloc(), rt.clone()?, image) else {
-        return Err(AllocError);
+    let Ok(net) = rt.clone() else {
+        return Ending::Memory;
     };
-    serve_disk(rt, image, disk, link, longest, every)
+    let mut link = UdpLink::new(net, Party::Server);
+    if !is_bound(rt, &mut link) {
+        return Ending::LinkFault;
+    }
+    let Ok(files) = rt.clone() else {
+        return Ending::Memory;
+    };
+    match FileDisk::new(rt.alloc(), files, image) {
+        Ok(disk) => serve_disk(rt, image, disk, link, longest, every),
+        Err(_) => Ending::Memory,
+    }
 }
 
 /// Binds the server's socket, and says why not where it cannot. A datagram that comes at that very moment is lost.
@@ -82,19 +82,15 @@ fn complain(rt: &HostRuntime, image: &str, words: &str) {
 }
 
 /// Says why an image was not opened.
-fn tell_fault(
-    rt: &HostRuntime,
-    image: &str,
-    fault: &OpenFault<FileDisk>,
-) -> Result<Ending, AllocError> {
+fn tell_fault(rt: &HostRuntime, image: &str, fault: &OpenFault<FileDisk>) -> Ending {
     match fault {
         OpenFault::NotAnImage(_) => {
             complain(rt, image, "the file is no image");
-            Ok(Ending::Spent)
+            Ending::Spent
         }
         OpenFault::BadField(_, place) => {
             let _told = eprintln!(rt; "nqnfsd: {image}: the image is wrong at byte {place}");
-            Ok(Ending::Spent)
+            Ending::Spent
         }
         OpenFault::Failed(_) => {
             complain(
@@ -102,9 +98,9 @@ fn tell_fault(
                 image,
                 "the file cannot be opened, read or written, or another server has it",
             );
-            Ok(Ending::KeepFault)
+            Ending::KeepFault
         }
-        OpenFault::Memory(_) => Err(AllocError),
+        OpenFault::Memory(_) => Ending::Memory,
     }
 }
 
@@ -116,12 +112,15 @@ fn serve_disk(
     link: UdpLink<HostRuntime>,
     longest: u32,
     every: Option<u64>,
-) -> Result<Ending, AllocError>
+) -> Ending
     requires long { 5 ≤ longest }
     requires short { longest ≤ 600 }
 {
     let mut link = CountedLink::new(link);
-    let mut clock = StdClock::new(rt.clone()?);
+    let Ok(watch) = rt.clone() else {
+        return Ending::Memory;
+    };
+    let mut clock = StdClock::new(watch);
     let mut teller = Teller {
         rt,
         image,
@@ -160,21 +159,21 @@ fn tell_start(rt: &HostRuntime, image: &str, found: &Survey) {
 }
 
 /// Says why serving ended.
-fn tell_end(rt: &HostRuntime, image: &str, ended: Result<(), Halt>) -> Result<Ending, AllocError> {
+fn tell_end(rt: &HostRuntime, image: &str, ended: Result<(), Halt>) -> Ending {
     match ended {
-        Ok(()) => Ok(Ending::Done),
+        Ok(()) => Ending::Done,
         Err(Halt::Keep) => {
             complain(rt, image, "the file cannot be read or written");
-            Ok(Ending::KeepFault)
+            Ending::KeepFault
         }
         Err(Halt::Spent) => {
             complain(rt, image, "no number is left for a boot, at byte 8");
-            Ok(Ending::Spent)
+            Ending::Spent
         }
-        Err(Halt::Link | Halt::NoAnswer) => Ok(Ending::LinkFault),
+        Err(Halt::Link | Halt::NoAnswer) => Ending::LinkFault,
         Err(Halt::Memory) => {
             let _told = eprintln!(rt; "nqnfsd: memory was wanting");
-            Ok(Ending::Memory)
+            Ending::Memory
         }
     }
 }
