@@ -1,5 +1,5 @@
 -- The renewal that is sent is that of the model.
-use Rattle.std.proofs.Common.{◌≡◌, ℕ, Bool, true, false, ◌&&◌, Option, Some, None, nat_le, is_some, IfSome, if◌then◌else◌, refl, sym, ap, subst, ◌∙◌}
+use Rattle.std.proofs.Common.{◌≡◌, ℕ, Bool, true, false, Option, Some, None, nat_le, is_some, IfSome, if◌then◌else◌, refl, ap, subst, ◌∙◌}
 use Rattle.nq_base.specs.declared.Request.{Request}
 use Rattle.nq_client.specs.Asking.{renewal, renewal_of, renewal_on, renews_by}
 use Rattle.nq_model.specs.Client.{ClientStep, Lease, lease_on}

@@ -1,4 +1,4 @@
-use Rattle.std.proofs.Common.{◌≡◌, Option, sym, ap, ◌∙◌}
+use Rattle.std.proofs.Common.{Option, sym, ap, ◌∙◌}
 use Rattle.nq_base.specs.declared.Request.{Request}
 use Rattle.nq_client.proofs.Renewing.{renewed-as, spelled-as}
 use Rattle.nq_client.specs.Asking.{renews_by}
