@@ -5,8 +5,7 @@ ghost use Rattle.nq_command.specs.Commands.{command_of};
 ghost use Rattle.nq_command.specs.declared.commands.Command.{Command};
 ghost use Rattle.nq_run.specs.Frames.{makes_a_run};
 
-use crate::parts::ROOM;
-use crate::top::ran;
+use crate::top::{ROOM, ran};
 use nq_base::{Host, Party};
 use nq_clock::StdClock;
 use nq_disk::{Disk, FileDisk, MemDisk};

@@ -2,7 +2,7 @@
 //! run. `nqnfs replay` reads a schedule and prints its journal. `nqnfs storm` makes a schedule up and runs it. `nqnfs serve` and
 //! `nqnfs client` are real hosts, over UDP, and `nqnfs loop` is a server and its hosts in turns. A server keeps its files in the
 //! file `nqnfs.img`, which `nqnfs format` makes an empty image. A run of `replay`, `storm` or `loop` has a disk in memory, so that it
-//! touches no file. `nqnfs scenes` does what other words say, one after another, and all of it in memory.
+//! touches no file. `nqnfs scenes` does what other words say, one after another, and all of it in memory; it ends with 0 where all was read and printed.
 #![tactic(auto)]
 
 mod machine;
@@ -20,8 +20,7 @@ const NO_MEMORY: u8 = 7;
 
 fn main(rt: HostRuntime) -> ExitCode {
     if asks_for_scenes(&rt) {
-        scenes::play_all(&rt);
-        return ExitCode::from(0);
+        return ExitCode::from(scenes::play_all(&rt).status());
     }
     match run_words(&rt) {
         Ok(status) => ExitCode::from(status),
@@ -29,13 +28,14 @@ fn main(rt: HostRuntime) -> ExitCode {
     }
 }
 
-/// Whether the first word behind the program's name is `scenes`.
+/// Whether the one word behind the program's name is `scenes`.
 fn asks_for_scenes(rt: &HostRuntime) -> bool {
     let Ok(args) = env::args(rt) else {
         return false;
     };
-    match args.skip(1).next() {
-        Some(word) => word.as_str() == "scenes",
+    let mut words = args.skip(1);
+    match words.next() {
+        Some(word) => word.as_str() == "scenes" && words.next().is_none(),
         None => false,
     }
 }

@@ -4,19 +4,13 @@ ghost use Rattle.std.specs.Prelude.{◌≡◌, ◌+◌, ℕ, Some, IfOk, vec_len
 ghost use Rattle.nq_command.specs.Commands.{command_of};
 ghost use Rattle.nq_command.specs.declared.commands.Command.{Command};
 
+use crate::top::ROOM;
 use nq_base::{Host, Party, Ticks};
 use nq_clock::MemClock;
-use nq_disk::{MemDisk, Room};
+use nq_disk::MemDisk;
 use nq_link::MemLink;
 use nq_run::{Command, NoMemory, Words};
 use std::alloc::Global;
-
-/// The room of a disk in memory: the bytes of the largest image, and as many calls and written bytes as can be counted.
-pub(crate) const ROOM: Room = Room {
-    size: 68_202_496,
-    calls: u32::MAX,
-    written: u64::MAX,
-};
 
 /// The reply to request 1: the server attached the host.
 const ATTACHED: [u8; 32] = [

@@ -7,6 +7,7 @@
 
 use crate::parts::{clock_of, disk_of, failing, link_of, links_of, words_of};
 use crate::top::ran;
+use nq_base::ending::Ending;
 use nq_base::{Host, Party};
 use nq_disk::MemDisk;
 use nq_io::{MemSink, MemSource};
@@ -15,41 +16,48 @@ use std::alloc::Global;
 use std::str;
 
 /// The most bytes that a scene prints.
-const ROOM: usize = 4_194_304;
+const MOST_PRINTED: usize = 4_194_304;
 
 /// The status of a scene that was not played, for want of memory.
 const WANTING: u8 = 255;
 
-/// Plays the scenes of the standard input.
-pub(crate) fn play_all(rt: &HostRuntime) {
+/// Plays the scenes of the standard input to its end, or until a line cannot be read or printed.
+pub(crate) fn play_all(rt: &HostRuntime) -> Ending {
     let mut left = Vec::new(rt.alloc());
     for line in rt.lines(rt.alloc()) {
-        if let Ok(line) = line {
-            if line.starts_with('=') {
-                println!(rt; "{line}").ok();
-            } else {
-                left = tell(rt, &line, left);
+        let Ok(line) = line else {
+            return Ending::ReadFault;
+        };
+        if line.starts_with('=') {
+            if println!(rt; "{line}").is_err() {
+                return Ending::WriteFault;
+            }
+        } else {
+            match tell(rt, &line, left) {
+                Some(bytes) => left = bytes,
+                None => return Ending::WriteFault,
             }
         }
     }
+    Ending::Done
 }
 
 /// Plays a scene over a disk on which these bytes were left, if it goes on with them, and prints what comes of it. Gives the bytes that it
-/// leaves.
-fn tell(rt: &HostRuntime, line: &str, left: Vec<u8>) -> Vec<u8> {
+/// leaves, or None where something was not printed.
+fn tell(rt: &HostRuntime, line: &str, left: Vec<u8>) -> Option<Vec<u8>> {
     let alloc = rt.alloc();
     let (told, input) = line.split_once(": ").unwrap_or((line, ""));
-    println!(rt; "- {told}").ok();
+    println!(rt; "- {told}").ok()?;
     let (scene, said) = told.split_once(' ').unwrap_or((told, ""));
     let words = words_of(alloc, said);
     let mut source = MemSource::new(text_of(alloc, input), failing(alloc, scene, "unread"));
-    let Ok(mut out) = MemSink::new(alloc, ROOM, failing(alloc, scene, "unput")) else {
-        return left;
+    let Ok(mut out) = MemSink::new(alloc, MOST_PRINTED, failing(alloc, scene, "unput")) else {
+        return Some(left);
     };
     let (status, left) = play(alloc, scene, &words, &mut source, &mut out, left);
-    print!(rt; "{}", str::from_utf8(out.bytes()).unwrap_or("no text")).ok();
-    println!(rt; "status {status}").ok();
-    left
+    print!(rt; "{}", str::from_utf8(out.bytes()).unwrap_or("no text")).ok()?;
+    println!(rt; "status {status}").ok()?;
+    Some(left)
 }
 
 /// The text whose lines are parted by `|`, where `N*L` stands for N lines L.

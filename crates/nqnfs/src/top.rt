@@ -6,11 +6,18 @@ ghost use Rattle.nq_command.specs.declared.commands.Command.{Command};
 ghost use Rattle.nq_run.specs.Frames.{makes_a_run};
 
 use nq_clock::Clock;
-use nq_disk::Disk;
+use nq_disk::{Disk, Room};
 use nq_io::{Sink, Source};
 use nq_link::Link;
 use nq_run::{CutFate, Ended, Fate, HostileFate, LossyFate, NoMemory, SteadyFate, Words, run};
 use std::alloc::Global;
+
+/// The room of a disk in memory: the bytes of the largest image, and as many calls and written bytes as can be counted.
+pub(crate) const ROOM: Room = Room {
+    size: 68_202_496,
+    calls: u32::MAX,
+    written: u64::MAX,
+};
 
 /// Runs what the words say, with the four fates. What `run` promises is said there; no line here needs it.
 pub(crate) fn ran<S: Source, K: Sink, D: Disk + Drop, L: Link, C: Clock>(

@@ -41,6 +41,7 @@ fn begin(
 /// A client at work, with its link and its clock. A turn that the link stopped is borne: what was not sent is sent again later.
 /// It remembers why no more can be asked, and what refused a step. It has to be closed in the end.
 pub(crate) struct UserDesk {
+    /// Where the memory of its calls comes from.
     pub(crate) alloc: Global,
     client: Client,
     next: u64,
@@ -54,8 +55,8 @@ pub(crate) struct UserDesk {
 }
 
 impl UserDesk {
-    /// A client that begins an incarnation, which no start before this one had, if there is memory for it. It is attached, or cannot
-    /// ask.
+    /// A client that begins an incarnation, which no start before this one had, if there is memory for it. It is attached, or `halt` tells why
+    /// it is not.
     pub(crate) fn open(
         alloc: Global,
         who: Who,
@@ -111,6 +112,13 @@ impl UserDesk {
     /// Whether no more steps are taken.
     pub(crate) fn is_stopped(&self) -> bool {
         self.halt.is_some() || self.refusal.is_some()
+    }
+
+    /// Notes that memory was wanting, where nothing stopped the steps before.
+    pub(crate) fn lack_memory(&mut self) {
+        if !self.is_stopped() {
+            self.halt = Some(Halt::Memory);
+        }
     }
 
     /// Notes why no more can be asked. No answer.

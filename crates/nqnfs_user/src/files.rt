@@ -3,7 +3,6 @@
 ghost use Rattle.std.specs.Prelude.{◌≤◌, length};
 
 use crate::desk::UserDesk;
-use nq_base::ending::Halt;
 use nq_base::{Answer, Block, BlockNo, Call, FileId, Name, NoMemory, Value};
 use nq_command::prompt::{blocks_for, cut_to, first_block, length_in, piece, push_body};
 
@@ -32,6 +31,9 @@ fn put_pieces(desk: &mut UserDesk, file: FileId, bytes: &[u8])
     requires { length bytes.now ≤ 4190208 }
 {
     for place in 0..bytes.len().div_ceil(Block::SIZE) {
+        if desk.is_stopped() {
+            return;
+        }
         let body = piece(desk.alloc, bytes, place);
         put(desk, file, 1 + place as u32, body);
     }
@@ -44,7 +46,7 @@ fn put(desk: &mut UserDesk, file: FileId, block: u32, body: Result<Block, NoMemo
             let block = BlockNo(block);
             let _stored = desk.step(Call::WriteSync { file, block, body });
         }
-        Err(_) => desk.halt = Some(Halt::Memory),
+        Err(_) => desk.lack_memory(),
     }
 }
 
@@ -54,11 +56,14 @@ fn fetch_all(desk: &mut UserDesk, file: FileId, blocks: u32, length: usize) -> O
     for block in 1..blocks {
         let body = fetch(desk, file, block);
         if push_body(&mut bytes, &body).is_err() {
-            desk.halt = Some(Halt::Memory);
+            desk.lack_memory();
+        }
+        if desk.is_stopped() {
+            return None;
         }
     }
     cut_to(&mut bytes, length);
-    if desk.is_stopped() { None } else { Some(bytes) }
+    Some(bytes)
 }
 
 /// The bytes of the file of this name, if it was put as a whole file and all steps were taken. Each block is read from the server.

@@ -3,7 +3,6 @@
 use crate::desk::UserDesk;
 use crate::files::{get_file, put_file};
 use crate::starts::write_synced;
-use nq_base::ending::Halt;
 use nq_base::{Answer, Call, FileId, Name};
 use nq_command::prompt::{Line, MOST_BYTES, answer_text, line_of};
 use std::fs::{self, File};
@@ -25,7 +24,7 @@ help, quit
 /// next is read.
 pub(crate) fn serve_lines(rt: &HostRuntime, desk: &mut UserDesk) {
     let Ok(reader) = BufReader::new(rt.alloc(), rt.reader()) else {
-        desk.halt = Some(Halt::Memory);
+        desk.lack_memory();
         return;
     };
     ask(rt);

@@ -116,6 +116,20 @@ fn tell_done(page: &mut Vec<u8>, what: &str, is_done: bool) {
     say(page, if is_done { "Some(())" } else { "None" });
 }
 
+/// Tells bytes as a text.
+fn tell_text(page: &mut Vec<u8>, bytes: &[u8]) {
+    say(page, "\n\"");
+    for byte in bytes {
+        match *byte {
+            0 => say(page, "\\0"),
+            other => {
+                page.push(other).ok();
+            }
+        }
+    }
+    say(page, "\"");
+}
+
 /// A file is a disk for one at a time.
 fn disks(rt: &HostRuntime, page: &mut Vec<u8>) -> Option<()> {
     let mut disk = disk_of(rt, PATH)?;
@@ -126,11 +140,12 @@ fn disks(rt: &HostRuntime, page: &mut Vec<u8>) -> Option<()> {
     tell_done(page, "\nsize of another ", other.size().is_ok());
     drop(disk);
     let mut into = *b"------";
-    if let Ok(4) = other.read(2, &mut into)
-        && into == *b"\0abc--"
-    {
-        say(page, "\nread Some(4)\n\"\\0abc--\"");
+    if let Ok(count) = other.read(2, &mut into) {
+        say(page, "\nread Some(");
+        digits(page, count as u64, 10);
+        say(page, ")");
     }
+    tell_text(page, &into);
     fs::remove_file(rt, PATH).ok();
     tell_done(page, "\nsync ", nowhere.sync().is_ok());
     Some(())

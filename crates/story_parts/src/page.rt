@@ -22,7 +22,7 @@ pub(crate) fn hex(page: &mut Vec<u8>, number: u32) {
     digits(page, u64::from(number), 16);
 }
 
-/// Adds the digits of a number to this base.
+/// Adds the digits of a number to this base, which is 10 or 16.
 pub(crate) fn digits(page: &mut Vec<u8>, number: u64, base: u64) {
     let base = base.max(2);
     let mut unit: u64 = 1;
@@ -90,7 +90,9 @@ pub(crate) fn bytes_of(alloc: Global, words: &str) -> Vec<u8> {
     for _ in 0..words.len() {
         if !rest.is_empty() {
             let (word, behind) = cut(rest, ' ');
-            push_word(&mut bytes, word);
+            if !word.is_empty() {
+                push_word(&mut bytes, word);
+            }
             rest = behind;
         }
     }

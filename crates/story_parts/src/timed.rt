@@ -19,7 +19,7 @@ pub(crate) fn often(rt: &HostRuntime, what: &str, way: &str, times: u32) -> Opti
     let alloc = rt.alloc();
     match cut(what, '-') {
         ("client", act) => clients::often(alloc, act, way, times),
-        ("find", _) => finds::often(alloc, way, times),
+        ("find", "") => finds::often(alloc, way, times),
         ("server", ask) => servers::often(alloc, ask, way, times),
         ("store", deed) => stores::often(rt, deed, way, times),
         _ => datagrams::often(alloc, what, way, times),

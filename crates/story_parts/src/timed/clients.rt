@@ -42,8 +42,8 @@ struct Desk {
     room: Spare,
 }
 
-/// Does one thing so many times, with a client that has all that it needs for it; None where there is no such word, memory
-/// is wanting, or a call is not answered at once.
+/// Does one thing so many times, with a client that has all that it needs for it; None where there is no such word, the numbers
+/// are not read, memory is wanting, or a call is not answered at once.
 pub(crate) fn often(alloc: Global, act: &str, way: &str, times: u32) -> Option<u64> {
     let act = match act {
         "read" => Act::Read,
@@ -52,7 +52,7 @@ pub(crate) fn often(alloc: Global, act: &str, way: &str, times: u32) -> Option<u
         _ => return None,
     };
     let extent = extent_of(way);
-    if extent.blocks == 0 {
+    if extent.files == 0 || extent.blocks == 0 {
         return None;
     }
     let mut client = Client::attached(alloc, Host(0), Inc(1), TERM, Ticks(0)).ok()?;
@@ -67,7 +67,7 @@ fn extent_of(way: &str) -> Extent {
     let (blocks, rest) = cut(rest, '-');
     let blocks = number_of(blocks);
     Extent {
-        files: number_of(files).max(1),
+        files: number_of(files),
         there: blocks.max(number_of(cut(rest, '-').1)),
         blocks,
     }
@@ -155,7 +155,9 @@ fn told(answer: &Answer) -> Option<u64> {
     }
 }
 
-/// What the server answers to the request of this place: the block where one is read, and a lease.
+/// What the server answers to the request of this place. A READ has the number of the request, its incarnation, the revision, the length of the block
+/// and the block. Behind it, and behind GETLEASE, stands a grant: its mode, its term, its tag, the first tag of its chain, the file's revision
+/// and its length.
 fn reply_of(alloc: Global, act: Act, place: u32) -> Vec<u8> {
     let mut bytes = Vec::new(alloc);
     push_numbers(&mut bytes, &[place.wrapping_add(1), 1, 0, 0, 0, 0, 1, 0]);

@@ -76,7 +76,8 @@ fn digit(number: u32) -> u8 {
     b'0' + (number % 10) as u8
 }
 
-/// The reply with the page of this number, and a lease that goes on in the chain of the first.
+/// The reply with the page of this number: a count, so many files and names, and whether more follow. Behind them stands a lease that goes on in
+/// the chain of the first: its mode, its term, its tag, the first tag of its chain, its revision and its length.
 fn page_of(alloc: Global, page: u32, count: u32) -> Vec<u8> {
     let first = page.saturating_mul(MOST_NAMES);
     let end = first.saturating_add(MOST_NAMES).min(count);

@@ -4,7 +4,7 @@
 use crate::page::{cut, number_of, push_numbers, write_over};
 use nq_base::{Host, Journal, Ticks};
 use nq_keeper::ListKeeper;
-use nq_server::Server;
+use nq_server::{Received, Server};
 use nq_wire::Outbox;
 use std::alloc::Global;
 
@@ -39,7 +39,9 @@ const SEQUENCE: usize = 52;
 /// The bytes of a push at which the lower half of the revision stands that it rests on.
 const BASE: usize = 92;
 
-/// What host 0 asks again and again.
+/// What host 0 asks again and again: its host and incarnation come first, and then the length of a name and the name; or for READ the number of the call, of
+/// two words, the file, the block and the lease that is wanted; or for WRITE the sequence, of two words, the file, the block, the first and the last
+/// number of the write, of two words each, what the push rests on, and the length of the block.
 fn asked(alloc: Global, ask: &str) -> Option<Vec<u8>> {
     let call = match ask {
         "lookup" => call_of(alloc, LOOKUP, &[0, 1, 2, NAME]),
@@ -124,7 +126,8 @@ impl Desk {
         })
     }
 
-    /// Makes the files and the rows: host 0 has a lease of a mode on the first file, and 64 hosts have reading leases on each of the last ones.
+    /// Makes the files and the rows: host 0 has a lease of a mode on the first file, and the rows behind it are reading leases, of 64 hosts on each
+    /// of the last files.
     fn fill(&mut self, files: u32, rows: u32, mode: u32) {
         for host in 0..64 {
             self.ask(host, ATTACH, &[host, 1]);
@@ -152,7 +155,7 @@ impl Desk {
     /// How many bytes the server answers that say OK.
     fn take_in(&mut self, host: u32, datagram: &[u8]) -> u64 {
         self.out.cut(0);
-        self.server.receive(
+        let received = self.server.receive(
             self.alloc,
             Host(host),
             datagram,
@@ -163,7 +166,7 @@ impl Desk {
             Some((_, bytes)) if bytes.get(28..32) == Some([0; 4].as_slice()) => bytes.len() as u64,
             _ => 0,
         };
-        if answered == 0 {
+        if received != Received::Done || answered == 0 {
             self.is_well = false;
         }
         answered
