@@ -17,8 +17,8 @@ use Rattle.nq_model.specs.World.{Head, World, run, start, step}
 use Rattle.nq_model.specs.Bounds.{KeepsBounds}
 use Rattle.walk_steps.proofs.WorldNumbers.{numbers-stay-within}
 use Rattle.walk_steps.specs.Within.{AreGiven}
-use Rattle.nq_names.proofs.Codecs.{codec}
-use Rattle.nq_names.proofs.EachFind.{each-find-is-kept}
+use Rattle.law_names.proofs.Codecs.{codec}
+use Rattle.law_names.proofs.EachFind.{each-find-is-kept}
 use Rattle.walk_steps.proofs.OneRequests.{one-open-in-every-run}
 use Rattle.nq_directory.specs.NameCacheNames.{Names, new_names}
 use Rattle.nq_name_server.specs.Served.{Served, new_served}

@@ -3,12 +3,11 @@
 //!
 //! What it does is in the definitions of `nq_name_server::run`: see `specs/Playing.antt`, which says that a [`NameWorld`] plays a run with
 //! lists, and that a host which knows of a name knows what the server keeps under it. What
-//! holds of every run with leased directories stands in `finds`.
+//! holds of every run with leased directories stands in `law_names`.
 #![tactic(auto)]
 
 mod copying;
 mod delivering;
-pub mod finds;
 mod reading;
 mod running;
 mod serving;

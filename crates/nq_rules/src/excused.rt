@@ -17,7 +17,9 @@ const SKEW_AND_SLACK: u64 = 8;
 /// When a grant was made, and its term in ticks.
 #[derive(Clone, Copy)]
 pub struct Granted {
+    /// What the server's clock showed.
     pub time: Ticks,
+    /// How long the lease runs, in ticks.
     pub term: u32,
 }
 

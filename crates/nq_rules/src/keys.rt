@@ -10,7 +10,7 @@ use nq_base::{BlockNo, Entry, FileId, Who};
 /// A key: an incarnation, its host first, and two numbers.
 pub type Key = ((u32, u32), (u64, u64));
 
-/// What the links of a kind lead to, and by what key.
+/// What is found by a key of this kind.
 #[derive(Clone, Copy)]
 pub enum Kind {
     /// The grants to an incarnation on a file.

@@ -1,6 +1,7 @@
 //! The tests of the rules by which anybody's journal is judged, and how far the calls of an incarnation have come.
 //!
-//! Each function computes a definition. Journals are slices of entries, the oldest first.
+//! Each function computes a definition. Journals are slices of entries, the oldest first. `nq_check` links the entries of a journal by the
+//! keys of `keys`, and looks for those of `sought` along these links.
 #![tactic(auto)]
 
 pub mod accounted;

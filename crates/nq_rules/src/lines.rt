@@ -56,11 +56,17 @@ fn is_sizing(asked: Option<Sizing>, on: FileId, to: u32) -> bool
 /// The open call of an incarnation, and what it has made.
 #[derive(Clone, Copy)]
 pub struct Open {
+    /// Its number.
     pub q: u64,
+    /// The write that it asks for, where it asks for one.
     pub writing: Option<Writing>,
+    /// The length that it asks for, where it asks for one.
     pub sizing: Option<Sizing>,
+    /// Whether its write stands in the journal.
     pub wrote: bool,
+    /// Whether its change of a length stands there.
     pub resized: bool,
+    /// Whether a read of it stands there.
     pub read: bool,
 }
 

@@ -11,7 +11,7 @@ use crate::entries::{
 use crate::keys::{Key, Kind, block_key, call_key, own_key_of};
 use nq_base::{BlockNo, Entry, FileId, Who};
 
-/// What is looked for along links.
+/// An entry that is looked for.
 #[derive(Clone, Copy)]
 pub enum Sought<'a> {
     /// A C of a call.

@@ -1,4 +1,4 @@
-//! What a change of an image and the migration of one of version 1 keep, and what is read of an image: they join what `nq_image::plan` writes
+//! What a change of an image and the migration of one of version 1 keep, and what is read of an image: they join what `nq_plan` writes
 //! and reads with what `nq_image` says of each part. Each law stands on a function that returns nothing, whose clause is the law and whose
 //! proof stands in `proofs/`.
 
