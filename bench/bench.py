@@ -1,16 +1,19 @@
 #!/usr/bin/env python3
 """Times `nqnfs replay` on inputs that it makes, and prints events per second and peak memory; or times `story_parts`, and
-prints datagrams and megabytes, or requests of a server and calls of a client, per second; or times `nqnfs check` on journals, or
-`nqnfs storm`.
+prints datagrams and megabytes, or requests of a server, per second; or times cached reads, delayed writes and finds by `nqnfs replay` and
+`nqnfs names`, or `nqnfs check` on journals, or `nqnfs storm`.
 
     bench/bench.py [--program FILE] [--words WORD ...]
     bench/bench.py [--program FILE] --codecs
     bench/bench.py [--program FILE] --parts
+    bench/bench.py [--program FILE] --calls
     bench/bench.py [--program FILE] --journals LINES
     bench/bench.py [--program FILE] --storms
 
-The program is the built `nqnfs` or, with --codecs or --parts, the built `story_parts` (`rt run` in the crate's folder builds it). Each input is run three times; the fastest run counts. The words are `replay` where none are given. With --journals it times
-`nqnfs check` on sound journals of five kinds, of a tenth of so many lines and of so many.
+The program is the built `nqnfs` or, with --codecs or --parts, the built `story_parts` (the gate leaves both in their crates' `out/`). Each
+input is run three times; the fastest run counts. The words are `replay` where none are given. With --calls each schedule is run five times, with and without
+the calls that are timed, and the least processor times count. With --journals it times `nqnfs check` on sound journals of five kinds, of a tenth of so many
+lines and of so many.
 """
 import argparse
 import collections
@@ -120,18 +123,13 @@ def codecs(program):
     return 0
 
 
-# What a client does that holds 1 or 256 files, with 1, 32 or 512 blocks in turn.
-CLIENT_CALLS = 50_000
-CLIENTS = [
-    ("a cached read by a call", "client-read"),
-    ("a cached read without one", "client-read-cached"),
-    ("a delayed write by a call", "client-write"),
-]
-EXTENTS = ("1-1", "1-32", "1-512", "1-1-of-512", "256-1", "256-32", "256-512")
+# What a host does that holds so many files, with so many of their blocks in turn.
+CALLS = 50_000
+EXTENTS = ((1, 1), (1, 32), (1, 512), (256, 256), (256, 512))
 
-# Names that a host finds in a list of 1 or 256.
-FINDS = 2_000_000
-NAMES = ("1", "256")
+# Names that a host finds, one after the other, in a list of so many.
+FINDS = 50_000
+NAMES = (1, 256)
 
 # What a server is asked that keeps 1 or 256 files, with 1 or 2,048 rows.
 SERVER_REQUESTS = 50_000
@@ -146,18 +144,54 @@ KEPT = ("1-1", "256-1", "256-2048")
 
 
 def parts(program):
-    """Prints how fast a client makes calls and a server answers requests."""
-    for name, what in CLIENTS:
-        for way in EXTENTS:
-            each = (often(program, [what, way], CLIENT_CALLS)[0] - often(program, [what, way], 0)[0]) / CLIENT_CALLS
-            print(f"{name + ', ' + way:36} {each * 1e9:8,.1f} ns {1 / each:14,.0f} per second")
-    for way in NAMES:
-        each = (often(program, ["find", way], FINDS)[0] - often(program, ["find", way], 0)[0]) / FINDS
-        print(f"{'a find, ' + way:36} {each * 1e9:8,.1f} ns {1 / each:14,.0f} per second")
+    """Prints how fast a server answers requests."""
     for name, what in SERVERS:
         for way in KEPT:
             each = (often(program, [what, way], SERVER_REQUESTS)[0] - often(program, [what, way], 0)[0]) / SERVER_REQUESTS
             print(f"{name + ', ' + way:36} {each * 1e9:8,.1f} ns {1 / each:14,.0f} per second")
+    return 0
+
+
+def held(verb, files, blocks, times):
+    """A schedule in which a host reads or writes so many blocks of so many files once, and then so many times from its cache."""
+    head = ["nqnfs-schedule 1", "hosts 1", "term 30", *(f"file f{number} {blocks // files}" for number in range(files)), "begin"]
+    calls = []
+    for place in range(blocks):
+        value = "" if verb == "read" else " 7"
+        calls.append(f"call 0 {verb} {place % files + 1} {place // files}{value}")
+    first = [line for call in calls for line in (call, "flow")]
+    return "\n".join([*head, *first, *itertools.islice(itertools.cycle(calls), times), "end", ""])
+
+
+def finds(names, times):
+    """A schedule in which a host lists a directory of so many names, and then finds one after the other so many times."""
+    head = ["nqnfs-schedule 2", "hosts 1", "term 60", "longest 600", *(f"file f{number:03} 1" for number in range(names)), "begin"]
+    asked = [f"find 0 f{number:03}" for number in range(names)]
+    return "\n".join([*head, "list 0 /", "flow", *itertools.islice(itertools.cycle(asked), times), "end", ""])
+
+
+def seconds(program, command, schedule):
+    """Seconds of processor time of the fastest of five runs of a schedule."""
+    with tempfile.NamedTemporaryFile("w", suffix=".schedule") as made:
+        made.write(schedule)
+        made.flush()
+        took = []
+        for _ in range(5):
+            began = processor()
+            assert run(program, [command], made.name)[2] == 0, "a schedule that the program does not run"
+            took.append(processor() - began)
+        return min(took)
+
+
+def calls(program):
+    """Prints what a cached read, a delayed write and a find take, with the reading of its line and the printing of what it tells."""
+    for name, verb in (("a cached read", "read"), ("a delayed write", "write")):
+        for files, blocks in EXTENTS:
+            each = (seconds(program, "replay", held(verb, files, blocks, CALLS)) - seconds(program, "replay", held(verb, files, blocks, 0))) / CALLS
+            print(f"{f'{name}, {files} files, {blocks} blocks':40} {each * 1e6:6.2f} us {1 / each:12,.0f} per second")
+    for names in NAMES:
+        each = (seconds(program, "names", finds(names, FINDS)) - seconds(program, "names", finds(names, 0))) / FINDS
+        print(f"{f'a find among {names}':40} {each * 1e6:6.2f} us {1 / each:12,.0f} per second")
     return 0
 
 
@@ -359,6 +393,7 @@ def main():
     parser.add_argument("--words", nargs="*", default=["replay"])
     parser.add_argument("--codecs", action="store_true")
     parser.add_argument("--parts", action="store_true")
+    parser.add_argument("--calls", action="store_true")
     parser.add_argument("--journals", type=int, metavar="LINES")
     parser.add_argument("--storms", action="store_true")
     asked = parser.parse_args()
@@ -373,6 +408,8 @@ def main():
         return codecs(asked.program)
     if asked.parts:
         return parts(asked.program)
+    if asked.calls:
+        return calls(asked.program)
     inputs = [
         ("10,000 events", of_events(10_000)),
         ("100,000 events", of_events(100_000)),

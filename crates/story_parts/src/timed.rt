@@ -1,13 +1,9 @@
 //! What is done many times, to be timed from outside. The words say what, which way and how often: `lookup`, `lookup-reply` or `read-reply` with
-//! `encode` or `decode`; `client-read`, `client-read-cached` or `client-write` with 1 or 256, the files held, and 1, 32 or
-//! 512, the blocks read or written, or with 1-1-of-512; `find` with 1 or 256, the names that a host keeps;
-//! `server-lookup`, `server-read`, `server-read-wanted`, `server-write` or `server-push` with 1-1, 256-1 or 256-2048, the
-//! files and the rows of the server; or `store-commit` or `store-read` with `list`, `memory` or the path of a file, where is kept
-//! what a server keeps, and `store-bare`, `store-open` or `store-open-full` with `memory` or the path of a file.
+//! `encode` or `decode`; `server-lookup`, `server-read`, `server-read-wanted`, `server-write` or `server-push` with 1-1, 256-1 or
+//! 256-2048, the files and the rows of the server; or `store-commit` or `store-read` with `list`, `memory` or the path of a file, where
+//! is kept what a server keeps, and `store-bare`, `store-open` or `store-open-full` with `memory` or the path of a file.
 
-mod clients;
 mod datagrams;
-mod finds;
 mod servers;
 mod stores;
 
@@ -18,8 +14,6 @@ use crate::page::cut;
 pub(crate) fn often(rt: &HostRuntime, what: &str, way: &str, times: u32) -> Option<u64> {
     let alloc = rt.alloc();
     match cut(what, '-') {
-        ("client", act) => clients::often(alloc, act, way, times),
-        ("find", "") => finds::often(alloc, way, times),
         ("server", ask) => servers::often(alloc, ask, way, times),
         ("store", deed) => stores::often(rt, deed, way, times),
         _ => datagrams::often(alloc, what, way, times),
