@@ -1,4 +1,4 @@
-use Rattle.std.specs.Prelude.{◌≡◌, ◌≢◌, ◌≤◌, ◌-◌, ◌==◌, ◌++◌, ℕ, nat_le, Bool, ◌&&◌, not, List, length, take, drop, replicate, All}
+use Rattle.std.specs.Prelude.{◌≡◌, ◌≢◌, ◌≤◌, ◌-◌, ◌==◌, ◌∷◌, ◌++◌, ℕ, nat_le, Bool, ◌&&◌, not, List, [], length, take, drop, replicate, All}
 use Rattle.std.specs.List.{list_all}
 use Rattle.std.proofs.Common.{arith, length-take}
 use Rattle.std.proofs.lemmas.List.{take-append-drop}
@@ -11,7 +11,17 @@ IsNameByte b = (33 ≤ b) × (b ≤ 126) × (b ≢ 47)
 abbrev pub IsName : List ℕ → Type 0
 IsName bytes = (1 ≤ length bytes) × (length bytes ≤ 64) × All IsNameByte bytes
 
--- the tests of these
+-- none of these files, each with its name first, has the name
+abbrev pub IsNew : List ℕ → List (List ℕ × ℕ) → Type 0
+IsNew name [] = Unit {0}
+IsNew name (f ∷ files) = (f.0 ≢ name) × IsNew name files
+
+-- no two of the files have one name
+abbrev pub AreDistinct : List (List ℕ × ℕ) → Type 0
+AreDistinct [] = Unit {0}
+AreDistinct (f ∷ files) = IsNew f.0 files × AreDistinct files
+
+-- the tests of a name
 abbrev pub is_name_byte : ℕ → Bool
 is_name_byte b = nat_le 33 b && nat_le b 126 && not (b == 47)
 

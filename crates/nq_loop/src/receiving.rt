@@ -14,13 +14,10 @@ use crate::state::LoopState;
 use crate::turns::Halt;
 use nq_base::{Event, Party};
 use nq_keeper::Keeper;
-use nq_link::{Came, Link};
+use nq_link::{Came, Link, MOST_BYTES};
 use nq_script::Schedule;
 use nq_world::World;
 use std::alloc::Global;
-
-/// The most bytes of a datagram that a turn looks at: one more than the longest of the protocol has.
-const MOST_BYTES: usize = 4401;
 
 /// Receives once on a party's link, and takes in the datagram that came; answers whether one came.
 #[tactic(auto, unfolding(nq_link::specs::Links::most_bytes))]

@@ -12,7 +12,7 @@ use Rattle.nq_base.specs.declared.Event.{Event}
 use Rattle.nq_base.specs.declared.Told.{Told}
 use Rattle.nq_script.specs.Forms.{HasTold}
 use Rattle.nq_journal.specs.Text.{Has}
-use Rattle.nq_model.proofs.Lists.{each-append}
+use Rattle.law_runs.proofs.Tallies.{each-reverse}
 use Rattle.nq_base.specs.Calls.{told}
 use Rattle.nq_model.specs.Journal.{Each}
 use Rattle.nq_model.specs.Kept.{Kept}
@@ -31,10 +31,6 @@ use Rattle.nq_script.specs.declared.heads.Head.{Head}
 use Rattle.nq_script.specs.declared.lines.Line.{Line}
 use Rattle.nq_script.specs.declared.scripts.Script.{Script}
 use Rattle.nq_world.specs.Playing.{Plays, WorldOver}
-
-each-reverse : {X : Type 0} (F : X → Type 0) (xs : List X) → Each F xs → Each F (reverse xs)
-each-reverse F [] each = tt
-each-reverse F (x ∷ xs) each = subst (Each F) (sym (reverse_onto xs x [])) (each-append F (reverse xs) (x ∷ []) (each-reverse F xs each.1) (each.0, tt))
 
 -- ---- the events of a schedule of version 1
 

@@ -7,8 +7,8 @@ use Rattle.std.proofs.lemmas.Bool.{cases_lt, cases_eq, cases_Bool, both_ways, ne
 use Rattle.std.proofs.lemmas.List.{drop_at}
 use Rattle.std.proofs.lemmas.List.Elements.{recursion_from_All, All-from_recursion}
 use Rattle.std.proofs.lemmas.Slice.Eq.{bytes_eq-Decides}
-use Rattle.nq_base.specs.Name.{IsName, IsNameByte}
-use Rattle.nq_script.specs.Heads.{IsNew, FitFiles, FitsHead, AreSettings, IsLongest, blocks_of, file_line, file_lines, first_file, version_line, hosts_line, term_line, longest_line, most_term, settings_lines, head_lines}
+use Rattle.nq_base.specs.Name.{IsName, IsNameByte, IsNew}
+use Rattle.nq_script.specs.Heads.{FitFiles, FitsHead, AreSettings, IsLongest, blocks_of, file_line, file_lines, first_file, version_line, hosts_line, term_line, longest_line, most_term, settings_lines, head_lines}
 use Rattle.nq_script.specs.Lines.{line_of}
 use Rattle.nq_script.specs.Progress.{NoNumber, WrongFile, WrongLine, WrongEnd, ReadSoFar, EndsWith}
 use Rattle.nq_script.specs.Reading.{told_line, file_of, ranged_of}

@@ -3,7 +3,8 @@ use Rattle.std.proofs.Common.{ℕ, ◌+◌, ◌<◌, ◌≤◌, List, [], ◌∷
 use Rattle.std.specs.List.{AllByRecursion}
 use Rattle.std.proofs.lemmas.List.{length-append}
 use Rattle.std.proofs.lemmas.List.Sums.{sum_by-append}
-use Rattle.nq_script.specs.Heads.{IsFile, IsNew, AreDistinct, FitFiles, blocks_of}
+use Rattle.nq_base.specs.Name.{IsNew, AreDistinct}
+use Rattle.nq_script.specs.Heads.{IsFile, FitFiles, blocks_of}
 
 -- what holds of each of some and of others holds of each of them
 pub each-append : {A : Type 0} (P : A → Type 0) (xs ys : List A) → AllByRecursion P xs → AllByRecursion P ys → AllByRecursion P (xs ++ ys)

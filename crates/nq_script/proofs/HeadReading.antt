@@ -7,8 +7,8 @@ use Rattle.std.proofs.lemmas.List.Elements.{recursion_from_All}
 use Rattle.std.proofs.lemmas.Option.{none-some, same_Some, cond_some}
 use Rattle.nq_base.specs.Steps.{◌>>=◌}
 use Rattle.nq_base.proofs.Options.{bind_some}
-use Rattle.nq_base.specs.Name.{IsName, IsNameByte}
-use Rattle.nq_script.specs.Heads.{IsFile, IsNew, FitFiles, blocks_of, file_line}
+use Rattle.nq_base.specs.Name.{IsName, IsNameByte, IsNew}
+use Rattle.nq_script.specs.Heads.{IsFile, FitFiles, blocks_of, file_line}
 use Rattle.nq_script.specs.Reading.{after, ranged_of, file_of}
 use Rattle.nq_script.specs.WordsReading.{cut as cut_at, number_of}
 use Rattle.nq_script.specs.Text.{Lacks}

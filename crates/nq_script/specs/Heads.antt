@@ -2,23 +2,13 @@
 use Rattle.std.specs.Prelude.{◌≡◌, ◌≢◌, ℕ, ◌≤◌, ◌==◌, List, [], ◌∷◌, ◌++◌, length, map, codes, if◌then◌else◌}
 use Rattle.std.specs.Fmt.{decimal}
 use Rattle.std.specs.List.{AllByRecursion, sum_by}
-use Rattle.nq_base.specs.Name.{IsName}
+use Rattle.nq_base.specs.Name.{AreDistinct, IsName}
 use Rattle.nq_script.specs.Text.{IsVersion, spaced}
 use Rattle.nq_script.specs.declared.heads.Head.{Head}
 
 -- a file that a head may have: its name, and 1 to 1024 blocks
 abbrev pub IsFile : List ℕ × ℕ → Type 0
 IsFile f = IsName f.0 × (1 ≤ f.1) × (f.1 ≤ 1024)
-
--- none of the files has the name
-abbrev pub IsNew : List ℕ → List (List ℕ × ℕ) → Type 0
-IsNew name [] = Unit {0}
-IsNew name (f ∷ files) = (f.0 ≢ name) × IsNew name files
-
--- no two of the files have one name
-abbrev pub AreDistinct : List (List ℕ × ℕ) → Type 0
-AreDistinct [] = Unit {0}
-AreDistinct (f ∷ files) = IsNew f.0 files × AreDistinct files
 
 -- how many blocks the files have together
 abbrev pub blocks_of : List (List ℕ × ℕ) → ℕ

@@ -3,7 +3,8 @@
 ghost use Rattle.std.specs.Prelude.{◌≡◌, ◌≤◌, ◌<◌, ◌+◌, ◌↔◌, ◌≢◌, length, ◌++◌, ◌∷◌, [], ℕ, List, IfSome, IsNone, IsTrue, codes};
 ghost use Rattle.std.specs.Option.{option_map};
 ghost use Rattle.std.specs.Fmt.{decimal};
-ghost use Rattle.nq_script.specs.Heads.{IsFile, IsNew, FitFiles, FitsHead, AreSettings, blocks_of, file_line, file_lines, head_lines, IsLongest, first_file, longest_lines, most_term, settings_lines};
+ghost use Rattle.nq_base.specs.Name.{IsNew};
+ghost use Rattle.nq_script.specs.Heads.{IsFile, FitFiles, FitsHead, AreSettings, blocks_of, file_line, file_lines, head_lines, IsLongest, first_file, longest_lines, most_term, settings_lines};
 ghost use Rattle.nq_script.specs.Schedule.{StandsInFront, FirstBadHeadLine};
 ghost use Rattle.nq_script.specs.declared.heads.Head.{Head};
 ghost use Rattle.nq_script.specs.Faults.{Answers};

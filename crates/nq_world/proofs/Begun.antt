@@ -13,7 +13,7 @@ use Rattle.nq_model.specs.World.{Head, first_clients, first_kept}
 use Rattle.nq_io.specs.Faults.{Rose}
 use Rattle.nq_keeper.specs.StoredKeeper.{empty_kept}
 use Rattle.nq_server.specs.Holding.{Boots, Holding, IsServer}
-use Rattle.nq_script.specs.Heads.{FitFiles, AreDistinct as Differ, IsNew as IsOther}
+use Rattle.nq_script.specs.Heads.{FitFiles}
 use Rattle.nq_world.proofs.Going.{runs-begin, servers-begin}
 use Rattle.nq_world.specs.Beginning.{CountsBegin}
 use Rattle.nq_world.specs.First.{AreFirstFiles, told_as}
@@ -21,7 +21,7 @@ use Rattle.nq_world.specs.Moving.{clients_in}
 use Rattle.nq_world.specs.Playing.{WorldOver, Begins, HasSettings, IsNew, Plays, keeper_in, seen_of}
 use Rattle.nq_world.specs.declared.starting.NewFault.{NewFault}
 use Rattle.nq_world.specs.declared.starting.NewFault.TheVariants as fault
-use Rattle.walk_steps.specs.Within.{AreDistinct, IsHeadWithin, IsNew as IsFresh}
+use Rattle.walk_steps.specs.Within.{IsHeadWithin}
 
 -- one more client behind the first ones
 pub first-clients-more : (term host count : ℕ) → first_clients term host (suc count) ≡ first_clients term host count ++ attached_client (record { host = host + count; inc = 1 }) term 0 ∷ []
@@ -120,13 +120,5 @@ begun-counts head first (Err (fault.Memory keeper)) told tells before count begi
 
 -- ---- the files of a head
 
-is-new : (name : List ℕ) (files : List (List ℕ × ℕ)) → IsOther name files → IsFresh name files
-is-new name [] new = tt
-is-new name (f ∷ files) new = (new.0, is-new name files new.1)
-
-are-distinct : (files : List (List ℕ × ℕ)) → Differ files → AreDistinct files
-are-distinct [] differ = tt
-are-distinct (f ∷ files) differ = (is-new f.0 files differ.0, are-distinct files differ.1)
-
 pub files-first : (files : List (List ℕ × ℕ)) → FitFiles files → AreFirstFiles files
-files-first files fit = record { each = fit.each; few_files = fit.few_files; few_blocks = fit.few_blocks; distinct = are-distinct files fit.distinct }
+files-first files fit = record { each = fit.each; few_files = fit.few_files; few_blocks = fit.few_blocks; distinct = fit.distinct }

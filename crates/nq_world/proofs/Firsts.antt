@@ -15,7 +15,8 @@ use Rattle.nq_model.proofs.FreshFits.{none-has}
 use Rattle.nq_keeper.specs.Keeping.{Commits, told_after}
 use Rattle.nq_keeper.specs.declared.keeper.KeepFault.{KeepFault}
 use Rattle.nq_keeper.specs.declared.keeper.KeepFault.TheVariants.{Failed, Memory}
-use Rattle.walk_steps.specs.Within.{IsFirstFile, IsNew, AreDistinct}
+use Rattle.nq_base.specs.Name.{AreDistinct, IsNew}
+use Rattle.walk_steps.specs.Within.{IsFirstFile}
 use Rattle.walk_steps.proofs.FirstNumbers.{first-unnamed, first-length, first-blocks}
 use Rattle.nq_world.specs.First.{kept_first, heads_change, file_change, host_change, AreFirstFiles, Tells, told_as, Counts}
 use Rattle.nq_world.proofs.Outboxes.{sum-take-below}

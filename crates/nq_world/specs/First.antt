@@ -10,7 +10,8 @@ use Rattle.nq_keeper.specs.declared.keeper.KeepFault.TheVariants.{Failed, Memory
 use Rattle.nq_model.specs.Kept.{Kept, fresh_row}
 use Rattle.nq_model.specs.Profile.{most_hosts, most_files, most_blocks}
 use Rattle.nq_model.specs.World.{first_files, first_row}
-use Rattle.walk_steps.specs.Within.{IsFirstFile, AreDistinct}
+use Rattle.nq_base.specs.Name.{AreDistinct}
+use Rattle.walk_steps.specs.Within.{IsFirstFile}
 
 -- these files, and the rows of so many hosts whose first incarnation is attached; no boot was
 abbrev pub kept_first : (longest : ℕ) → (files : List (List ℕ × ℕ)) → (hosts : ℕ) → Kept

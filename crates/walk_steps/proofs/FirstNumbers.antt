@@ -15,7 +15,8 @@ use Rattle.nq_model.specs.World.{Head, first_files, first_row, start}
 use Rattle.nq_model.proofs.Finding.{same-number}
 use Rattle.nq_model.proofs.FreshFits.{blocks-first}
 use Rattle.nq_model.proofs.WithinBounds.{zeros-body}
-use Rattle.walk_steps.specs.Within.{IsFirstFile, IsNew, AreDistinct, IsHeadWithin, IsServerAfter}
+use Rattle.nq_base.specs.Name.{AreDistinct, IsNew}
+use Rattle.walk_steps.specs.Within.{IsFirstFile, IsHeadWithin, IsServerAfter}
 
 -- ---- a new file
 

@@ -1,7 +1,7 @@
 -- The numbers of a run stay within their bounds.
 use Rattle.std.specs.List.{AllByRecursion, sum_by}
-use Rattle.std.specs.Prelude.{◌≡◌, ◌≢◌, ◌≤◌, ℕ, ◌+◌, false, List, [], ◌∷◌, Some, All, length, slice_get}
-use Rattle.nq_base.specs.Name.{IsName}
+use Rattle.std.specs.Prelude.{◌≡◌, ◌≤◌, ℕ, ◌+◌, false, List, [], ◌∷◌, Some, All, length, slice_get}
+use Rattle.nq_base.specs.Name.{AreDistinct, IsName}
 use Rattle.nq_base.specs.declared.Event.{Event}
 use Rattle.nq_base.specs.declared.Party.{Party}
 use Rattle.nq_base.specs.declared.Request.{Request}
@@ -47,16 +47,6 @@ pub record IsServerAfter (events : ℕ) (s : Server) : Type 0 where
 -- a file that there may be from the start: its name, and 1 to 1024 blocks
 abbrev pub IsFirstFile : List ℕ × ℕ → Type 0
 IsFirstFile f = IsName f.0 × (1 ≤ f.1) × (f.1 ≤ most_blocks_of_file)
-
--- none of the files has this name
-abbrev pub IsNew : List ℕ → List (List ℕ × ℕ) → Type 0
-IsNew name [] = Unit {0}
-IsNew name (f ∷ files) = (f.0 ≢ name) × IsNew name files
-
--- no two of the files have one name
-abbrev pub AreDistinct : List (List ℕ × ℕ) → Type 0
-AreDistinct [] = Unit {0}
-AreDistinct (f ∷ files) = IsNew f.0 files × AreDistinct files
 
 -- a head whose numbers are within their bounds
 pub record IsHeadWithin (head : Head) : Type 0 where

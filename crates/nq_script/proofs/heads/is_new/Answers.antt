@@ -1,6 +1,6 @@
 use Rattle.std.proofs.Common.{sym, arith, take, add-one, subst, length, ◌≤◌, refl}
 use Rattle.std.proofs.lemmas.Bool.{iff_false}
-use Rattle.nq_script.specs.Heads.{IsNew}
+use Rattle.nq_base.specs.Name.{IsNew}
 use Rattle.nq_script.proofs.HeadReading.{new-at, new-more}
 use Rattle.nq_script.proofs.heads.is_new.Goals as goal
 use Rattle.nq_script.proofs.heads.is_new.Goals.{in-Some+else-is, in_default}
