@@ -1,6 +1,6 @@
 //! The judge.
 
-ghost use Rattle.std.specs.Prelude.{◌≡◌, ◌+◌, ◌<◌, Some, length, reverse, take, drop};
+ghost use Rattle.std.specs.Prelude.{◌≡◌, ◌+◌, ◌<◌, List, Some, length, reverse, take, drop};
 ghost use Rattle.std.specs.List.{slice_get};
 ghost use Rattle.nq_check.specs.Fronts.{AreFronts, KeepsBelow, keeps_at};
 ghost use Rattle.nq_check.specs.Rules.{first_rule};
@@ -19,7 +19,20 @@ use nq_rules::ordered::is_in_order;
 use nq_rules::synchronized::is_kept_at;
 use std::alloc::Global;
 
-/// Whether the entry at a place keeps a rule, which the entries before the front are known to keep.
+/// The front of a rule. The first rule has none.
+fn front_of(fronts: &Fronts, rule: Rule) -> usize
+    ensures { (whole : List Entry) → AreFronts whole fronts.now → KeepsBelow rule whole result }
+{
+    match rule {
+        Rule::Legal => 0,
+        Rule::Ordered => fronts.ordered,
+        Rule::Accounted => fronts.fates.accounted,
+        Rule::Reported => fronts.reported,
+        Rule::Synchronized => fronts.synchronized,
+    }
+}
+
+/// Whether the entry at a place keeps a rule, which the entries before the front of the rule are known to keep.
 fn keeps(
     tables: &Tables,
     fronts: &Fronts,
@@ -27,15 +40,13 @@ fn keeps(
     place: usize,
     entry: &Entry,
     rule: Rule,
-    front: usize,
 ) -> bool
     requires there { (place < length whole.now) × (slice_get whole.now place ≡ Some entry.now) }
     requires tables { AreTables whole.now tables.now }
     requires fronts { AreFronts whole.now fronts.now }
-    requires front { KeepsBelow rule whole.now front }
     ensures { result ≡ keeps_at rule whole.now place entry.now }
 {
-    if place < front {
+    if place < front_of(fronts, rule) {
         return true;
     }
     let before = &whole[..place];
@@ -65,51 +76,19 @@ fn first_rule(
     requires fronts { AreFronts whole.now fronts.now }
     ensures { result ≡ first_rule (reverse whole.now) (drop (place + 1) whole.now) entry.now (reverse (take place whole.now)) }
 {
-    if !keeps(tables, fronts, whole, place, entry, Rule::Legal, 0) {
+    if !keeps(tables, fronts, whole, place, entry, Rule::Legal) {
         return Some(Rule::Legal);
     }
-    if !keeps(
-        tables,
-        fronts,
-        whole,
-        place,
-        entry,
-        Rule::Ordered,
-        fronts.ordered,
-    ) {
+    if !keeps(tables, fronts, whole, place, entry, Rule::Ordered) {
         return Some(Rule::Ordered);
     }
-    if !keeps(
-        tables,
-        fronts,
-        whole,
-        place,
-        entry,
-        Rule::Accounted,
-        fronts.fates.accounted,
-    ) {
+    if !keeps(tables, fronts, whole, place, entry, Rule::Accounted) {
         return Some(Rule::Accounted);
     }
-    if !keeps(
-        tables,
-        fronts,
-        whole,
-        place,
-        entry,
-        Rule::Reported,
-        fronts.reported,
-    ) {
+    if !keeps(tables, fronts, whole, place, entry, Rule::Reported) {
         return Some(Rule::Reported);
     }
-    if !keeps(
-        tables,
-        fronts,
-        whole,
-        place,
-        entry,
-        Rule::Synchronized,
-        fronts.synchronized,
-    ) {
+    if !keeps(tables, fronts, whole, place, entry, Rule::Synchronized) {
         return Some(Rule::Synchronized);
     }
     None

@@ -3,8 +3,10 @@ use Rattle.std.proofs.lemmas.List.{take_rest}
 use Rattle.nq_model.specs.OrderedTest.{is_in_order}
 use Rattle.nq_check.proofs.judge.keeps.Goals as goal
 
-pub returns-then-place-front : goal.returns-then-place-front
-returns-then-place-front c = sym (c.requires.front c.args.place c.args.entry.now c.if-place-front.true c.requires.there.1)
+pub returns-then-place-front_of : goal.returns-then-place-front_of
+returns-then-place-front_of c =
+    let kept = c.front_of.ensures c.args.whole.now c.requires.fronts in
+    sym (kept c.args.place c.args.entry.now c.if-place-front_of.true c.requires.there.1)
 
 pub returns-in-Legal : goal.returns-in-Legal
 returns-in-Legal c = rw c.in-Legal.is c.is_legal.ensures
