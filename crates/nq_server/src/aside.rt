@@ -1,6 +1,6 @@
 //! What a request that is decided once does beside the kept state.
 
-ghost use Rattle.std.specs.Prelude.{◌≡◌, ◌<◌, ◌≤◌, ◌^◌, Some};
+ghost use Rattle.std.specs.Prelude.{◌≡◌, ◌<◌, ◌≤◌, ◌^◌, Some, true};
 ghost use Rattle.nq_model.specs.Decided.{done_aside, file_to_change as changed_file, later_aside};
 ghost use Rattle.nq_model.specs.Kept.{Kept};
 ghost use Rattle.nq_model.specs.Table.{find_row, with_rows};
@@ -12,7 +12,8 @@ ghost use Rattle.nq_server.specs.Stepping.{Enters};
 use crate::gates::file_to_change;
 use crate::state::{Phase, State};
 use nq_base::{
-    Access, Decided, Entry, FileId, Host, Journal, Request, Row, RowKey, Ticks, Verdict, Who,
+    Access, BlockNo, Decided, Entry, FileId, Host, Journal, Number, Request, Row, RowKey, Ticks,
+    Verdict, Who,
 };
 use nq_keeper::requests::boot::Recovering;
 use nq_lease::Table;
@@ -50,6 +51,33 @@ fn enter(log: &mut Journal, entry: Option<Entry>)
     }
 }
 
+/// The entry of a write that went through at the server.
+fn through(who: &Who, file: FileId, block: BlockNo, number: Number, value: u32) -> Entry
+    ensures { result ≡ Entry.W who.now file block number value true }
+{
+    Entry::W {
+        who: *who,
+        file,
+        block,
+        number,
+        value,
+        through: true,
+    }
+}
+
+/// The entry of call `q`, which gave a file another length in blocks.
+fn resized(who: &Who, q: u64, file: FileId, from: u32, to: u32) -> Entry
+    ensures { result ≡ Entry.Z who.now q file from to }
+{
+    Entry::Z {
+        who: *who,
+        q,
+        file,
+        from,
+        to,
+    }
+}
+
 /// What a journal tells of a request that was done while serving; `length` is the length that its file had.
 fn told_serving(who: &Who, request: &Request, length: u32, now: Ticks) -> Option<Entry>
     ensures { entries_of result ≡ entries_serving who.now request.now length now }
@@ -62,14 +90,7 @@ fn told_serving(who: &Who, request: &Request, length: u32, now: Ticks) -> Option
             push: None,
             body,
             ..
-        } => Some(Entry::W {
-            who: *who,
-            file: *file,
-            block: *block,
-            number: *first,
-            value: body.value(),
-            through: true,
-        }),
+        } => Some(through(who, *file, *block, *first, body.value())),
         Request::Write {
             file,
             block,
@@ -90,20 +111,8 @@ fn told_serving(who: &Who, request: &Request, length: u32, now: Ticks) -> Option
             file,
             blocks,
             ..
-        } => Some(Entry::Z {
-            who: *who,
-            q: *call,
-            file: *file,
-            from: length,
-            to: *blocks,
-        }),
-        Request::Remove { call, file, .. } => Some(Entry::Z {
-            who: *who,
-            q: *call,
-            file: *file,
-            from: length,
-            to: 0,
-        }),
+        } => Some(resized(who, *call, *file, length, *blocks)),
+        Request::Remove { call, file, .. } => Some(resized(who, *call, *file, length, 0)),
         _ => None,
     }
 }
