@@ -10,7 +10,6 @@ use nq_base::ending::Ending;
 use nq_io::{Sink, put_line};
 
 /// Prints that nothing can be run; the status.
-#[tactic(auto, unfolding(nq_replay::specs::Lines::usage_line))]
 pub(crate) fn usage<K: Sink>(out: &mut K) -> u8
     ensures usage { result ≡ status_of Ending.Usage }
     ensures printed { PrintsLine usage_line (K.held out.old) (K.held out.new) (K.faults out.old) (K.faults out.new) }
